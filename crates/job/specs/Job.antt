@@ -1,0 +1,40 @@
+-- A job as document 01 has it: a number of nodes, a number of heads, requests, and the schedule of grants.
+--
+--   kindNumber k    the number that stands for the kind k in a file
+--   kindOf n        the kind that the number n stands for
+--   answerNumber a  the number that stands for the answer a in the report
+--   Job             nodes, heads, requests and schedule
+use mathlib.Core.Bool.{cond}
+use mathlib.Core.List.{List}
+use Prim.Native.Nat.{ℕ}
+use lib.Dec.{eqb}
+use Rattle.job.specs.declared.Kind.{Kind}
+use Rattle.job.specs.declared.Kind.the-variants.{Union, SameSet}
+use Rattle.job.specs.declared.Answer.{Answer}
+use Rattle.job.specs.declared.Answer.the-variants.{Unfinished, Joined, Together, Yes, No}
+use Rattle.job.specs.declared.Request.{Request}
+
+-- Document 01, "Job file": kind 1 is a union, 2 a same-set.
+abbrev pub kindNumber : Kind → ℕ
+kindNumber Union = 1
+kindNumber SameSet = 2
+
+-- The kind of an admitted number; only 1 and 2 are admitted.
+abbrev pub kindOf : ℕ → Kind
+kindOf n = cond (eqb n 1) Union SameSet
+
+-- Document 01, "Report and line-up": 0 unfinished, 1 joined, 2 already together, 3 yes, 4 no.
+abbrev pub answerNumber : Answer → ℕ
+answerNumber Unfinished = 0
+answerNumber Joined = 1
+answerNumber Together = 2
+answerNumber Yes = 3
+answerNumber No = 4
+
+-- What a job file means, and what the writer is given. A request's number is its position in the list, from 0.
+-- The schedule (document 01: the grants) is a list of head numbers, one a grant.
+pub record Job : Type 0 where
+  pub nodes : ℕ
+  pub heads : ℕ
+  pub requests : List Request
+  pub schedule : List ℕ

@@ -1,0 +1,58 @@
+// What a job asks for and what playing it leaves: kinds, answers, requests, counters and the summary of a play.
+ghost use mathlib.Core.Path.{_≡_};
+ghost use Rattle.job.specs.Job.{answerNumber};
+
+// What a request asks (document 01: kind).
+pub enum Kind {
+    Union,
+    SameSet,
+}
+
+// What a request was told (document 01: answer); `Unfinished` until its last grant.
+pub enum Answer {
+    Unfinished,
+    Joined,
+    Together,
+    Yes,
+    No,
+}
+
+// One request as the job has it: the head that serves it, its kind and its two nodes (document 01: places).
+pub struct Request {
+    pub head: u8,
+    pub kind: Kind,
+    pub x: u16,
+    pub y: u16,
+}
+
+// The counters of a play (document 01: tally): idle grants, failed swaps, links, and the heads with work left.
+pub struct Tally {
+    pub idle: u32,
+    pub failed: u32,
+    pub links: u32,
+    pub working: u32,
+}
+
+// What a play answers: 0 and its counts, or a refusal's number and zero for every count.
+pub struct Played {
+    pub number: u32,
+    pub nodes: u32,
+    pub heads: u32,
+    pub requests: u32,
+    pub grants: u32,
+    pub entries: u32,
+    pub tally: Tally,
+}
+
+// The number that the report has for an answer.
+pub fn answer_number(answer: Answer) -> u32
+    ensures { λ r. ⌜ r ≡ answerNumber answer ⌝ }
+{
+    match answer {
+        Answer::Unfinished => 0,
+        Answer::Joined => 1,
+        Answer::Together => 2,
+        Answer::Yes => 3,
+        Answer::No => 4,
+    }
+}

@@ -1,0 +1,13 @@
+-- `word::comes_before` compares ranks, then numbers.
+use borrow.Author.Tests.{eq-eqb, ne-eqb}
+use Rattle.word.proofs.comes_before.Statement.{statement}
+use Rattle.word.proofs.comes_before.Tie as tie
+
+returns : tie.Need-returns
+returns c = simp (eq-eqb _ _ (c .if1 .taken))
+
+returns-2 : tie.Need-returns-2
+returns-2 c = simp (ne-eqb _ _ (c .if1 .left))
+
+pub comes-before-spec : {M : Type 1} → statement M
+comes-before-spec = tie.close (tie.spec returns returns-2)

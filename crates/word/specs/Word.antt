@@ -1,0 +1,43 @@
+-- Document 01, "Places, words, order": what a word says of its node, and which node comes before which.
+--
+--   rankOf w, parentOf w   the rank and the parent in the word w
+--   decode w, encode n     from a word to its node and back
+--   same a b               the nodes a and b have the same rank and the same parent
+--   before ra a rb b       node a of rank ra comes before node b of rank rb
+--   key r i                rank r and number i of a node as one number, in that order
+--   rankLimit, nodeLimit   ranks and node numbers below these have a word
+use mathlib.Core.Bool.{Bool, cond, false}
+use Prim.Native.Nat.{ℕ, _+_, _*_, _/_, _%_}
+use lib.Dec.{eqb, ltb}
+use Rattle.word.specs.declared.Node.{Node}
+
+abbrev pub rankLimit : ℕ
+rankLimit = 256
+
+abbrev pub nodeLimit : ℕ
+nodeLimit = 65536
+
+-- A word is 32 bits: rank × 65,536 + parent.
+unfoldable pub rankOf : ℕ → ℕ
+rankOf w = w / 65536
+
+unfoldable pub parentOf : ℕ → ℕ
+parentOf w = w % 65536
+
+unfoldable pub encode : Node → ℕ
+encode n = n .rank * 65536 + n .parent
+
+abbrev pub decode : ℕ → Node
+decode w = record { rank = rankOf w; parent = parentOf w }
+
+-- A swap writes only if the word equals the expected one.
+abbrev pub same : Node → Node → Bool
+same a b = cond (eqb (a .rank) (b .rank)) (eqb (a .parent) (b .parent)) false
+
+-- Place a comes before b when a's rank is lower, or the ranks are equal and a is the lower number.
+abbrev pub before : ℕ → ℕ → ℕ → ℕ → Bool
+before ra a rb b = cond (eqb ra rb) (ltb a b) (ltb ra rb)
+
+-- The same order as one number: "a comes before b" is "the key of a is less than the key of b".
+abbrev pub key : ℕ → ℕ → ℕ
+key r i = r * nodeLimit + i
