@@ -1,0 +1,34 @@
+-- Document 01, "One grant, one word": the record of a head and the start of its loop.
+--
+--   nodeAt h s     the current node of side s
+--   staged h t     the head h at stage t
+--   movedTo h s v  the head h with v as the node of side s
+--   restart k      the loop's start for a request of kind k
+--   begin q n      the head as it begins request q, number n
+use Prim.Native.Nat.{ℕ}
+use Rattle.job.specs.declared.Kind.{Kind}
+use Rattle.job.specs.declared.Request.{Request}
+use Rattle.process.specs.declared.Side.{Side}
+use Rattle.process.specs.declared.Side.the-variants.{X, Y}
+use Rattle.process.specs.declared.Stage.{Stage}
+use Rattle.process.specs.declared.Stage.the-variants.{ReadNode}
+use Rattle.process.specs.declared.Head.{Head}
+
+abbrev pub nodeAt : Head → Side → ℕ
+nodeAt h X = h .x
+nodeAt h Y = h .y
+
+abbrev pub staged : Head → Stage → Head
+staged h t = record { stage = t; x = h .x; y = h .y; request = h .request }
+
+abbrev pub movedTo : Head → Side → ℕ → Head
+movedTo h X v = record { stage = h .stage; x = v; y = h .y; request = h .request }
+movedTo h Y v = record { stage = h .stage; x = h .x; y = v; request = h .request }
+
+-- Same-set and union both start, and try again, with the find from x.
+abbrev pub restart : Kind → Stage
+restart k = ReadNode k X
+
+-- A head's next request begins at its next grant: x and y are the request's two places.
+abbrev pub begin : Request → ℕ → Head
+begin q n = record { stage = restart (q .kind); x = q .x; y = q .y; request = n }
