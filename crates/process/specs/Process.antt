@@ -1,18 +1,35 @@
 -- Document 01, "One grant, one word": the record of a head and the start of its loop.
 --
+--   isResting h    the head h serves no request
 --   nodeAt h s     the current node of side s
 --   staged h t     the head h at stage t
 --   movedTo h s v  the head h with v as the node of side s
 --   restart k      the loop's start for a request of kind k
 --   begin q n      the head as it begins request q, number n
+use mathlib.Core.Bool.{Bool, true, false}
 use Prim.Native.Nat.{ℕ}
 use Rattle.job.specs.declared.Kind.{Kind}
 use Rattle.job.specs.declared.Request.{Request}
 use Rattle.process.specs.declared.Side.{Side}
 use Rattle.process.specs.declared.Side.the-variants.{X, Y}
 use Rattle.process.specs.declared.Stage.{Stage}
-use Rattle.process.specs.declared.Stage.the-variants.{ReadNode}
+use Rattle.process.specs.declared.Stage.the-variants.{Resting, ReadNode, ReadParent, Halve, ReadAgain, RereadX, ReadRankX, ReadRankY, Link, Raise}
 use Rattle.process.specs.declared.Head.{Head}
+
+abbrev pub restingAt : Stage → Bool
+restingAt Resting = true
+restingAt (ReadNode k s) = false
+restingAt (ReadParent k s r t) = false
+restingAt (Halve k s r t u) = false
+restingAt (ReadAgain k s t) = false
+restingAt (RereadX p) = false
+restingAt ReadRankX = false
+restingAt (ReadRankY r) = false
+restingAt (Link r e) = false
+restingAt (Raise r) = false
+
+abbrev pub isResting : Head → Bool
+isResting h = restingAt (h .stage)
 
 abbrev pub nodeAt : Head → Side → ℕ
 nodeAt h X = h .x

@@ -7,7 +7,7 @@ use job::Kind;
 use job::Request;
 use word::Node;
 ghost use mathlib.Core.Path.{_≡_};
-ghost use Rattle.process.specs.Process.{begin, nodeAt, restart};
+ghost use Rattle.process.specs.Process.{begin, isResting, nodeAt, restart};
 ghost use Rattle.process.specs.Access.{accessOf, Raisable};
 ghost use Rattle.process.specs.Advance.{advanceOf};
 
@@ -72,6 +72,25 @@ pub fn begun(request: Request, number: u16) -> Head
         x: request.x,
         y: request.y,
         request: number,
+    }
+}
+
+// Whether a head serves no request.
+pub fn is_resting(head: Head) -> bool
+    ensures { λ r. ⌜ r ≡ isResting head ⌝ }
+{
+    let stage = head.stage;
+    match stage {
+        Stage::Resting => true,
+        Stage::ReadNode(_, _) => false,
+        Stage::ReadParent(_, _, _, _) => false,
+        Stage::Halve(_, _, _, _, _) => false,
+        Stage::ReadAgain(_, _, _) => false,
+        Stage::RereadX(_) => false,
+        Stage::ReadRankX => false,
+        Stage::ReadRankY(_) => false,
+        Stage::Link(_, _) => false,
+        Stage::Raise(_) => false,
     }
 }
 
