@@ -3,6 +3,7 @@
 --   count-in, count-out   one number more: it passes, or it does not
 --   count-le              at most every number passes
 --   count-all             every number passes
+--   count-positive        some number passes
 --   count-mono            a weaker test counts no less
 --   count-same            tests that agree count the same
 --   count-less            one number ceases to pass
@@ -32,6 +33,15 @@ count-le t (suc n) = go (t n) refl (count-le t n)
 pub count-all : (t : ℕ → Bool) (n : ℕ) → ((i : ℕ) → i < n → t i ≡ true) → count t n ≡ n
 count-all t zero h = refl
 count-all t (suc n) h = count-in t n (h n (omega arith)) ∙ ap suc (count-all t n (λ i l. h i (omega arith)))
+
+pub count-positive : (t : ℕ → Bool) (n i : ℕ) → i < n → t i ≡ true → 1 ≤ count t n
+count-positive t zero i l e = absurd (omega arith)
+count-positive t (suc n) i l e = go (t n) refl (ℕ-discrete i n) (λ k. count-positive t n i k e)
+  where
+    go : (b : Bool) → t n ≡ b → Dec (i ≡ n) → (i < n → 1 ≤ count t n) → 1 ≤ count t (suc n)
+    go true f d m = omega (arith, count-in t n f)
+    go false f (yes d) m = absurd (true≢false (sym e ∙ ap t d ∙ f))
+    go false f (no d) m = omega (arith, count-out t n f, m (omega arith))
 
 pub count-mono : (t u : ℕ → Bool) (n : ℕ) → ((i : ℕ) → i < n → t i ≡ true → u i ≡ true) → count t n ≤ count u n
 count-mono t u zero h = omega arith
