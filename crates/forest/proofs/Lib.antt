@@ -5,3 +5,8 @@ pub mod Size
 pub mod Merge
 pub mod Sound
 pub mod Writes
+pub mod Halving
+pub mod Linking
+pub mod Raising
+pub mod Later
+pub mod Roots
