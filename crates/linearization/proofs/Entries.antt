@@ -105,6 +105,11 @@ pub rising-member : {low : ℕ} {e : Entry} {es : List Entry} → Rising low es 
 rising-member (rises first rest) (List·Memᴰ·head same) = omega (arith, ap (λ g. g .point) same)
 rising-member (rises first rest) (List·Memᴰ·tail member) = omega (arith, rising-member rest member)
 
+-- the entries in front of others that rise with them rise
+pub rising-front : {low : ℕ} (es fs : List Entry) → Rising low (es ++ fs) → Rising low es
+rising-front [] fs rising = none
+rising-front (e ∷ es) fs (rises first rest) = rises first (rising-front es fs rest)
+
 module _ (d : Entry) where
   pub rising-above : {low : ℕ} {es : List Entry} → Rising low es → (i : ℕ) → i < length es → low < getD es i d .point
   rising-above none i h = absurd (omega arith)

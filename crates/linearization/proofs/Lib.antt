@@ -2,4 +2,5 @@
 pub mod Partition
 pub mod Entries
 pub mod Numbers
--- pub mod Replay
+pub mod Buffer
+pub mod Replay

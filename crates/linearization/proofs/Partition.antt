@@ -89,6 +89,14 @@ pub next-union : (B : Labels) (o : Operation) → o .kind ≡ Union → next B o
 unfolding next
 next-union B o k = ap (λ kind. nextOf kind B (o .x) (o .y)) k
 
+-- nodes that share a set still do after any operation
+pub next-kept : (B : Labels) (o : Operation) (i j : ℕ) → B i ≡ B j → next B o i ≡ next B o j
+next-kept B o i j e = go (o .kind) refl
+  where
+    go : (k : Kind) → o .kind ≡ k → next B o i ≡ next B o j
+    go Union k = rw (next-union B o k) (join-kept B (o .x) (o .y) i j e)
+    go SameSet k = rw (next-same-set B o k) e
+
 -- an operation on two nodes that share a set changes nothing
 pub next-together : (B : Labels) (o : Operation) → B (o .x) ≡ B (o .y) → Unchanged B o
 next-together B o e = go (o .kind) refl
