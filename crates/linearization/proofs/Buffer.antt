@@ -50,12 +50,21 @@ module _ (numbers : List ℕ) (n point : ℕ) (room : 2 * n ≤ length numbers) 
         ap (earlier point) cut ∙ earlier-last point (listed numbers k) last (subst (Rising 0) cut (scanned .rising)) behind in
       omega (arith, all, scanned .same, length-listed numbers k (omega (arith, scanned .within)))
 
+  -- none is left: it belongs in front
+  pub scanned-none : (k : ℕ) → k ≤ 0 → Scanned numbers n point k → 0 ≡ 2 * earlier point (listed numbers n)
+  scanned-none zero none-left scanned = ap (λ m. 2 * m) (scanned .same)
+  scanned-none (suc k) none-left scanned = absurd (omega arith)
+
 pub record Moved (before : List ℕ) (i : ℕ) (part : List ℕ) : Type 0 where
   pub least : 2 ≤ i
   pub most : i ≤ length before
   pub size : length part ≡ length before
   pub low : (j : ℕ) → j < i → getD part j 0 ≡ getD before j 0
   pub high : (j : ℕ) → i ≤ j → j < length before → getD part j 0 ≡ getD before (j - 2) 0
+
+pub moved-none : (before : List ℕ) → 2 ≤ length before → Moved before (length before) before
+moved-none before room =
+    record { least = room; most = omega arith; size = refl; low = λ j h. refl; high = λ j h k. absurd (omega arith) }
 
 -- one number more has moved
 pub moved-on :
