@@ -9,9 +9,10 @@ use Prim.Native.Nat.{ℕ, zero, suc, _+_, _*_, _-_, _≤_, _<_}
 use native.Mathlib.Omega.{arith}
 use native.Mathlib.Decide.{ℕ-discrete, decLt}
 use lib.ListN.{length, take, drop, getD, set, length-append, length-set, List·getD-append}
-use lib.Seq.{getD-set-same, getD-set-other, getD-take, getD-append-add, length-take-le, ext-getD}
+use lib.Seq.{getD-set-same, getD-set-other, getD-take, getD-append-add, length-take-le, ext-getD, take-add, take-take, drop-at}
+use borrow.Rule.Slice.PartMut.{putMid, mid-len, post-is}
 use Rattle.linearization.specs.Entry.{Entry, earlier, Rising, listed, inserted}
-use Rattle.linearization.proofs.Entries.{entry, rising-front, earlier-later, earlier-last}
+use Rattle.linearization.proofs.Entries.{entry, rising-front, earlier-le, earlier-later, earlier-last}
 use Rattle.linearization.proofs.Numbers.{listed-suc, length-listed, inserted-parts}
 
 pub record Scanned (numbers : List ℕ) (n point k : ℕ) : Type 0 where
@@ -115,3 +116,54 @@ moved-all before i part done moved =
         ∙ sym
         (ap (λ m. getD (take 2 before ++ take (length before - 2) before) m 0) (sym place) ∙ getD-append-add (take 2 before) (take (length before - 2) before) (j - 2) 0
         ∙ getD-take (length before - 2) before (j - 2) 0 (omega (arith, moved .size)))
+
+-- ---- the pieces together
+
+-- the new entry belongs within the entries
+pub position-within : (numbers : List ℕ) (n point : ℕ) → 2 * n ≤ length numbers → 2 * earlier point (listed numbers n) ≤ 2 * n
+position-within numbers n point room = omega (arith, earlier-le point (listed numbers n), length-listed numbers n room)
+
+-- two numbers stored behind a front
+store-two :
+  (front : List ℕ) (a b : ℕ) (rest : List ℕ) (point request : ℕ) →
+  set (set (front ++ a ∷ b ∷ rest) (length front) point) (suc (length front)) request ≡ front ++ point ∷ request ∷ rest
+store-two [] a b rest point request = refl
+store-two (x ∷ front) a b rest point request = ap {B = List ℕ} (λ r. x ∷ r) (store-two front a b rest point request)
+
+store-part :
+  (at : ℕ) (front part rest : List ℕ) (point request : ℕ) → length front ≡ at → 2 ≤ length part →
+  set (set (front ++ (take 2 part ++ rest)) at point) (at + 1) request ≡ front ++ point ∷ request ∷ rest
+store-part at front [] rest point request seam room = absurd (omega arith)
+store-part at front (a ∷ []) rest point request seam room = absurd (omega arith)
+store-part at front (a ∷ b ∷ part) rest point request seam room =
+    let above : at + 1 ≡ suc (length front) = omega arith in
+    rw (above, ← seam) (store-two front a b rest point request)
+
+-- a part of the first numbers is the first numbers of a part
+drop-take : (a k : ℕ) (numbers : List ℕ) → a ≤ length numbers → drop a (take (a + k) numbers) ≡ take k (drop a numbers)
+drop-take a k numbers within =
+    ap (drop a) (take-add a k numbers) ∙ drop-at (take a numbers) (take k (drop a numbers)) a (length-take-le a numbers within)
+
+-- the later entries moved up and the two numbers stored: an insertion
+pub insertion-made :
+  (numbers part : List ℕ) (n point request at : ℕ) →
+  2 * (n + 1) ≤ length numbers →
+  at ≡ 2 * earlier point (listed numbers n) →
+  part
+  ≡ take 2 (take (2 * n + 2 - at) (drop at numbers))
+  ++ take (length (take (2 * n + 2 - at) (drop at numbers)) - 2) (take (2 * n + 2 - at) (drop at numbers)) →
+  set (set (putMid at (2 * n + 2 - at) numbers part) at point) (at + 1) request ≡ inserted numbers n point request
+insertion-made numbers part n point request at room is moved =
+    let within : at ≤ 2 * n = omega (arith, position-within numbers n point (omega arith)) in
+    let lent = take (2 * n + 2 - at) (drop at numbers) in
+    let size : length lent ≡ 2 * n + 2 - at = mid-len at (2 * n + 2) numbers (omega arith) in
+    let later : take (length lent - 2) lent ≡ drop at (take (2 * n) numbers) =
+      let count : length lent - 2 ≡ 2 * n - at = omega arith in
+      let whole : at + (2 * n - at) ≡ 2 * n = omega arith in
+      rw (count, take-take (2 * n - at) (2 * n + 2 - at) (drop at numbers) (omega arith))
+      (sym (drop-take at (2 * n - at) numbers (omega arith)) ∙ ap (λ k. drop at (take k numbers)) whole) in
+    let past : drop (2 * n + 2 - at) (drop at numbers) ≡ drop (2 * n + 2) numbers = post-is at (2 * n + 2) numbers (omega arith) in
+    rw (moved, append-assoc, later, past)
+    (store-part at (take at numbers) lent (drop at (take (2 * n) numbers) ++ drop (2 * n + 2) numbers) point request
+    (length-take-le at numbers (omega arith)) (omega arith)
+    ∙ rw is (sym (inserted-parts numbers n (omega arith) point request (earlier point (listed numbers n)) refl)))
