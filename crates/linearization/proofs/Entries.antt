@@ -13,7 +13,7 @@ use native.Mathlib.Decide.{decLt}
 use lib.Dec.{eqb, ltb}
 use lib.ListN.{length, take, drop, getD}
 use borrow.Author.Tests.{eqb-true, eqb-false, eq-eqb, ne-eqb, ltb-true, ltb-false, lt-ltb, le-ltb}
-use Rattle.linearization.specs.Entry.{Entry, insert, earlier, Rising, none, rises, occurrences}
+use Rattle.linearization.specs.Entry.{Entry, insert, earlier, Rising, empty, rises, occurrences}
 
 abbrev pub entry : ℕ → ℕ → Entry
 entry point request = record { point = point; request = request }
@@ -65,7 +65,7 @@ module _ (point request : ℕ) where
 
   -- rising entries still rise with one more at a point of its own
   pub rising-insert : {low : ℕ} (es : List Entry) → low < point → Free point es → Rising low es → Rising low (insert point request es)
-  rising-insert [] above free none = rises above none
+  rising-insert [] above free empty = rises above empty
   rising-insert (e ∷ es) above free (rises first rest) =
       split (ltb point (e .point)) (λ t. rw t (rises above (rises (ltb-true point (e .point) t) rest)))
       (λ t.
@@ -107,32 +107,32 @@ rising-member (rises first rest) (List·Memᴰ·tail member) = omega (arith, ris
 
 -- the entries in front of others that rise with them rise
 pub rising-front : {low : ℕ} (es fs : List Entry) → Rising low (es ++ fs) → Rising low es
-rising-front [] fs rising = none
+rising-front [] fs rising = empty
 rising-front (e ∷ es) fs (rises first rest) = rises first (rising-front es fs rest)
 
-module _ (d : Entry) where
-  pub rising-above : {low : ℕ} {es : List Entry} → Rising low es → (i : ℕ) → i < length es → low < getD es i d .point
-  rising-above none i h = absurd (omega arith)
+module _ (default : Entry) where
+  pub rising-above : {low : ℕ} {es : List Entry} → Rising low es → (i : ℕ) → i < length es → low < getD es i default .point
+  rising-above empty i h = absurd (omega arith)
   rising-above (rises first rest) zero h = first
   rising-above (rises first rest) (suc i) h = omega (arith, rising-above rest i (omega arith))
 
   -- an entry that stands before another has the lower point
   pub rising-order :
-    {low : ℕ} {es : List Entry} → Rising low es → (i j : ℕ) → i < j → j < length es → getD es i d .point < getD es j d .point
-  rising-order none i j before within = absurd (omega arith)
+    {low : ℕ} {es : List Entry} → Rising low es → (i j : ℕ) → i < j → j < length es → getD es i default .point < getD es j default .point
+  rising-order empty i j before within = absurd (omega arith)
   rising-order (rises first rest) i zero before within = absurd (omega arith)
   rising-order (rises first rest) zero (suc j) before within = rising-above rest j (omega arith)
   rising-order (rises first rest) (suc i) (suc j) before within = rising-order rest i j (omega arith) (omega arith)
 
   -- and an entry with the lower point stands before
   pub rising-position :
-    {low : ℕ} {es : List Entry} → Rising low es → (i j : ℕ) → i < length es → getD es i d .point < getD es j d .point → i < j
+    {low : ℕ} {es : List Entry} → Rising low es → (i j : ℕ) → i < length es → getD es i default .point < getD es j default .point → i < j
   rising-position {es = es} rising i j within lower = go (decLt i j) (decLt j i)
     where
       go : Dec (i < j) → Dec (j < i) → i < j
       go (yes before) back = before
       go (no after) (yes back) = absurd (omega (arith, rising-order rising j i back within))
-      go (no after) (no back) = let same : i ≡ j = omega arith in absurd (omega (arith, ap (λ k. getD es k d .point) same))
+      go (no after) (no back) = let same : i ≡ j = omega arith in absurd (omega (arith, ap (λ k. getD es k default .point) same))
 
 -- ---- how many entries are earlier
 

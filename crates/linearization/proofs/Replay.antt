@@ -14,8 +14,8 @@ use lib.Dec.{ltb}
 use borrow.Author.Tests.{ltb-true, ltb-false, lt-ltb, le-ltb}
 use Rattle.job.specs.declared.Answer.{Answer}
 use Rattle.linearization.specs.Partition.{Labels, Operation, reply, next, replay, replies}
-use Rattle.linearization.specs.Entry.{Entry, insert, Rising, none, rises}
-use Rattle.linearization.proofs.Partition.{Unchanged, next-kept}
+use Rattle.linearization.specs.Entry.{Entry, insert, Rising, empty, rises}
+use Rattle.linearization.proofs.Partition.{Unjoined, next-kept}
 use Rattle.linearization.proofs.Entries.{entry, Free, Below, split}
 
 abbrev pub operations : (ℕ → Operation) → List Entry → List Operation
@@ -40,7 +40,7 @@ pub data Replayed (operation : ℕ → Operation) (P : Entry → Type 0) (claim 
 
 pub record Silent (operation : ℕ → Operation) (claim : ℕ → Answer) (B : Labels) (request : ℕ) : Type 0 where
   pub answered : reply B (operation request) ≡ claim request
-  pub unchanged : Unchanged B (operation request)
+  pub unchanged : Unjoined B (operation request)
 
 -- ---- labels up to a point
 
@@ -82,40 +82,40 @@ module _ (operation : ℕ → Operation) (point request : ℕ) where
 
   pub after-insert :
     (B : Labels) (es : List Entry) →
-    Unchanged (labelsTo operation point B es) (operation request) → after operation B (insert point request es) ≡ after operation B es
+    Unjoined (labelsTo operation point B es) (operation request) → after operation B (insert point request es) ≡ after operation B es
   after-insert B [] same = same
   after-insert B (e ∷ es) same =
       split (ltb point (e .point))
-      (λ t. rw t (ap (λ C. after operation C (e ∷ es)) (subst (λ C. Unchanged C (operation request)) (labelsTo-stop B e es t) same)))
+      (λ t. rw t (ap (λ C. after operation C (e ∷ es)) (subst (λ C. Unjoined C (operation request)) (labelsTo-stop B e es t) same)))
       (λ t.
       rw t
-      (after-insert (next B (operation (e .request))) es (subst (λ C. Unchanged C (operation request)) (labelsTo-pass B e es t) same)))
+      (after-insert (next B (operation (e .request))) es (subst (λ C. Unjoined C (operation request)) (labelsTo-pass B e es t) same)))
 
   pub labelsTo-insert :
     (m : ℕ) (B : Labels) (es : List Entry) →
-    Unchanged (labelsTo operation point B es) (operation request) → labelsTo operation m B (insert point request es) ≡ labelsTo operation m B es
+    Unjoined (labelsTo operation point B es) (operation request) → labelsTo operation m B (insert point request es) ≡ labelsTo operation m B es
   labelsTo-insert m B [] same = split (ltb m point) (λ t. rw t) (λ t. rw t same)
   labelsTo-insert m B (e ∷ es) same =
       split (ltb point (e .point))
       (λ t.
-      let same-here : Unchanged B (operation request) = subst (λ C. Unchanged C (operation request)) (labelsTo-stop B e es t) same in
+      let same-here : Unjoined B (operation request) = subst (λ C. Unjoined C (operation request)) (labelsTo-stop B e es t) same in
       rw t
       (split (ltb m point)
       (λ u. rw (u, lt-ltb m (e .point) (omega (arith, ltb-true m point u, ltb-true point (e .point) t))))
       (λ u. rw u (ap (λ C. labelsTo operation m C (e ∷ es)) same-here))))
       (λ t.
-      let same-on = subst (λ C. Unchanged C (operation request)) (labelsTo-pass B e es t) same in
+      let same-on = subst (λ C. Unjoined C (operation request)) (labelsTo-pass B e es t) same in
       rw t (ap (cond (ltb m (e .point)) B) (labelsTo-insert m (next B (operation (e .request))) es same-on)))
 
 -- ---- replays
 
-module _ (operation : ℕ → Operation) (P : Entry → Type 0) (claim : ℕ → Answer) where
+module _ {operation : ℕ → Operation} {P : Entry → Type 0} {claim : ℕ → Answer} where
   pub replayed-fact : {B : Labels} {low : ℕ} {es : List Entry} → Replayed operation P claim B low es → (e : Entry) → List·Memᴰ e es → P e
   replayed-fact (placed rise fact answered rest) e (List·Memᴰ·head same) = subst P (sym same) fact
   replayed-fact (placed rise fact answered rest) e (List·Memᴰ·tail member) = replayed-fact rest e member
 
   pub replayed-rising : {B : Labels} {low : ℕ} {es : List Entry} → Replayed operation P claim B low es → Rising low es
-  replayed-rising ended = none
+  replayed-rising ended = empty
   replayed-rising (placed rise fact answered rest) = rises rise (replayed-rising rest)
 
   -- the specification answers every entry as claimed
@@ -163,12 +163,12 @@ module _ (operation : ℕ → Operation) (P : Entry → Type 0) (claim : ℕ →
 
 -- the facts and the claims may change, as long as the listed entries keep theirs
 pub replayed-map :
-  (operation : ℕ → Operation) (P Q : Entry → Type 0) (claim claimed : ℕ → Answer) {B : Labels} {low : ℕ} {es : List Entry} →
+  {operation : ℕ → Operation} {P Q : Entry → Type 0} {claim claimed : ℕ → Answer} {B : Labels} {low : ℕ} {es : List Entry} →
   ((e : Entry) → List·Memᴰ e es → P e → Q e) →
   ((e : Entry) → List·Memᴰ e es → claim (e .request) ≡ claimed (e .request)) →
   Replayed operation P claim B low es →
   Replayed operation Q claimed B low es
-replayed-map operation P Q claim claimed facts claims ended = ended
-replayed-map operation P Q claim claimed {es = e ∷ es} facts claims (placed rise fact answered rest) =
+replayed-map facts claims ended = ended
+replayed-map {es = e ∷ es} facts claims (placed rise fact answered rest) =
     placed rise (facts e (List·Memᴰ·head refl) fact) (answered ∙ claims e (List·Memᴰ·head refl))
-    (replayed-map operation P Q claim claimed (λ f m. facts f (List·Memᴰ·tail m)) (λ f m. claims f (List·Memᴰ·tail m)) rest)
+    (replayed-map (λ f m. facts f (List·Memᴰ·tail m)) (λ f m. claims f (List·Memᴰ·tail m)) rest)

@@ -34,7 +34,7 @@ earlier point (e ∷ es) = cond (ltb point (e .point)) zero (suc (earlier point 
 
 -- Entries rise by point. Grants count from 1, so the points of a whole line-up rise from above 0.
 pub data Rising : ℕ → List Entry → Type 0 where
-  none : {low : ℕ} → Rising low []
+  empty : {low : ℕ} → Rising low []
   rises : {low : ℕ} {e : Entry} {es : List Entry} → low < e .point → Rising (e .point) es → Rising low (e ∷ es)
 
 abbrev pub occurrences : ℕ → List Entry → ℕ
