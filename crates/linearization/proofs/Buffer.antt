@@ -2,8 +2,7 @@
 --
 --   Scanned numbers n point k   entries from the k-th on are later than the point
 --   Moved before i part         the numbers of a part from i on have moved up two places
-use mathlib.Core.Path.{_≡_, refl, sym, ap, ap₂, _∙_, subst}
-use mathlib.Core.Logic.{_≢_}
+use mathlib.Core.Path.{_≡_, refl, sym, ap, _∙_, subst}
 use mathlib.Core.List.{List, [], _∷_, _++_, append-assoc}
 use Prim.Native.Nat.{ℕ, zero, suc, _+_, _*_, _-_, _≤_, _<_}
 use native.Mathlib.Omega.{arith}
@@ -11,7 +10,7 @@ use native.Mathlib.Decide.{ℕ-discrete, decLt}
 use lib.ListN.{length, take, drop, getD, set, length-append, length-set, List·getD-append}
 use lib.Seq.{getD-set-same, getD-set-other, getD-take, getD-append-add, length-take-le, ext-getD, take-add, take-take, drop-at}
 use borrow.Rule.Slice.PartMut.{putMid, mid-len, post-is}
-use Rattle.linearization.specs.Entry.{Entry, earlier, Rising, listed, inserted}
+use Rattle.linearization.specs.Entry.{earlier, Rising, listed, movedUp, inserted}
 use Rattle.linearization.proofs.Entries.{entry, rising-front, earlier-le, earlier-later, earlier-last}
 use Rattle.linearization.proofs.Numbers.{listed-suc, length-listed, inserted-parts}
 
@@ -69,52 +68,53 @@ moved-none before room =
 
 -- one number more has moved
 pub moved-on :
-  (before : List ℕ) (i : ℕ) (part : List ℕ) → 2 < i → Moved before i part → Moved before (i - 1) (set part (i - 1) (getD part (i - 1 - 2) 0))
-moved-on before i part more moved =
+  (before part : List ℕ) (i k : ℕ) → i ≡ k + 1 → 2 ≤ k → Moved before i part → Moved before k (set part k (getD part (k - 2) 0))
+moved-on before part i k one-less least moved =
     record {
-      least = omega arith;
+      least = least;
       most = omega (arith, moved .most);
-      size = length-set part (i - 1) (getD part (i - 1 - 2) 0) ∙ moved .size;
-      low = λ j h. getD-set-other part (i - 1) j _ 0 (λ e. omega arith) ∙ moved .low j (omega arith);
-      high = λ j h k. high j h k (ℕ-discrete j (i - 1));
+      size = length-set part k (getD part (k - 2) 0) ∙ moved .size;
+      low = λ j h. getD-set-other part k j _ 0 (λ e. omega arith) ∙ moved .low j (omega arith);
+      high = λ j h within. high j h within (ℕ-discrete j k);
     }
   where
-    high : (j : ℕ) → i - 1 ≤ j → j < length before → Dec (j ≡ i - 1) → getD (set part (i - 1) (getD part (i - 1 - 2) 0)) j 0 ≡ getD before (j - 2) 0
-    high j h k (yes e) =
-        ap (λ m. getD (set part (i - 1) (getD part (i - 1 - 2) 0)) m 0) e
-        ∙ getD-set-same part (i - 1) _ 0 (omega (arith, moved .size, moved .most))
-        ∙ moved .low (i - 1 - 2) (omega arith)
+    high : (j : ℕ) → k ≤ j → j < length before → Dec (j ≡ k) → getD (set part k (getD part (k - 2) 0)) j 0 ≡ getD before (j - 2) 0
+    high j h within (yes e) =
+        ap (λ m. getD (set part k (getD part (k - 2) 0)) m 0) e
+        ∙ getD-set-same part k _ 0 (omega (arith, moved .size))
+        ∙ moved .low (k - 2) (omega arith)
         ∙ ap (λ m. getD before (m - 2) 0) (sym e)
-    high j h k (no d) = getD-set-other part (i - 1) j _ 0 d ∙ moved .high j (omega arith) k
+    high j h within (no d) = getD-set-other part k j _ 0 d ∙ moved .high j (omega arith) within
 
 -- all have moved
-pub moved-all :
-  (before : List ℕ) (i : ℕ) (part : List ℕ) → i ≤ 2 → Moved before i part → part ≡ take 2 before ++ take (length before - 2) before
+pub moved-all : (before : List ℕ) (i : ℕ) (part : List ℕ) → i ≤ 2 → Moved before i part → part ≡ movedUp before
 moved-all before i part done moved =
-    ext-getD 0 part (take 2 before ++ take (length before - 2) before) (omega (arith, moved .size, whole)) (λ j h. at j h (decLt j 2))
+    ext-getD 0 part (movedUp before) (omega (arith, moved .size, whole)) (λ j h. number j h (decLt j 2))
   where
+    rest : List ℕ
+    rest = take (length before - 2) before
+
     first : length (take 2 before) ≡ 2
     first = length-take-le 2 before (omega (arith, moved .least, moved .most))
 
-    whole : length (take 2 before ++ take (length before - 2) before) ≡ length before
+    whole : length (movedUp before) ≡ length before
     whole =
         omega (
         arith,
-        length-append (take 2 before) (take (length before - 2) before),
+        length-append (take 2 before) rest,
         first,
         length-take-le (length before - 2) before (omega arith),
         moved .least,
         moved .most)
 
-    at : (j : ℕ) → j < length part → Dec (j < 2) → getD part j 0 ≡ getD (take 2 before ++ take (length before - 2) before) j 0
-    at j h (yes low) =
+    number : (j : ℕ) → j < length part → Dec (j < 2) → getD part j 0 ≡ getD (movedUp before) j 0
+    number j h (yes low) =
         moved .low j (omega (arith, moved .least))
-        ∙ sym (List·getD-append (take 2 before) (take (length before - 2) before) 0 j (omega (arith, first)) ∙ getD-take 2 before j 0 low)
-    at j h (no high) =
+        ∙ sym (List·getD-append (take 2 before) rest 0 j (omega (arith, first)) ∙ getD-take 2 before j 0 low)
+    number j h (no high) =
         let place : length (take 2 before) + (j - 2) ≡ j = omega (arith, first) in
         moved .high j (omega arith) (omega (arith, moved .size))
-        ∙ sym
-        (ap (λ m. getD (take 2 before ++ take (length before - 2) before) m 0) (sym place) ∙ getD-append-add (take 2 before) (take (length before - 2) before) (j - 2) 0
+        ∙ sym (ap (λ m. getD (movedUp before) m 0) (sym place) ∙ getD-append-add (take 2 before) rest (j - 2) 0
         ∙ getD-take (length before - 2) before (j - 2) 0 (omega (arith, moved .size)))
 
 -- ---- the pieces together
@@ -149,9 +149,7 @@ pub insertion-made :
   (numbers part : List ℕ) (n point request at : ℕ) →
   2 * (n + 1) ≤ length numbers →
   at ≡ 2 * earlier point (listed numbers n) →
-  part
-  ≡ take 2 (take (2 * n + 2 - at) (drop at numbers))
-  ++ take (length (take (2 * n + 2 - at) (drop at numbers)) - 2) (take (2 * n + 2 - at) (drop at numbers)) →
+  part ≡ movedUp (take (2 * n + 2 - at) (drop at numbers)) →
   set (set (putMid at (2 * n + 2 - at) numbers part) at point) (at + 1) request ≡ inserted numbers n point request
 insertion-made numbers part n point request at room is moved =
     let within : at ≤ 2 * n = omega (arith, position-within numbers n point (omega arith)) in

@@ -1,3 +1,4 @@
+-- `linearization::insert_entry` moves the later entries up and stores the new one: the definition's insertion.
 use Prim.Native.Nat.{_+_, _*_}
 use borrow.Rule.Slice.PartMut.{mid-len}
 use native.Mathlib.Omega.{arith}
@@ -7,46 +8,34 @@ use Rattle.linearization.proofs.Buffer.{position-within, insertion-made
 use borrow.Author.Needs.{needs}
 use Rattle.linearization.proofs.insert_entry.Statement.{statement}
 use Rattle.linearization.proofs.insert_entry.Tie as tie
-use Rattle.linearization.proofs.insert_entry.Reads as reads
-use Rattle.linearization.proofs.insert_entry.Lts as lts
-use Rattle.linearization.proofs.move_up.Reads as move-up-reads
-use Rattle.linearization.proofs.position.Reads as position-reads
 
--- src/lib.rt:42:9
 position-requires : tie.Need-position-requires
 position-requires c κs = search needs
 
--- src/lib.rt:43:15
 mul-end : tie.Need-mul-end
 mul-end c = search needs
 
--- src/lib.rt:43:15
 add-end : tie.Need-add-end
 add-end c = search needs
 
--- src/lib.rt:44:13
 mul-move-up : tie.Need-mul-move-up
 mul-move-up c =
     let a = c .before .before .before .args in
     omega (arith, position-within (now (a .linearization)) (a .entries) (a .point) (omega arith))
 
--- src/lib.rt:44:13
 sub-move-up : tie.Need-sub-move-up
 sub-move-up c =
     let a = c .before .before .before .args in
     omega (arith, position-within (now (a .linearization)) (a .entries) (a .point) (omega arith))
 
--- src/lib.rt:44:13
 part-move-up-start : tie.Need-part-move-up-start
 part-move-up-start c =
     let a = c .before .before .before .args in
     omega (arith, position-within (now (a .linearization)) (a .entries) (a .point) (omega arith))
 
--- src/lib.rt:44:13
 part-move-up-end : tie.Need-part-move-up-end
 part-move-up-end c = search needs
 
--- src/lib.rt:44:5
 move-up-requires : tie.Need-move-up-requires
 move-up-requires c κs =
     let a = c .before .before .before .before .args in
@@ -56,39 +45,32 @@ move-up-requires c κs =
     position-within numbers (a .entries) (a .point) (omega arith),
     mid-len (c .before .position .result) (2 * a .entries + 2) numbers (omega arith))
 
--- src/lib.rt:45:5
 mul-linearization : tie.Need-mul-linearization
 mul-linearization c =
     let a = c .before .before .before .before .before .before .before .args in
     omega (arith, position-within (now (a .linearization)) (a .entries) (a .point) (omega arith))
 
--- src/lib.rt:45:5
 slice-write-linearization : tie.Need-slice-write-linearization
 slice-write-linearization c =
     let a = c .before .before .before .before .before .before .before .args in
     omega (arith, position-within (now (a .linearization)) (a .entries) (a .point) (omega arith))
 
--- src/lib.rt:46:19
 add-linearization : tie.Need-add-linearization
 add-linearization c = search needs
 
--- src/lib.rt:46:5
 mul-linearization-2 : tie.Need-mul-linearization-2
 mul-linearization-2 c =
     let a = c .before .before .before .before .before .before .before .args in
     omega (arith, position-within (now (a .linearization)) (a .entries) (a .point) (omega arith))
 
--- src/lib.rt:46:5
 slice-write-linearization-2 : tie.Need-slice-write-linearization-2
 slice-write-linearization-2 c =
     let a = c .before .before .before .before .before .before .before .args in
     simp length-set (omega (arith, position-within (now (a .linearization)) (a .entries) (a .point) (omega arith)))
 
--- src/lib.rt:37:1
 same-length : tie.Need-same-length
 same-length c = search needs
 
--- src/lib.rt:37:1
 returns : tie.Need-returns
 returns c =
     let a = c .before .before .before .before .before .before .before .args in
