@@ -39,7 +39,7 @@ module _ (numbers : List ℕ) (n point : ℕ) (room : 2 * n ≤ length numbers) 
 
   -- it is not later: the new entry belongs behind it
   pub scanned-here :
-    (k : ℕ) → 0 < k → Scanned numbers n point k → getD numbers (2 * k - 2) 0 ≤ point → 2 * k ≡ 2 * earlier point (listed numbers n)
+      (k : ℕ) → 0 < k → Scanned numbers n point k → getD numbers (2 * k - 2) 0 ≤ point → 2 * k ≡ 2 * earlier point (listed numbers n)
   scanned-here zero positive scanned not-later = absurd (omega arith)
   scanned-here (suc k) positive scanned not-later =
       let place : 2 * suc k - 2 ≡ 2 * k = omega arith in
@@ -47,7 +47,7 @@ module _ (numbers : List ℕ) (n point : ℕ) (room : 2 * n ≤ length numbers) 
       let last = entry (getD numbers (2 * k) 0) (getD numbers (2 * k + 1) 0) in
       let behind : last .point ≤ point = subst (λ i. getD numbers i 0 ≤ point) place not-later in
       let all : earlier point (listed numbers (suc k)) ≡ suc (length (listed numbers k)) =
-        ap (earlier point) cut ∙ earlier-last point (listed numbers k) last (subst (Rising 0) cut (scanned .rising)) behind in
+      ap (earlier point) cut ∙ earlier-last point (listed numbers k) last (subst (Rising 0) cut (scanned .rising)) behind in
       omega (arith, all, scanned .same, length-listed numbers k (omega (arith, scanned .within)))
 
   -- none is left: it belongs in front
@@ -62,13 +62,14 @@ pub record Moved (before : List ℕ) (i : ℕ) (part : List ℕ) : Type 0 where
   pub low : (j : ℕ) → j < i → getD part j 0 ≡ getD before j 0
   pub high : (j : ℕ) → i ≤ j → j < length before → getD part j 0 ≡ getD before (j - 2) 0
 
+-- at the start none has
 pub moved-none : (before : List ℕ) → 2 ≤ length before → Moved before (length before) before
 moved-none before room =
     record { least = room; most = omega arith; size = refl; low = λ j h. refl; high = λ j h k. absurd (omega arith) }
 
 -- one number more has moved
 pub moved-on :
-  (before part : List ℕ) (i k : ℕ) → i ≡ k + 1 → 2 ≤ k → Moved before i part → Moved before k (set part k (getD part (k - 2) 0))
+    (before part : List ℕ) (i k : ℕ) → i ≡ k + 1 → 2 ≤ k → Moved before i part → Moved before k (set part k (getD part (k - 2) 0))
 moved-on before part i k one-less least moved =
     record {
       least = least;
@@ -100,12 +101,13 @@ moved-all before i part done moved =
     whole : length (movedUp before) ≡ length before
     whole =
         omega (
-        arith,
-        length-append (take 2 before) rest,
-        first,
-        length-take-le (length before - 2) before (omega arith),
-        moved .least,
-        moved .most)
+          arith,
+          length-append (take 2 before) rest,
+          first,
+          length-take-le (length before - 2) before (omega arith),
+          moved .least,
+          moved .most,
+        )
 
     number : (j : ℕ) → j < length part → Dec (j < 2) → getD part j 0 ≡ getD (movedUp before) j 0
     number j h (yes low) =
@@ -125,14 +127,14 @@ position-within numbers n point room = omega (arith, earlier-le point (listed nu
 
 -- two numbers stored behind a front
 store-two :
-  (front : List ℕ) (a b : ℕ) (rest : List ℕ) (point request : ℕ) →
-  set (set (front ++ a ∷ b ∷ rest) (length front) point) (suc (length front)) request ≡ front ++ point ∷ request ∷ rest
+    (front : List ℕ) (a b : ℕ) (rest : List ℕ) (point request : ℕ) →
+    set (set (front ++ a ∷ b ∷ rest) (length front) point) (suc (length front)) request ≡ front ++ point ∷ request ∷ rest
 store-two [] a b rest point request = refl
 store-two (x ∷ front) a b rest point request = ap {B = List ℕ} (λ r. x ∷ r) (store-two front a b rest point request)
 
 store-part :
-  (at : ℕ) (front part rest : List ℕ) (point request : ℕ) → length front ≡ at → 2 ≤ length part →
-  set (set (front ++ (take 2 part ++ rest)) at point) (at + 1) request ≡ front ++ point ∷ request ∷ rest
+    (at : ℕ) (front part rest : List ℕ) (point request : ℕ) → length front ≡ at → 2 ≤ length part →
+    set (set (front ++ (take 2 part ++ rest)) at point) (at + 1) request ≡ front ++ point ∷ request ∷ rest
 store-part at front [] rest point request seam room = absurd (omega arith)
 store-part at front (a ∷ []) rest point request seam room = absurd (omega arith)
 store-part at front (a ∷ b ∷ part) rest point request seam room =
@@ -146,20 +148,20 @@ drop-take a k numbers within =
 
 -- the later entries moved up and the two numbers stored: an insertion
 pub insertion-made :
-  (numbers part : List ℕ) (n point request at : ℕ) →
-  2 * (n + 1) ≤ length numbers →
-  at ≡ 2 * earlier point (listed numbers n) →
-  part ≡ movedUp (take (2 * n + 2 - at) (drop at numbers)) →
-  set (set (putMid at (2 * n + 2 - at) numbers part) at point) (at + 1) request ≡ inserted numbers n point request
+    (numbers part : List ℕ) (n point request at : ℕ) →
+    2 * (n + 1) ≤ length numbers →
+    at ≡ 2 * earlier point (listed numbers n) →
+    part ≡ movedUp (take (2 * n + 2 - at) (drop at numbers)) →
+    set (set (putMid at (2 * n + 2 - at) numbers part) at point) (at + 1) request ≡ inserted numbers n point request
 insertion-made numbers part n point request at room is moved =
     let within : at ≤ 2 * n = omega (arith, position-within numbers n point (omega arith)) in
     let lent = take (2 * n + 2 - at) (drop at numbers) in
     let size : length lent ≡ 2 * n + 2 - at = mid-len at (2 * n + 2) numbers (omega arith) in
+    let count : length lent - 2 ≡ 2 * n - at = omega arith in
+    let whole : at + (2 * n - at) ≡ 2 * n = omega arith in
     let later : take (length lent - 2) lent ≡ drop at (take (2 * n) numbers) =
-      let count : length lent - 2 ≡ 2 * n - at = omega arith in
-      let whole : at + (2 * n - at) ≡ 2 * n = omega arith in
-      rw (count, take-take (2 * n - at) (2 * n + 2 - at) (drop at numbers) (omega arith))
-      (sym (drop-take at (2 * n - at) numbers (omega arith)) ∙ ap (λ k. drop at (take k numbers)) whole) in
+    rw (count, take-take (2 * n - at) (2 * n + 2 - at) (drop at numbers) (omega arith))
+    (sym (drop-take at (2 * n - at) numbers (omega arith)) ∙ ap (λ k. drop at (take k numbers)) whole) in
     let past : drop (2 * n + 2 - at) (drop at numbers) ≡ drop (2 * n + 2) numbers = post-is at (2 * n + 2) numbers (omega arith) in
     rw (moved, append-assoc, later, past)
     (store-part at (take at numbers) lent (drop at (take (2 * n) numbers) ++ drop (2 * n + 2) numbers) point request

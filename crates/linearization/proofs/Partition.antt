@@ -14,6 +14,7 @@ use Rattle.job.specs.declared.Kind.{Kind}
 use Rattle.job.specs.declared.Kind.the-variants.{Union, SameSet}
 use Rattle.job.specs.declared.Answer.the-variants.{Joined}
 use Rattle.linearization.specs.Partition.{Labels, Operation, join, replyTo, reply, nextOf, next}
+use Rattle.linearization.proofs.Tests.{split}
 
 pub reply-together : (B : Labels) (o : Operation) → B (o .x) ≡ B (o .y) → reply B o ≡ replyTo (o .kind) true
 unfolding reply
@@ -36,11 +37,8 @@ module _ (B : Labels) (a b : ℕ) where
 
   -- b's set keeps its label
   pub join-target : (i : ℕ) → B i ≡ B b → join B a b i ≡ B b
-  join-target i e = go (eqb (B i) (B a)) refl
-    where
-      go : (t : Bool) → eqb (B i) (B a) ≡ t → join B a b i ≡ B b
-      go true t = join-moved i (eqb-true (B i) (B a) t)
-      go false t = join-other i (eqb-false (B i) (B a) t) ∙ e
+  join-target i e =
+      split (eqb (B i) (B a)) (λ t. join-moved i (eqb-true (B i) (B a) t)) (λ t. join-other i (eqb-false (B i) (B a) t) ∙ e)
 
   -- nodes that shared a set still do
   pub join-kept : (i j : ℕ) → B i ≡ B j → join B a b i ≡ join B a b j
@@ -53,11 +51,11 @@ module _ (B : Labels) (a b : ℕ) where
 
   -- a join of two nodes that share a set changes nothing
   pub join-together : B a ≡ B b → join B a b ≡ B
-  join-together e = fun-ext (λ i. go i (eqb (B i) (B a)) refl)
-    where
-      go : (i : ℕ) (t : Bool) → eqb (B i) (B a) ≡ t → join B a b i ≡ B i
-      go i true t = join-moved i (eqb-true (B i) (B a) t) ∙ sym (eqb-true (B i) (B a) t ∙ e)
-      go i false t = join-other i (eqb-false (B i) (B a) t)
+  join-together e =
+      fun-ext
+      (λ i.
+      split (eqb (B i) (B a)) (λ t. join-moved i (eqb-true (B i) (B a) t) ∙ sym (eqb-true (B i) (B a) t ∙ e))
+      (λ t. join-other i (eqb-false (B i) (B a) t)))
 
 pub data Shared (B : Labels) (a b i j : ℕ) : Type 0 where
   before : B i ≡ B j → Shared B a b i j
@@ -124,9 +122,10 @@ next-together B o e = go (o .kind) refl
 
 -- only an operation that is told joined changes the labels
 pub next-unjoined : (B : Labels) (o : Operation) → reply B o ≢ Joined → Unjoined B o
-next-unjoined B o d = go (o .kind) refl (eqb (B (o .x)) (B (o .y))) refl
+next-unjoined B o d = go (o .kind) refl
   where
-    go : (k : Kind) → o .kind ≡ k → (t : Bool) → eqb (B (o .x)) (B (o .y)) ≡ t → Unjoined B o
-    go SameSet k t e = next-same-set B o k
-    go Union k true e = next-together B o (eqb-true (B (o .x)) (B (o .y)) e)
-    go Union k false e = absurd (d (reply-apart B o (eqb-false (B (o .x)) (B (o .y)) e) ∙ ap (λ kind. replyTo kind false) k))
+    go : (k : Kind) → o .kind ≡ k → Unjoined B o
+    go SameSet k = next-same-set B o k
+    go Union k =
+        split (eqb (B (o .x)) (B (o .y))) (λ t. next-together B o (eqb-true (B (o .x)) (B (o .y)) t))
+        (λ t. absurd (d (reply-apart B o (eqb-false (B (o .x)) (B (o .y)) t) ∙ ap (λ kind. replyTo kind false) k)))

@@ -39,6 +39,7 @@ pub data Rising : ℕ → List Entry → Type 0 where
   empty : {low : ℕ} → Rising low []
   rises : {low : ℕ} {e : Entry} {es : List Entry} → low < e .point → Rising (e .point) es → Rising low (e ∷ es)
 
+-- How often a request is listed.
 abbrev pub occurrences : ℕ → List Entry → ℕ
 occurrences request [] = zero
 occurrences request (e ∷ es) = cond (eqb (e .request) request) (suc (occurrences request es)) (occurrences request es)

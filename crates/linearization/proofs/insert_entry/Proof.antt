@@ -41,9 +41,10 @@ move-up-requires c κs =
     let a = c .before .before .before .before .args in
     let numbers = now (a .linearization) in
     omega (
-    arith,
-    position-within numbers (a .entries) (a .point) (omega arith),
-    mid-len (c .before .position .result) (2 * a .entries + 2) numbers (omega arith))
+      arith,
+      position-within numbers (a .entries) (a .point) (omega arith),
+      mid-len (c .before .position .result) (2 * a .entries + 2) numbers (omega arith),
+    )
 
 mul-linearization : tie.Need-mul-linearization
 mul-linearization c =
@@ -73,9 +74,11 @@ same-length c = search needs
 
 returns : tie.Need-returns
 returns c =
-    let a = c .before .before .before .before .before .before .before .args in
-    insertion-made (now (a .linearization)) _ (a .entries) (a .point) (a .request) (c .before .before .before .before .position .result)
-    (c .before .before .before .before .before .before .before .pre .room) (c .before .before .before .before .position .ensures) (c .before .before .move-up .ensures)
+    let start = c .before .before .before .before .before .before .before in
+    let found = c .before .before .before .before .position in
+    let a = start .args in
+    insertion-made (now (a .linearization)) _ (a .entries) (a .point) (a .request) (found .result)
+    (start .pre .room) (found .ensures) (c .before .before .move-up .ensures)
 
 pub insert-entry-spec : {M : Type 1} → statement M
 insert-entry-spec =

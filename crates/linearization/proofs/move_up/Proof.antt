@@ -38,14 +38,17 @@ loop-less : tie.Need-loop-less Inv-loop μ-loop
 loop-less c = search needs
 
 loop-again : tie.Need-loop-again Inv-loop μ-loop
-loop-again c = 
-    moved-on (now (c .before .before .before .args .part)) _ (c .before .before .loop .i) (c .before .before .loop .i - 1) (omega arith) (omega arith) (c .before .before .loop .inv)
+loop-again c =
+    let l = c .before .before .loop in
+    moved-on (now (c .before .before .before .args .part)) _ (l .i) (l .i - 1) (omega arith) (omega arith) (l .inv)
 
 same-length : tie.Need-same-length Inv-loop μ-loop
 same-length c = c .before .loop .inv .size
 
 returns : tie.Need-returns Inv-loop μ-loop
-returns c = moved-all (now (c .before .before .args .part)) (c .before .loop .i) (c .before .loop .part) (omega arith) (c .before .loop .inv)
+returns c =
+    let l = c .before .loop in
+    moved-all (now (c .before .before .args .part)) (l .i) (l .part) (omega arith) (l .inv)
 
 pub move-up-spec : {M : Type 1} → statement M
 move-up-spec =
