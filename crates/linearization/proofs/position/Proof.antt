@@ -1,0 +1,71 @@
+-- `linearization::position` looks from the back and stops at the first entry that is not later.
+use denote.Ref.{now}
+use borrow.Author.Needs.{needs}
+use native.Mathlib.Omega.{arith}
+use mathlib.Core.Path.{refl}
+use Rattle.linearization.proofs.Buffer.{Scanned, scanned-on, scanned-here, scanned-none}
+use Rattle.linearization.proofs.position.Statement.{statement}
+use Rattle.linearization.proofs.position.Tie as tie
+
+abbrev Inv-loop : tie.InvT-loop
+Inv-loop linearization entries point at₀ at = Scanned linearization entries point at
+
+abbrev μ-loop : tie.MeasureT-loop
+μ-loop linearization entries point at₀ at = at
+
+loop-holds : tie.Need-loop-holds Inv-loop μ-loop
+loop-holds c = record { within = omega arith; rising = c .pre .rising; same = refl }
+
+mul-if1 : tie.Need-mul-if1 Inv-loop μ-loop
+mul-if1 c = search needs
+
+sub-if1 : tie.Need-sub-if1 Inv-loop μ-loop
+sub-if1 c = search needs
+
+mul-if1-2 : tie.Need-mul-if1-2 Inv-loop μ-loop
+mul-if1-2 c = search needs
+
+shared-slice-read-if1 : tie.Need-shared-slice-read-if1 Inv-loop μ-loop
+shared-slice-read-if1 c = search needs
+
+mul-result : tie.Need-mul-result Inv-loop μ-loop
+mul-result c = search needs
+
+returns : tie.Need-returns Inv-loop μ-loop
+returns c =
+    let a = c .before .before .before .before .args in
+    scanned-here (now (a .linearization)) (a .entries) (a .point) (omega arith) _ (omega arith) (c .before .before .before .loop .inv) (omega arith)
+
+sub-at : tie.Need-sub-at Inv-loop μ-loop
+sub-at c = search needs
+
+loop-less : tie.Need-loop-less Inv-loop μ-loop
+loop-less c = search needs
+
+loop-again : tie.Need-loop-again Inv-loop μ-loop
+loop-again c =
+    let a = c .before .before .before .before .args in
+    scanned-on (now (a .linearization)) (a .entries) (a .point) (omega arith) _ (omega arith) (c .before .before .before .loop .inv) (omega arith)
+
+returns-2 : tie.Need-returns-2 Inv-loop μ-loop
+returns-2 c =
+    let a = c .before .before .args in
+    scanned-none (now (a .linearization)) (a .entries) (a .point) (omega arith) _ (omega arith) (c .before .loop .inv)
+
+pub position-spec : {M : Type 1} → statement M
+position-spec =
+    tie.close
+    (tie.spec
+    Inv-loop
+    μ-loop
+    loop-holds
+    mul-if1
+    sub-if1
+    mul-if1-2
+    shared-slice-read-if1
+    mul-result
+    returns
+    sub-at
+    loop-less
+    loop-again
+    returns-2)
