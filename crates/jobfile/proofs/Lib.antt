@@ -1,0 +1,3 @@
+-- The laws of job files: what a refusal of 0 says, how records follow one another, runs, and the round trips.
+pub mod Tests
+pub mod Records
