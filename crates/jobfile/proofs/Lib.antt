@@ -1,3 +1,4 @@
 -- The laws of job files: what a refusal of 0 says, how records follow one another, runs, and the round trips.
 pub mod Tests
 pub mod Records
+pub mod Runs
