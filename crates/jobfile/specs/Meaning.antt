@@ -2,7 +2,7 @@
 --
 --   records size m t    the rest of the file at each record of a section: t, then what follows each record of that
 --                       size, as long as the mark is m
---   fieldsAt t, runAt t the numbers of the request, or the run, at the start of t
+--   fieldsAt t, requestAt t, runAt t   the numbers of the request, the request and the run at the start of t
 --   granted rs          the schedule of the runs rs
 --   nodesIn s, headsIn s, requestRecords s, runRecords s   the parts of the file s
 --   runsStart s, closeStart s    the bytes where the runs and the close start
@@ -13,6 +13,7 @@ use mathlib.Core.List.{List, [], _∷_, _++_, map}
 use Prim.Native.Nat.{ℕ, zero, suc, _+_, _*_, _%_}
 use lib.Dec.{eqb, ltb, leb}
 use lib.ListN.{length, getD, drop, replicate}
+use Rattle.job.specs.declared.Request.{Request}
 use Rattle.job.specs.Job.{Job}
 use Rattle.jobfile.specs.declared.Fields.{Fields}
 use Rattle.jobfile.specs.declared.Run.{Run}
@@ -43,6 +44,9 @@ headerRefusal s =
 -- 52 51, head (8), kind (8), place x (16), place y (16): none to 512. 9: a 513th request, checked before its fields.
 abbrev pub fieldsAt : List ℕ → Fields
 fieldsAt t = record { head = getD t 2 0; kind = getD t 3 0; x = word (drop 4 t); y = word (drop 6 t) }
+
+abbrev pub requestAt : List ℕ → Request
+requestAt t = requestOf (fieldsAt t)
 
 unfoldable pub requestRefusal : ℕ → ℕ → ℕ → List ℕ → ℕ
 requestRefusal nodes heads number t =
@@ -124,7 +128,7 @@ jobIn s =
     record {
       nodes = nodesIn s;
       heads = headsIn s;
-      requests = map (λ t. requestOf (fieldsAt t)) (requestRecords s);
+      requests = map requestAt (requestRecords s);
       schedule = granted (runsIn s);
     }
 
