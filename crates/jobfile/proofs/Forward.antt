@@ -166,3 +166,36 @@ module _ (j : Job) (w : ℕ) (a : Admitted j) where
     requests = requests-here .read i;
     schedule = (ap (λ t. granted (map runAt (records 4 runMark t))) runs-start ∙ ap granted (runs-here .read) ∙ granted-longest (j .schedule)) i;
   }
+
+  header-passes : headerRefusal (fileWith j w) ≡ 0
+  unfolding fileWith headerRefusal
+  header-passes =
+      let s : List ℕ = fileWith j w in
+      let passes = sized-passes (j .nodes) (j .heads) (record { some-nodes = a .some-nodes; few-nodes = a .few-nodes; some-heads = a .some-heads; few-heads = a .few-heads }) in
+      rw (le-ltb (length s) 2 (omega arith), le-ltb (length s) 6 (omega arith), word-back (j .nodes), word-back (j .heads)) passes
+
+  requests-pass : requestsRefusal (nodesIn (fileWith j w)) (headsIn (fileWith j w)) 0 (requestRecords (fileWith j w)) ≡ 0
+  unfolding fileWith
+  requests-pass = rw (word-back (j .nodes), word-back (j .heads)) (requests-here .passes)
+
+  runs-pass : runsRefusal (headsIn (fileWith j w)) fullRun (runRecords (fileWith j w)) ≡ 0
+  runs-pass = rw (heads-here, runs-start) (runs-here .passes)
+
+  close-passes : closeRefusal (drop (closeStart (fileWith j w)) (fileWith j w)) ≡ 0
+  unfolding closeRefusal
+  close-passes = rw close-start
+
+  file-passes : length (fileWith j w) ≤ mostBytes → wordSum (fileWith j w) % 65536 ≡ 0 → fileRefusal (fileWith j w) ≡ 0
+  unfolding fileRefusal lengthRefusal balanceRefusal
+  file-passes l b = simp (le-ltb mostBytes (length (fileWith j w)) l, header-passes, requests-pass, runs-pass, close-passes, b)
+
+-- The balance brings the sum of the words to zero.
+balanced : (j : Job) → wordSum (written j) % 65536 ≡ 0
+unfolding written
+balanced j = omega (arith, wordSum-file j (balance j))
+
+pub meaning-written : (j : Job) → Admitted j → meaning (written j) ≡ accepted j
+unfolding meaning written
+meaning-written j a =
+    let w = balance j in
+    rw (file-passes j w a (unfold written in a .short) (unfold written in balanced j), job-here j w a)
