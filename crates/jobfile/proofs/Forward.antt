@@ -30,18 +30,18 @@ use Rattle.jobfile.proofs.Runs.{Following, Follows, granted-longest, lo
 word-back : (w : ℕ) → w % 256 + 256 * (w / 256) ≡ w
 word-back w = omega arith
 
-kind-back : (k : Kind) → kindOf (kindNumber k) ≡ k
+pub kind-back : (k : Kind) → kindOf (kindNumber k) ≡ k
 kind-back Union = refl
 kind-back SameSet = refl
 
 request-back : (q : Request) (t : List ℕ) → requestAt (requestBytes q ++ t) ≡ q
 request-back q t = λ i. record { head = q .head; kind = kind-back (q .kind) i; x = word-back (q .x) i; y = word-back (q .y) i }
 
-some-kind : (k : Kind) → 0 < kindNumber k
+pub some-kind : (k : Kind) → 0 < kindNumber k
 some-kind Union = omega arith
 some-kind SameSet = omega arith
 
-few-kinds : (k : Kind) → kindNumber k ≤ 2
+pub few-kinds : (k : Kind) → kindNumber k ≤ 2
 few-kinds Union = omega arith
 few-kinds SameSet = omega arith
 

@@ -3,3 +3,6 @@ pub mod Tests
 pub mod Records
 pub mod Runs
 pub mod Forward
+pub mod Backward
+pub mod Drafts
+pub mod RoundTrip

@@ -3,16 +3,18 @@
 --   Follows b h rs      each of the runs rs has a head below h and 1 to 255 grants, and none could have joined the one before it; b before the first
 --   granted-longest     the longest runs grant the schedule
 --   longest-follow      the longest runs follow the rules
+--   granted-few         runs grant at most 255 each
+--   granted-below       every head that is granted is below h
 --   longest-granted     runs that follow the rules are the longest of what they grant
 use mathlib.Core.Path.{_≡_, refl, _∙_, sym, ap}
 use mathlib.Core.Bool.{Bool, true, false, cond}
 use mathlib.Core.List.{List, [], _∷_, _++_}
-use Prim.Native.Nat.{ℕ, zero, suc, _+_, _≤_, _<_}
+use Prim.Native.Nat.{ℕ, zero, suc, _+_, _*_, _≤_, _<_}
 use native.Mathlib.Omega.{arith}
 use native.Mathlib.Nat.{add-zero}
 use native.Mathlib.Numerals.{add-one}
 use lib.Dec.{eqb, ltb}
-use lib.ListN.{length, getD, replicate}
+use lib.ListN.{length, getD, replicate, length-append, length-replicate, getD-replicate}
 use borrow.Author.Tests.{eqb-true, eq-eqb, lt-ltb, ltb-true}
 use Rattle.jobfile.specs.declared.Run.{Run}
 use Rattle.jobfile.specs.Format.{mostGrants, extends}
@@ -63,10 +65,10 @@ abbrev pub Follows : ℕ → Run → List Run → Type 0
 Follows heads before [] = Unit {0}
 Follows heads before (r ∷ rs) = Following heads before r × Follows heads r rs
 
-abbrev Below : ℕ → List ℕ → Type 0
+abbrev pub Below : ℕ → List ℕ → Type 0
 Below heads gs = (g none : ℕ) → g < length gs → getD gs g none < heads
 
-below-tail : (heads g : ℕ) (gs : List ℕ) → Below heads (g ∷ gs) → Below heads gs
+pub below-tail : (heads g : ℕ) (gs : List ℕ) → Below heads (g ∷ gs) → Below heads gs
 below-tail heads g gs b i none l = b (suc i) none (omega arith)
 
 from-follow : (heads : ℕ) (before r : Run) (gs : List ℕ) → Following heads before r → Below heads gs → Follows heads before (runsFrom r gs)
@@ -111,3 +113,23 @@ from-granted heads r (s ∷ rs) f =
 pub longest-granted : (heads : ℕ) (before : Run) (rs : List Run) → Follows heads before rs → longestRuns (granted rs) ≡ rs
 longest-granted heads before [] f = refl
 longest-granted heads before (r ∷ rs) f = begun (r .head) (r .count) (granted rs) (f .0 .some) (f .0 .few) ∙ from-granted heads r rs (f .1)
+
+below-append : (heads : ℕ) (gs hs : List ℕ) → Below heads gs → Below heads hs → Below heads (gs ++ hs)
+below-append heads [] hs b c i none l = c i none l
+below-append heads (g ∷ gs) hs b c zero none l = b 0 none (omega arith)
+below-append heads (g ∷ gs) hs b c (suc i) none l = below-append heads gs hs (below-tail heads g gs b) c i none (omega arith)
+
+below-replicate : (heads h n : ℕ) → h < heads → Below heads (replicate n h)
+below-replicate heads h n l i none m = rw (getD-replicate n i h none (rw length-replicate at m)) l
+
+-- No run grants more than 255.
+pub granted-few : (heads : ℕ) (before : Run) (rs : List Run) → Follows heads before rs → length (granted rs) ≤ mostGrants * length rs
+granted-few heads before [] f = omega arith
+granted-few heads before (r ∷ rs) f =
+    let l = f .0 .few in
+    rw (length-append, length-replicate) (omega (arith, granted-few heads r rs (f .1)))
+
+pub granted-below : (heads : ℕ) (before : Run) (rs : List Run) → Follows heads before rs → Below heads (granted rs)
+granted-below heads before [] f = λ i none l. absurd (omega arith)
+granted-below heads before (r ∷ rs) f =
+    below-append heads (replicate (r .count) (r .head)) (granted rs) (below-replicate heads (r .head) (r .count) (f .0 .head)) (granted-below heads r rs (f .1))

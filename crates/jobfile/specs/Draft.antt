@@ -4,12 +4,14 @@
 --   fieldsOf l          the requests in a list of numbers; a rest of fewer than four is no request
 --   jobOf d             the job that an admitted draft stands for
 --   draftRefusal d      the refusal of a draft, 0 for none
+--   draftOf j           the job j as the writer is given it
 use mathlib.Core.Bool.{cond}
 use mathlib.Core.List.{List, [], _∷_, map}
 use Prim.Native.Nat.{ℕ}
 use lib.Dec.{ltb, leb}
 use lib.ListN.{length}
-use Rattle.job.specs.Job.{Job}
+use Rattle.job.specs.declared.Request.{Request}
+use Rattle.job.specs.Job.{Job, kindNumber}
 use Rattle.jobfile.specs.declared.Fields.{Fields}
 use Rattle.jobfile.specs.Format.{mostRequests, _then_, sizesRefusal, fieldsRefusal, requestOf, lengthRefusal}
 use Rattle.jobfile.specs.Written.{written}
@@ -51,3 +53,11 @@ draftRefusal d =
     then eachRefusal (d .nodes) (d .heads) (fieldsOf (d .requests))
     then grantsRefusal (d .heads) (d .schedule)
     then lengthRefusal (written (jobOf d))
+
+-- A job as the writer is given it: four numbers a request, one head number a grant.
+abbrev pub numbersOf : List Request → List ℕ
+numbersOf [] = []
+numbersOf (q ∷ qs) = q .head ∷ kindNumber (q .kind) ∷ q .x ∷ q .y ∷ numbersOf qs
+
+abbrev pub draftOf : Job → Draft
+draftOf j = record { nodes = j .nodes; heads = j .heads; requests = numbersOf (j .requests); schedule = j .schedule }

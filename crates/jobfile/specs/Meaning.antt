@@ -94,7 +94,7 @@ closeRefusal t =
 
 -- 13: the words don't balance. All 16-bit words, the close's too, add up to zero when carries out of 16 bits are dropped.
 unfoldable pub balanceRefusal : List ℕ → ℕ
-balanceRefusal s = cond (eqb (wordSum s % 65536) 0) 0 13
+balanceRefusal s = cond (not (eqb (wordSum s % 65536) 0)) 13 0
 
 -- Where each section stands.
 abbrev pub requestRecords : List ℕ → List (List ℕ)
