@@ -209,19 +209,21 @@ pub run-section : (s : List ℕ) → Section 4 runMark (drop (runsStart s) s) (r
 run-section s = rw drop-drop at (records-section 4 runMark (omega arith) refl (drop (runsStart s) s))
 
 module _ (s : List ℕ) (b : Bytes s) (p : FilePassed s) where
-  runs-rule : Follows (headsIn s) fullRun (runsIn s)
+  pub runs-rule : Follows (headsIn s) fullRun (runsIn s)
   runs-rule = runs-follow (headsIn s) fullRun (run-section s) (bytes-drop (runsStart s) s b) (p .runs)
 
   file-front : fileWith (jobIn s) (word (drop 2 (drop (closeStart s) s))) ≡ s
   unfolding fileWith jobIn
   file-front =
       let l = p .header .whole in
-      rw (longest-granted (headsIn s) fullRun (runsIn s) runs-rule
-         , close-front (drop (closeStart s) s) (bytes-drop (closeStart s) s b) (p .close)
-         , runs-front (headsIn s) fullRun (run-section s) (bytes-drop (runsStart s) s b) (p .runs)
-         , requests-front (nodesIn s) (headsIn s) 0 (request-section s) (bytes-drop 6 s b) (p .requests)
-         , word-at 4 s b (omega arith)
-         , word-at 2 s b (omega arith))
+      rw (
+        longest-granted (headsIn s) fullRun (runsIn s) runs-rule,
+        close-front (drop (closeStart s) s) (bytes-drop (closeStart s) s b) (p .close),
+        runs-front (headsIn s) fullRun (run-section s) (bytes-drop (runsStart s) s b) (p .runs),
+        requests-front (nodesIn s) (headsIn s) 0 (request-section s) (bytes-drop 6 s b) (p .requests),
+        word-at 4 s b (omega arith),
+        word-at 2 s b (omega arith),
+      )
       (mark-front jobMark s b (omega arith) (p .header .marked))
 
   -- the last word is what the other words leave to zero

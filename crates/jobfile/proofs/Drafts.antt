@@ -82,10 +82,12 @@ pub draft-passes : (j : Job) → Admitted j → draftRefusal (draftOf j) ≡ 0
 unfolding draftRefusal countRefusal lengthRefusal
 draft-passes j a =
     let count : length (fieldsOf (numbersOf (j .requests))) ≡ length (j .requests) = sym (length-map (fieldsOf (numbersOf (j .requests))) requestOf) ∙ ap length (requests-drafted (j .requests)) in
-    simp (sized-passes (j .nodes) (j .heads) (record { some-nodes = a .some-nodes; few-nodes = a .few-nodes; some-heads = a .some-heads; few-heads = a .few-heads })
-         , count
-         , le-ltb mostRequests (length (j .requests)) (a .few-requests)
-         , serve-fields (j .nodes) (j .heads) (j .requests) (a .each-request)
-         , below-grants (j .heads) (j .schedule) (a .each-grant)
-         , job-drafted j
-         , le-ltb mostBytes (length (written j)) (a .short))
+    simp (
+      sized-passes (j .nodes) (j .heads) (record { some-nodes = a .some-nodes; few-nodes = a .few-nodes; some-heads = a .some-heads; few-heads = a .few-heads }),
+      count,
+      le-ltb mostRequests (length (j .requests)) (a .few-requests),
+      serve-fields (j .nodes) (j .heads) (j .requests) (a .each-request),
+      below-grants (j .heads) (j .schedule) (a .each-grant),
+      job-drafted j,
+      le-ltb mostBytes (length (written j)) (a .short),
+    )

@@ -6,3 +6,5 @@ pub mod Forward
 pub mod Backward
 pub mod Drafts
 pub mod RoundTrip
+pub mod Places
+mod Cases

@@ -3,10 +3,10 @@
 --   Section size m t ts rest   from t on stand records of that size with the mark m, at the places ts, and then rest
 --   records-next, records-end  what `records` gives at a record of the section, and at its end
 --   records-section            `records` gives a section
---   section-at                 record i of a section starts size × i bytes after its first
+--   section-at                 what is read at record i of a section stands size × i bytes behind its start
 use mathlib.Core.Path.{_≡_, refl, _∙_, sym, ap}
 use mathlib.Core.Bool.{Bool, true, false, cond}
-use mathlib.Core.List.{List, [], _∷_}
+use mathlib.Core.List.{List, [], _∷_, map}
 use Prim.Native.Nat.{ℕ, zero, suc, _+_, _*_, _≤_, _<_}
 use native.Mathlib.Omega.{arith}
 use native.Mathlib.Nat.{mul-zero, mul-suc, add-comm}
@@ -61,8 +61,8 @@ module _ (size m : ℕ) (moves : 0 < size) (marked : eqb 0 m ≡ false) where
   unfolding records
   records-section t = section-within (length t) t
 
-pub section-at : {size m : ℕ} {t rest : List ℕ} {ts : List (List ℕ)} → Section size m t ts rest
-    → (i : ℕ) (none : List ℕ) → i < length ts → getD ts i none ≡ drop (size * i) t
-section-at over i none l = absurd (omega arith)
-section-at {size} (more e s) zero none l = rw mul-zero
-section-at {size} {t = t} (more e s) (suc i) none l = rw (mul-suc, add-comm, ← drop-drop) (section-at s i none (omega arith))
+pub section-at {ℓ} : {A : Type ℓ} {size m : ℕ} {t rest : List ℕ} {ts : List (List ℕ)} → Section size m t ts rest
+    → (read : List ℕ → A) (i : ℕ) (none : A) → i < length ts → getD (map read ts) i none ≡ read (drop (size * i) t)
+section-at over read i none l = absurd (omega arith)
+section-at (more e s) read zero none l = rw mul-zero
+section-at (more e s) read (suc i) none l = rw (mul-suc, add-comm, ← drop-drop) (section-at s read i none (omega arith))
