@@ -1,0 +1,10 @@
+-- The laws of job files: what a refusal of 0 says, how records follow one another, runs, and the round trips.
+pub mod Tests
+pub mod Records
+pub mod Runs
+pub mod Forward
+pub mod Backward
+pub mod Drafts
+pub mod RoundTrip
+pub mod Places
+mod Cases

@@ -1,0 +1,74 @@
+-- Where the parts of an accepted file stand, so that they can be read in place, and how many there can be.
+--
+--   file-length         an accepted file is its header, 8 bytes a request, 4 a run, and the close
+--   request-stands      request q of an accepted file stands at byte 6 + 8 q
+--   run-stands          run i of an accepted file stands 4 i bytes behind the requests
+--   runs-meant          the runs of an accepted file are the longest of its schedule
+--   granted-next, granted-end   the schedule of the runs from run i on
+--   few-grants          an admitted job has at most 2,088,195 grants
+use mathlib.Core.Path.{_≡_, refl, _∙_, sym, ap}
+use mathlib.Core.List.{List, [], _∷_, _++_, map}
+use Prim.Native.Nat.{ℕ, zero, suc, _+_, _*_, _≤_, _<_}
+use native.Mathlib.Omega.{arith}
+use native.Mathlib.Numerals.{add-one}
+use lib.ListN.{length, getD, drop, replicate, length-drop, length-map, drop-of-length-le, List·getD-map}
+use lib.Seq.{drop-drop, drop-cons}
+use Rattle.job.specs.declared.Request.{Request}
+use Rattle.job.specs.Job.{Job}
+use Rattle.jobfile.specs.declared.Run.{Run}
+use Rattle.jobfile.specs.Format.{mostGrants}
+use Rattle.jobfile.specs.Meaning.{headsIn, requestAt, runAt, fullRun, granted, requestRecords, runsStart, runRecords, runsIn, jobIn, meaning}
+use Rattle.jobfile.specs.Written.{requestsBytes, runsBytes, longestRuns, fileWith, written}
+use Rattle.jobfile.specs.Admitted.{Admitted, Bytes}
+use Rattle.jobfile.proofs.Records.{Section, section-at}
+use Rattle.jobfile.proofs.Runs.{longest-follow, longest-granted, granted-longest, granted-few}
+use Rattle.jobfile.proofs.Backward.{file-passed, request-section, run-section, runs-rule}
+use Rattle.jobfile.proofs.RoundTrip.{accepts-all, job-meant, written-meaning}
+
+length-requests : (qs : List Request) (t : List ℕ) → length (requestsBytes qs ++ t) ≡ 8 * length qs + length t
+length-requests [] t = omega arith
+length-requests (q ∷ qs) t = omega (arith, length-requests qs t)
+
+length-runs : (rs : List Run) (t : List ℕ) → length (runsBytes rs ++ t) ≡ 4 * length rs + length t
+length-runs [] t = omega arith
+length-runs (r ∷ rs) t = omega (arith, length-runs rs t)
+
+pub length-written : (j : Job) → length (written j) ≡ 10 + 8 * length (j .requests) + 4 * length (longestRuns (j .schedule))
+unfolding written fileWith
+length-written j = simp (length-requests, length-runs) (omega arith)
+
+pub few-grants : (j : Job) → Admitted j → length (j .schedule) ≤ 2088195
+few-grants j a =
+    let few = granted-few (j .heads) fullRun (longestRuns (j .schedule)) (longest-follow (j .heads) 0 (j .schedule) (a .each-grant)) in
+    omega (arith, rw granted-longest at few, length-written j, a .short)
+
+module _ (s : List ℕ) (bytes : Bytes s) (accepts : meaning s .number ≡ 0) where
+  requests-counted : length (meaning s .job .requests) ≡ length (requestRecords s)
+  unfolding jobIn
+  requests-counted = rw (job-meant s bytes accepts, length-map)
+
+  pub request-stands : (q : ℕ) (none : Request) → q < length (meaning s .job .requests) → getD (meaning s .job .requests) q none ≡ requestAt (drop (6 + 8 * q) s)
+  unfolding jobIn
+  request-stands q none l = rw (job-meant s bytes accepts, ← drop-drop) (section-at (request-section s) requestAt q none (omega (arith, requests-counted)))
+
+  pub runs-meant : longestRuns (meaning s .job .schedule) ≡ runsIn s
+  unfolding jobIn
+  runs-meant = rw (job-meant s bytes accepts) (longest-granted (headsIn s) fullRun (runsIn s) (runs-rule s bytes (file-passed s (accepts-all s bytes accepts))))
+
+  runs-counted : length (longestRuns (meaning s .job .schedule)) ≡ length (runRecords s)
+  runs-counted = rw (runs-meant, length-map)
+
+  pub run-stands : (i : ℕ) (none : Run) → i < length (longestRuns (meaning s .job .schedule))
+      → getD (longestRuns (meaning s .job .schedule)) i none ≡ runAt (drop (6 + 8 * length (meaning s .job .requests) + 4 * i) s)
+  run-stands i none l = rw (runs-meant, requests-counted) (section-at (run-section s) runAt i none (omega (arith, runs-counted)) ∙ ap runAt (drop-drop (4 * i) (runsStart s) s))
+
+  pub file-length : length s ≡ 10 + 8 * length (meaning s .job .requests) + 4 * length (longestRuns (meaning s .job .schedule))
+  file-length = ap length (sym (written-meaning s bytes accepts)) ∙ length-written (meaning s .job)
+
+-- The schedule of the runs from run i on: that run's grants, then those of the runs behind it.
+pub granted-next : (rs : List Run) (i : ℕ) (none : Run) → i < length rs
+    → granted (drop i rs) ≡ replicate (getD rs i none .count) (getD rs i none .head) ++ granted (drop (i + 1) rs)
+granted-next rs i none l = rw (drop-cons rs i none l, add-one)
+
+pub granted-end : (rs : List Run) (i : ℕ) → length rs ≤ i → granted (drop i rs) ≡ []
+granted-end rs i l = rw (drop-of-length-le rs {i = i} l)

@@ -1,0 +1,89 @@
+-- Chains of tests: what it says that a chain refuses nothing, and the refusals that reader and writer share.
+--
+--   split b taken left     go by the test b, keeping its outcome as an equation
+--   passed, through     a chain that refuses nothing has passed its first test, and the rest refuses nothing
+--   Sized n h           n nodes and h heads are admitted
+--   Fit n h q           the numbers q are those of a request in a job of n nodes and h heads
+use mathlib.Core.Path.{_≡_, refl}
+use mathlib.Core.Bool.{Bool, true, false, cond}
+use Prim.Native.Nat.{ℕ, suc, _≤_, _<_}
+use native.Mathlib.Omega.{arith}
+use lib.Dec.{eqb, ltb, leb}
+use borrow.Author.Tests.{eqb-true, eqb-false, ltb-false, leb-false, eq-eqb, ne-eqb, le-ltb, lt-leb}
+use Rattle.jobfile.specs.declared.Fields.{Fields}
+use Rattle.jobfile.specs.Format.{_then_, mostNodes, mostHeads, sizesRefusal, fieldsRefusal}
+
+pub split {ℓ} : {A : Type ℓ} (b : Bool) → (b ≡ true → A) → (b ≡ false → A) → A
+split true taken left = taken refl
+split false taken left = left refl
+
+pub record Passed (b : Bool) (n : ℕ) : Type 0 where
+  pub test : b ≡ false
+  pub rest : n ≡ 0
+
+pub passed : (b : Bool) (n rest : ℕ) → cond b (suc n) rest ≡ 0 → Passed b rest
+passed true n rest e = absurd (omega arith)
+passed false n rest e = record { test = refl; rest = e }
+
+pub record Both (a b : ℕ) : Type 0 where
+  pub first : a ≡ 0
+  pub second : b ≡ 0
+
+pub through : (a b : ℕ) → (a then b) ≡ 0 → Both a b
+through a b e =
+    split (eqb a 0)
+    (λ t. record { first = eqb-true a 0 t; second = rw t at e })
+    (λ f. let z : a ≡ 0 = rw f at e in absurd (eqb-false a 0 f z))
+
+pub record Sized (nodes heads : ℕ) : Type 0 where
+  pub some-nodes : 0 < nodes
+  pub few-nodes : nodes ≤ mostNodes
+  pub some-heads : 0 < heads
+  pub few-heads : heads ≤ mostHeads
+
+pub sized : (nodes heads : ℕ) → sizesRefusal nodes heads ≡ 0 → Sized nodes heads
+unfolding sizesRefusal
+sized nodes heads e =
+    let a = passed (eqb nodes 0) 3 _ e in
+    let b = passed (ltb mostNodes nodes) 3 _ (a .rest) in
+    let c = passed (eqb heads 0) 4 _ (b .rest) in
+    let d = passed (ltb mostHeads heads) 4 _ (c .rest) in
+    record {
+      some-nodes = omega (arith, eqb-false nodes 0 (a .test));
+      few-nodes = ltb-false mostNodes nodes (b .test);
+      some-heads = omega (arith, eqb-false heads 0 (c .test));
+      few-heads = ltb-false mostHeads heads (d .test);
+    }
+
+pub sized-passes : (nodes heads : ℕ) → Sized nodes heads → sizesRefusal nodes heads ≡ 0
+unfolding sizesRefusal
+sized-passes nodes heads s =
+    simp (ne-eqb nodes 0 (λ e. omega arith), le-ltb mostNodes nodes (s .few-nodes), ne-eqb heads 0 (λ e. omega arith), le-ltb mostHeads heads (s .few-heads))
+
+pub record Fit (nodes heads : ℕ) (q : Fields) : Type 0 where
+  pub head : q .head < heads
+  pub some-kind : 0 < q .kind
+  pub few-kinds : q .kind ≤ 2
+  pub x : q .x < nodes
+  pub y : q .y < nodes
+
+pub fit : (nodes heads : ℕ) (q : Fields) → fieldsRefusal nodes heads q ≡ 0 → Fit nodes heads q
+unfolding fieldsRefusal
+fit nodes heads q e =
+    let a = passed (leb heads (q .head)) 5 _ e in
+    let b = passed (eqb (q .kind) 0) 6 _ (a .rest) in
+    let c = passed (ltb 2 (q .kind)) 6 _ (b .rest) in
+    let d = passed (leb nodes (q .x)) 7 _ (c .rest) in
+    let f = passed (leb nodes (q .y)) 7 _ (d .rest) in
+    record {
+      head = leb-false heads (q .head) (a .test);
+      some-kind = omega (arith, eqb-false (q .kind) 0 (b .test));
+      few-kinds = ltb-false 2 (q .kind) (c .test);
+      x = leb-false nodes (q .x) (d .test);
+      y = leb-false nodes (q .y) (f .test);
+    }
+
+pub fit-passes : (nodes heads : ℕ) (q : Fields) → Fit nodes heads q → fieldsRefusal nodes heads q ≡ 0
+unfolding fieldsRefusal
+fit-passes nodes heads q f =
+    simp (lt-leb heads (q .head) (f .head), ne-eqb (q .kind) 0 (λ e. omega arith), le-ltb 2 (q .kind) (f .few-kinds), lt-leb nodes (q .x) (f .x), lt-leb nodes (q .y) (f .y))

@@ -1,0 +1,34 @@
+-- The jobs that have a file, and lists of bytes.
+--
+--   Serves n h q      the request q is one of a job with n nodes and h heads
+--   Admitted j        the job j has a file
+--   Bytes s           every number of s is a byte
+use mathlib.Core.List.{List}
+use Prim.Native.Nat.{ℕ, _<_, _≤_}
+use lib.ListN.{length, getD}
+use Rattle.job.specs.declared.Request.{Request}
+use Rattle.job.specs.Job.{Job}
+use Rattle.jobfile.specs.Format.{mostBytes, mostNodes, mostHeads, mostRequests}
+use Rattle.jobfile.specs.Written.{written}
+
+pub record Serves (nodes heads : ℕ) (q : Request) : Type 0 where
+  pub head : q .head < heads
+  pub x : q .x < nodes
+  pub y : q .y < nodes
+
+pub record Admitted (j : Job) : Type 0 where
+  -- there are 1 to 4,096 nodes, 1 to 16 heads and at most 512 requests
+  pub some-nodes : 0 < j .nodes
+  pub few-nodes : j .nodes ≤ mostNodes
+  pub some-heads : 0 < j .heads
+  pub few-heads : j .heads ≤ mostHeads
+  pub few-requests : length (j .requests) ≤ mostRequests
+  -- every request is served by one of the heads, on two of the nodes
+  pub each-request : (q : ℕ) (none : Request) → q < length (j .requests) → Serves (j .nodes) (j .heads) (getD (j .requests) q none)
+  -- every grant is for one of the heads
+  pub each-grant : (g none : ℕ) → g < length (j .schedule) → getD (j .schedule) g none < j .heads
+  -- and the file is not too long
+  pub short : length (written j) ≤ mostBytes
+
+abbrev pub Bytes : List ℕ → Type 0
+Bytes s = (i : ℕ) → getD s i 0 < 256

@@ -1,0 +1,63 @@
+-- Document 01, "Job file": what the writer is given, as numbers, and its refusal.
+--
+--   Draft               places, heads, requests (four numbers each: head, kind, x, y) and one head number a grant
+--   fieldsOf l          the requests in a list of numbers; a rest of fewer than four is no request
+--   jobOf d             the job that an admitted draft stands for
+--   draftRefusal d      the refusal of a draft, 0 for none
+--   draftOf j           the job j as the writer is given it
+use mathlib.Core.Bool.{cond}
+use mathlib.Core.List.{List, [], _∷_, map}
+use Prim.Native.Nat.{ℕ}
+use lib.Dec.{ltb, leb}
+use lib.ListN.{length}
+use Rattle.job.specs.declared.Request.{Request}
+use Rattle.job.specs.Job.{Job, kindNumber}
+use Rattle.jobfile.specs.declared.Fields.{Fields}
+use Rattle.jobfile.specs.Format.{mostRequests, _then_, sizesRefusal, fieldsRefusal, requestOf, lengthRefusal}
+use Rattle.jobfile.specs.Written.{written}
+
+pub record Draft : Type 0 where
+  pub nodes : ℕ
+  pub heads : ℕ
+  pub requests : List ℕ
+  pub schedule : List ℕ
+
+abbrev pub fieldsOf : List ℕ → List Fields
+fieldsOf [] = []
+fieldsOf (h ∷ []) = []
+fieldsOf (h ∷ k ∷ []) = []
+fieldsOf (h ∷ k ∷ x ∷ []) = []
+fieldsOf (h ∷ k ∷ x ∷ y ∷ l) = record { head = h; kind = k; x = x; y = y } ∷ fieldsOf l
+
+unfoldable pub jobOf : Draft → Job
+jobOf d = record { nodes = d .nodes; heads = d .heads; requests = map requestOf (fieldsOf (d .requests)); schedule = d .schedule }
+
+-- 9: a 513th request.
+unfoldable pub countRefusal : ℕ → ℕ
+countRefusal count = cond (ltb mostRequests count) 9 0
+
+unfoldable pub eachRefusal : ℕ → ℕ → List Fields → ℕ
+eachRefusal nodes heads [] = 0
+eachRefusal nodes heads (q ∷ qs) = fieldsRefusal nodes heads q then eachRefusal nodes heads qs
+
+-- 10: a grant's head not below the heads.
+unfoldable pub grantsRefusal : ℕ → List ℕ → ℕ
+grantsRefusal heads [] = 0
+grantsRefusal heads (g ∷ gs) = cond (leb heads g) 10 (grantsRefusal heads gs)
+
+-- It checks places, heads, request count, each request, each grant, then length.
+unfoldable pub draftRefusal : Draft → ℕ
+draftRefusal d =
+    sizesRefusal (d .nodes) (d .heads)
+    then countRefusal (length (fieldsOf (d .requests)))
+    then eachRefusal (d .nodes) (d .heads) (fieldsOf (d .requests))
+    then grantsRefusal (d .heads) (d .schedule)
+    then lengthRefusal (written (jobOf d))
+
+-- A job as the writer is given it: four numbers a request, one head number a grant.
+abbrev pub numbersOf : List Request → List ℕ
+numbersOf [] = []
+numbersOf (q ∷ qs) = q .head ∷ kindNumber (q .kind) ∷ q .x ∷ q .y ∷ numbersOf qs
+
+abbrev pub draftOf : Job → Draft
+draftOf j = record { nodes = j .nodes; heads = j .heads; requests = numbersOf (j .requests); schedule = j .schedule }

@@ -1,0 +1,97 @@
+-- Document 01, "Job file" and "Turned down": the numbers of the format, and the checks that the reader and the writer share.
+-- A refusal is its number in document 01; 0 is none.
+--
+--   jobMark, requestMark, runMark, closeMark   the marks of the four records, as 16-bit words
+--   mostBytes, mostNodes, mostHeads, mostRequests, mostGrants   the largest file, job and run
+--   word t, wordBytes w     the 16-bit word at the start of t, and the two bytes of the word w
+--   wordSum s               the sum of the 16-bit words of s
+--   a then b                the refusal a, or b where a is none
+--   sizesRefusal n h        the refusal of n nodes and h heads
+--   fieldsRefusal n h q     the refusal of a request's numbers q in a job of n nodes and h heads
+--   requestOf q             the request that admitted numbers stand for
+--   extends r g             a grant for head g could still have joined the run r
+--   lengthRefusal s         the refusal of a file for its length
+use mathlib.Core.Bool.{Bool, cond, false}
+use mathlib.Core.List.{List, [], _∷_}
+use Prim.Native.Nat.{ℕ, _+_, _*_, _/_, _%_}
+use lib.Dec.{eqb, ltb, leb}
+use lib.ListN.{length, getD}
+use Rattle.job.specs.declared.Request.{Request}
+use Rattle.job.specs.Job.{kindOf}
+use Rattle.jobfile.specs.declared.Fields.{Fields}
+use Rattle.jobfile.specs.declared.Run.{Run}
+
+-- The marks 44 4B, 52 51, 47 52 and 43 4C, low byte first.
+abbrev pub jobMark : ℕ
+jobMark = 0x4B44
+
+abbrev pub requestMark : ℕ
+requestMark = 0x5152
+
+abbrev pub runMark : ℕ
+runMark = 0x5247
+
+abbrev pub closeMark : ℕ
+closeMark = 0x4C43
+
+abbrev pub mostBytes : ℕ
+mostBytes = 32768
+
+abbrev pub mostNodes : ℕ
+mostNodes = 4096
+
+abbrev pub mostHeads : ℕ
+mostHeads = 16
+
+abbrev pub mostRequests : ℕ
+mostRequests = 512
+
+-- A run is 8 bits.
+abbrev pub mostGrants : ℕ
+mostGrants = 255
+
+-- 16-bit fields are low byte first. A byte past the end counts as 0, which is in no mark.
+abbrev pub word : List ℕ → ℕ
+word t = getD t 0 0 + 256 * getD t 1 0
+
+abbrev pub wordBytes : ℕ → List ℕ
+wordBytes w = (w % 256) ∷ (w / 256) ∷ []
+
+-- All 16-bit words of the file; no accepted file has an odd byte.
+abbrev pub wordSum : List ℕ → ℕ
+wordSum [] = 0
+wordSum (low ∷ []) = low
+wordSum (low ∷ high ∷ t) = low + 256 * high + wordSum t
+
+-- Checks stand in document 01's order, and the first that refuses decides.
+infixr 40 _then_
+abbrev pub _then_ : ℕ → ℕ → ℕ
+a then b = cond (eqb a 0) b a
+
+-- 4: places 0 or above 4,096. 5: heads 0 or above 16.
+unfoldable pub sizesRefusal : ℕ → ℕ → ℕ
+sizesRefusal nodes heads =
+    cond (eqb nodes 0) 4
+    (cond (ltb mostNodes nodes) 4
+    (cond (eqb heads 0) 5
+    (cond (ltb mostHeads heads) 5 0)))
+
+-- Fields left to right. 6: a request's head not below the heads. 7: kind neither 1 nor 2. 8: a place not below the places.
+unfoldable pub fieldsRefusal : ℕ → ℕ → Fields → ℕ
+fieldsRefusal nodes heads q =
+    cond (leb heads (q .head)) 6
+    (cond (eqb (q .kind) 0) 7
+    (cond (ltb 2 (q .kind)) 7
+    (cond (leb nodes (q .x)) 8
+    (cond (leb nodes (q .y)) 8 0))))
+
+abbrev pub requestOf : Fields → Request
+requestOf q = record { head = q .head; kind = kindOf (q .kind); x = q .x; y = q .y }
+
+-- The longest runs, at most 255: a grant joins the run before it if the head is the same and the run is under 255.
+abbrev pub extends : Run → ℕ → Bool
+extends r g = cond (eqb (r .head) g) (ltb (r .count) mostGrants) false
+
+-- 1: file over 32,768 bytes.
+unfoldable pub lengthRefusal : List ℕ → ℕ
+lengthRefusal s = cond (ltb mostBytes (length s)) 1 0

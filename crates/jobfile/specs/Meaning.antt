@@ -1,0 +1,147 @@
+-- Document 01, "Job file": what a file of bytes means, or the number of its refusal.
+--
+--   records size m t    the rest of the file at each record of a section: t, then what follows each record of that
+--                       size, as long as the mark is m
+--   fieldsAt t, requestAt t, runAt t   the numbers of the request, the request and the run at the start of t
+--   granted rs          the schedule of the runs rs
+--   nodesIn s, headsIn s, requestRecords s, runRecords s   the parts of the file s
+--   runsStart s, closeStart s    the bytes where the runs and the close start
+--   fileRefusal s       the refusal of the file s, 0 for none
+--   meaning s           the number 0 and the job of an accepted file, or the number of the refusal and an empty job
+use mathlib.Core.Bool.{not, cond}
+use mathlib.Core.List.{List, [], _∷_, _++_, map}
+use Prim.Native.Nat.{ℕ, zero, suc, _+_, _*_, _%_}
+use lib.Dec.{eqb, ltb, leb}
+use lib.ListN.{length, getD, drop, replicate}
+use Rattle.job.specs.declared.Request.{Request}
+use Rattle.job.specs.Job.{Job}
+use Rattle.jobfile.specs.declared.Fields.{Fields}
+use Rattle.jobfile.specs.declared.Run.{Run}
+use Rattle.jobfile.specs.Format.{jobMark, requestMark, runMark, closeMark, mostRequests, mostGrants, word, wordSum, _then_, sizesRefusal, fieldsRefusal, requestOf, extends, lengthRefusal}
+
+-- A section goes on as long as its mark follows; no section has more records than the file has bytes.
+unfoldable pub recordsWithin : ℕ → ℕ → ℕ → List ℕ → List (List ℕ)
+recordsWithin zero size m t = []
+recordsWithin (suc n) size m t = cond (eqb (word t) m) (t ∷ recordsWithin n size m (drop size t)) []
+
+unfoldable pub records : ℕ → ℕ → List ℕ → List (List ℕ)
+records size m t = recordsWithin (length t) size m t
+
+-- 44 4B, places (16 bits), heads (16 bits): one. 2: the file ends before a record is whole. 3: a mark not allowed.
+abbrev pub nodesIn : List ℕ → ℕ
+nodesIn s = word (drop 2 s)
+
+abbrev pub headsIn : List ℕ → ℕ
+headsIn s = word (drop 4 s)
+
+unfoldable pub headerRefusal : List ℕ → ℕ
+headerRefusal s =
+    cond (ltb (length s) 2) 2
+    (cond (not (eqb (word s) jobMark)) 3
+    (cond (ltb (length s) 6) 2
+    (sizesRefusal (nodesIn s) (headsIn s))))
+
+-- 52 51, head (8), kind (8), place x (16), place y (16): none to 512. 9: a 513th request, checked before its fields.
+abbrev pub fieldsAt : List ℕ → Fields
+fieldsAt t = record { head = getD t 2 0; kind = getD t 3 0; x = word (drop 4 t); y = word (drop 6 t) }
+
+abbrev pub requestAt : List ℕ → Request
+requestAt t = requestOf (fieldsAt t)
+
+unfoldable pub requestRefusal : ℕ → ℕ → ℕ → List ℕ → ℕ
+requestRefusal nodes heads number t =
+    cond (ltb (length t) 8) 2
+    (cond (leb mostRequests number) 9
+    (fieldsRefusal nodes heads (fieldsAt t)))
+
+-- Request numbers count from 0 in file order.
+unfoldable pub requestsRefusal : ℕ → ℕ → ℕ → List (List ℕ) → ℕ
+requestsRefusal nodes heads number [] = 0
+requestsRefusal nodes heads number (t ∷ ts) = requestRefusal nodes heads number t then requestsRefusal nodes heads (number + 1) ts
+
+-- 47 52, head (8), run (8): none or more; the head gets that many grants. 10: a grant's head not below the heads, or run 0.
+-- 11: a run's head equals that of the run before, which is under 255.
+abbrev pub runAt : List ℕ → Run
+runAt t = record { head = getD t 2 0; count = getD t 3 0 }
+
+unfoldable pub runRefusal : ℕ → Run → List ℕ → ℕ
+runRefusal heads before t =
+    cond (ltb (length t) 4) 2
+    (cond (leb heads (getD t 2 0)) 10
+    (cond (eqb (getD t 3 0) 0) 10
+    (cond (extends before (getD t 2 0)) 11 0)))
+
+unfoldable pub runsRefusal : ℕ → Run → List (List ℕ) → ℕ
+runsRefusal heads before [] = 0
+runsRefusal heads before (t ∷ ts) = runRefusal heads before t then runsRefusal heads (runAt t) ts
+
+-- Nothing extends a full run, so it stands for "no run before the first".
+abbrev pub fullRun : Run
+fullRun = record { head = 0; count = mostGrants }
+
+abbrev pub granted : List Run → List ℕ
+granted [] = []
+granted (r ∷ rs) = replicate (r .count) (r .head) ++ granted rs
+
+-- 43 4C, balance (16): one, last. What follows the runs is the close, or it has no mark that is allowed there.
+-- 12: bytes after the close.
+unfoldable pub closeRefusal : List ℕ → ℕ
+closeRefusal t =
+    cond (ltb (length t) 2) 2
+    (cond (not (eqb (word t) closeMark)) 3
+    (cond (ltb (length t) 4) 2
+    (cond (ltb 4 (length t)) 12 0)))
+
+-- 13: the words don't balance. All 16-bit words, the close's too, add up to zero when carries out of 16 bits are dropped.
+unfoldable pub balanceRefusal : List ℕ → ℕ
+balanceRefusal s = cond (not (eqb (wordSum s % 65536) 0)) 13 0
+
+-- Where each section stands.
+abbrev pub requestRecords : List ℕ → List (List ℕ)
+requestRecords s = records 8 requestMark (drop 6 s)
+
+abbrev pub runsStart : List ℕ → ℕ
+runsStart s = 6 + 8 * length (requestRecords s)
+
+abbrev pub runRecords : List ℕ → List (List ℕ)
+runRecords s = records 4 runMark (drop (runsStart s) s)
+
+abbrev pub closeStart : List ℕ → ℕ
+closeStart s = runsStart s + 4 * length (runRecords s)
+
+-- Checked first: length. Then record by record. Then bytes after the close, then balance.
+unfoldable pub fileRefusal : List ℕ → ℕ
+fileRefusal s =
+    lengthRefusal s
+    then headerRefusal s
+    then requestsRefusal (nodesIn s) (headsIn s) 0 (requestRecords s)
+    then runsRefusal (headsIn s) fullRun (runRecords s)
+    then closeRefusal (drop (closeStart s) s)
+    then balanceRefusal s
+
+-- The requests and the runs of a file, and the job that an accepted file means.
+abbrev pub runsIn : List ℕ → List Run
+runsIn s = map runAt (runRecords s)
+
+unfoldable pub jobIn : List ℕ → Job
+jobIn s =
+    record {
+      nodes = nodesIn s;
+      heads = headsIn s;
+      requests = map requestAt (requestRecords s);
+      schedule = granted (runsIn s);
+    }
+
+pub record Meaning : Type 0 where
+  pub number : ℕ
+  pub job : Job
+
+abbrev pub accepted : Job → Meaning
+accepted j = record { number = 0; job = j }
+
+-- A refusal gives its number and zero for every count.
+abbrev pub refused : ℕ → Meaning
+refused n = record { number = n; job = record { nodes = 0; heads = 0; requests = []; schedule = [] } }
+
+unfoldable pub meaning : List ℕ → Meaning
+meaning s = cond (eqb (fileRefusal s) 0) (accepted (jobIn s)) (refused (fileRefusal s))

@@ -1,0 +1,57 @@
+-- Document 01, "Job file": the file that is written for a job.
+--
+--   requestsBytes qs, runsBytes rs   the bytes of requests and of runs
+--   longestRuns gs      the longest runs, at most 255, that make the schedule gs
+--   runsFrom r gs       the same with the run r under way
+--   fileWith j w        the file of the job j with the balance w
+--   balance j           the balance that brings the sum of the file's words to zero
+--   written j           the file of the job j
+use mathlib.Core.Bool.{cond}
+use mathlib.Core.List.{List, [], _∷_, _++_}
+use Prim.Native.Nat.{ℕ, _+_, _-_, _%_}
+use Rattle.job.specs.declared.Request.{Request}
+use Rattle.job.specs.Job.{Job, kindNumber}
+use Rattle.jobfile.specs.declared.Run.{Run}
+use Rattle.jobfile.specs.Format.{jobMark, requestMark, runMark, closeMark, wordBytes, wordSum, extends}
+
+abbrev pub requestBytes : Request → List ℕ
+requestBytes q = wordBytes requestMark ++ (q .head ∷ kindNumber (q .kind) ∷ []) ++ wordBytes (q .x) ++ wordBytes (q .y)
+
+abbrev pub requestsBytes : List Request → List ℕ
+requestsBytes [] = []
+requestsBytes (q ∷ qs) = requestBytes q ++ requestsBytes qs
+
+abbrev pub runBytes : Run → List ℕ
+runBytes r = wordBytes runMark ++ (r .head ∷ r .count ∷ [])
+
+abbrev pub runsBytes : List Run → List ℕ
+runsBytes [] = []
+runsBytes (r ∷ rs) = runBytes r ++ runsBytes rs
+
+-- The run under way after one more grant.
+abbrev pub nextRun : Run → ℕ → Run
+nextRun r g = cond (extends r g) (record { head = r .head; count = r .count + 1 }) (record { head = g; count = 1 })
+
+-- A grant joins the run under way if it can; otherwise that run ends and another begins.
+abbrev pub runsFrom : Run → List ℕ → List Run
+runsFrom r [] = r ∷ []
+runsFrom r (g ∷ gs) = let rest = runsFrom (nextRun r g) gs in cond (extends r g) rest (r ∷ rest)
+
+abbrev pub longestRuns : List ℕ → List Run
+longestRuns [] = []
+longestRuns (g ∷ gs) = runsFrom (record { head = g; count = 1 }) gs
+
+-- The records in order: the job's, the requests, the runs, the close.
+unfoldable pub fileWith : Job → ℕ → List ℕ
+fileWith j w =
+    (wordBytes jobMark ++ wordBytes (j .nodes) ++ wordBytes (j .heads))
+    ++ (requestsBytes (j .requests)
+    ++ (runsBytes (longestRuns (j .schedule))
+    ++ (wordBytes closeMark ++ wordBytes w)))
+
+-- The difference from zero, in 16 bits, of all words but the balance.
+abbrev pub balance : Job → ℕ
+balance j = (65536 - wordSum (fileWith j 0) % 65536) % 65536
+
+unfoldable pub written : Job → List ℕ
+written j = fileWith j (balance j)

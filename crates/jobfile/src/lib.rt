@@ -1,0 +1,69 @@
+// What the reader and the writer of job files share: the numbers of a request, a run, and the checks on them.
+ghost use mathlib.Core.Path.{_≡_};
+ghost use Rattle.jobfile.specs.Format.{sizesRefusal, fieldsRefusal, extends};
+
+// The four numbers of a request, before they are known to fit.
+pub struct Fields {
+    pub head: u32,
+    pub kind: u32,
+    pub x: u32,
+    pub y: u32,
+}
+
+// A run: that many grants in a row for one head.
+pub struct Run {
+    pub head: u8,
+    pub count: u8,
+}
+
+// The refusal of the number of nodes or of heads, 0 for none.
+pub fn sizes_refusal(nodes: u32, heads: u32) -> u32
+    ensures { λ r. ⌜ r ≡ sizesRefusal nodes heads ⌝ }
+{
+    if nodes == 0 {
+        return 4;
+    }
+    if 4096 < nodes {
+        return 4;
+    }
+    if heads == 0 {
+        return 5;
+    }
+    if 16 < heads {
+        return 5;
+    }
+    0
+}
+
+// The refusal of a request's numbers, in the order of the fields, 0 for none.
+pub fn fields_refusal(nodes: u32, heads: u32, fields: Fields) -> u32
+    ensures { λ r. ⌜ r ≡ fieldsRefusal nodes heads fields ⌝ }
+{
+    if heads <= fields.head {
+        return 6;
+    }
+    if fields.kind == 0 {
+        return 7;
+    }
+    if 2 < fields.kind {
+        return 7;
+    }
+    if nodes <= fields.x {
+        return 8;
+    }
+    if nodes <= fields.y {
+        return 8;
+    }
+    0
+}
+
+// Whether one more grant for this head belongs to the run before it.
+pub fn does_extend(run: Run, head: u8) -> bool
+    ensures { λ r. ⌜ r ≡ extends run head ⌝ }
+{
+    if run.head == head {
+        run.count < 255
+    } else {
+        false
+    }
+}
