@@ -69,11 +69,12 @@ count-less t u (suc n) x l e f h = go (ℕ-discrete n x) (λ k. count-less t u n
 
     go : Dec (n ≡ x) → (x < n → suc (count u n) ≡ count t n) → suc (count u (suc n)) ≡ count t (suc n)
     go (yes d) m =
-        omega
-          (arith,
-           count-in t n (ap t d ∙ e),
-           count-out u n (ap u d ∙ f),
-           count-same t u n (λ i k. h i (λ q. absurd (omega arith))))
+        omega (
+          arith,
+          count-in t n (ap t d ∙ e),
+          count-out u n (ap u d ∙ f),
+          count-same t u n (λ i k. h i (λ q. absurd (omega arith))),
+        )
     go (no d) m = other d (t n) refl (m (omega arith))
 
 pub count-sum : (t u w : ℕ → Bool) (n : ℕ) → ((i : ℕ) → i < n → t i ≡ true → u i ≡ false)
@@ -82,18 +83,18 @@ pub count-sum : (t u w : ℕ → Bool) (n : ℕ) → ((i : ℕ) → i < n → t 
 count-sum t u w zero apart left right = omega arith
 count-sum t u w (suc n) apart left right =
     go
-      (t n)
-      (u n)
-      refl
-      refl
-      (count-sum t u w n (λ i l. apart i (omega arith)) (λ i l. left i (omega arith)) (λ i l. right i (omega arith)))
+    (t n)
+    (u n)
+    refl
+    refl
+    (count-sum t u w n (λ i l. apart i (omega arith)) (λ i l. left i (omega arith)) (λ i l. right i (omega arith)))
   where
     neither : (b : Bool) → w n ≡ b → count w n ≤ count w (suc n)
     neither true e = omega (arith, count-in w n e)
     neither false e = omega (arith, count-out w n e)
 
     go : (a b : Bool) → t n ≡ a → u n ≡ b → count t n + count u n ≤ count w n
-      → count t (suc n) + count u (suc n) ≤ count w (suc n)
+        → count t (suc n) + count u (suc n) ≤ count w (suc n)
     go true b e f m =
         omega (arith, count-in t n e, count-out u n (apart n (omega arith) e), count-in w n (left n (omega arith) e))
     go false true e f m = omega (arith, count-out t n e, count-in u n f, count-in w n (right n (omega arith) f))

@@ -7,7 +7,7 @@
 --   rankTotal r n      the ranks of the nodes below n, summed
 --
 -- Main law: together-iff-label, two nodes share a set in the table exactly when their labels are equal.
-use mathlib.Core.Path.{_≡_, refl, sym, ap, _∙_, subst}
+use mathlib.Core.Path.{_≡_, refl, sym, ap, _∙_}
 use mathlib.Core.Logic.{_≢_, _↔_}
 use Prim.Native.Nat.{ℕ, zero, suc, _+_, _*_, _≤_, _<_}
 use native.Mathlib.Omega.{arith}
@@ -73,7 +73,7 @@ module _ {n : ℕ} {p r : ℕ → ℕ} (formed : WellFormed n p r) where
   leads-within (suc fuel) x l b = go (ℕ-discrete (p x) x) (λ y k. leads-within fuel y k)
     where
       go : Dec (p x ≡ x) → ((y : ℕ) → y < n → suc (rankTotal r n) * nodeLimit ≤ key (r y) y + fuel → Rooted p y)
-        → Rooted p x
+          → Rooted p x
       go (yes e) on = record { end = x; path = root x e }
       go (no d) on =
           let rest = on (p x) (formed .inside x l) (omega (arith, formed .rising x l d)) in
@@ -90,46 +90,31 @@ module _ {n : ℕ} {p r : ℕ → ℕ} (formed : WellFormed n p r) where
     pub together-label : (x y : ℕ) → x < n → y < n → Together p x y → B x ≡ B y
     together-label x y lx ly t = sym (leads-label (t .left) lx) ∙ leads-label (t .right) ly
 
+    -- nodes with one label lead to one root
+    pub leads-one : {x y a b : ℕ} → x < n → y < n → Leads p x a → Leads p y b → B x ≡ B y → a ≡ b
+    leads-one {x} {y} {a} {b} lx ly left right e =
+        labelled .apart
+        a
+        b
+        (leads-inside left lx)
+        (leads-inside right ly)
+        (leads-root left)
+        (leads-root right)
+        (leads-label left lx ∙ e ∙ sym (leads-label right ly))
+
     pub label-together : (x y : ℕ) → x < n → y < n → B x ≡ B y → Together p x y
-    label-together x y lx ly e = record { root = from-x .end; left = from-x .path; right = rw one at (from-y .path) }
-      where
-        from-x : Rooted p x
-        from-x = leads-exists x lx
-
-        from-y : Rooted p y
-        from-y = leads-exists y ly
-
-        one : from-y .end ≡ from-x .end
-        one =
-            labelled .apart
-              (from-y .end)
-              (from-x .end)
-              (leads-inside (from-y .path) ly)
-              (leads-inside (from-x .path) lx)
-              (leads-root (from-y .path))
-              (leads-root (from-x .path))
-              (leads-label (from-y .path) ly ∙ sym e ∙ sym (leads-label (from-x .path) lx))
+    label-together x y lx ly e =
+        let from-x = leads-exists x lx in
+        let from-y = leads-exists y ly in
+        let one : from-y .end ≡ from-x .end = leads-one ly lx (from-y .path) (from-x .path) (sym e) in
+        record { root = from-x .end; left = from-x .path; right = rw one at (from-y .path) }
 
     pub together-iff-label : (x y : ℕ) → x < n → y < n → Together p x y ↔ (B x ≡ B y)
     together-iff-label x y lx ly = (together-label x y lx ly, label-together x y lx ly)
 
     -- a root that comes before another node is in another set: keys rise from that node to its root
     pub before-apart : (x y : ℕ) → x < n → y < n → p x ≡ x → key (r x) x < key (r y) y → B x ≢ B y
-    before-apart x y lx ly e before same = absurd (omega (arith, leads-key (from-y .path) ly, end-key))
-      where
-        from-y : Rooted p y
-        from-y = leads-exists y ly
-
-        one : from-y .end ≡ x
-        one =
-            labelled .apart
-              (from-y .end)
-              x
-              (leads-inside (from-y .path) ly)
-              lx
-              (leads-root (from-y .path))
-              e
-              (leads-label (from-y .path) ly ∙ sym same)
-
-        end-key : key (r (from-y .end)) (from-y .end) ≡ key (r x) x
-        end-key = ap (λ i. key (r i) i) one
+    before-apart x y lx ly e before same =
+        let from-y = leads-exists y ly in
+        let one : from-y .end ≡ x = leads-one ly lx (from-y .path) (root x e) (sym same) in
+        absurd (omega (arith, leads-key (from-y .path) ly, ap r one))

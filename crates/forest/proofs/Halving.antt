@@ -25,18 +25,18 @@ pub record Halving (n : ℕ) (p r B : ℕ → ℕ) (v k u : ℕ) : Type 0 where
   pub before : key (r v) v < key (r u) u
 
 module _ {n : ℕ} {p r B p′ r′ : ℕ → ℕ} {v k u : ℕ} (sound : Sound n p r B) (halving : Halving n p r B v k u)
-         (parents : Changed p p′ v u) (ranks : Changed r r′ v k) where
+    (parents : Changed p p′ v u) (ranks : Changed r r′ v k) where
   pub halving-ranks : (i : ℕ) → r′ i ≡ r i
   halving-ranks = changed-same ranks (halving .rank)
 
   pub halving-root : (i : ℕ) → p′ i ≡ i → p i ≡ i
-  halving-root = moved-root (sound .formed) (halving .target) (halving .before) parents
+  halving-root = moved-root (sound .formed) parents (halving .target) (halving .before)
 
   halving-labelled : Labelled n p′ B
   halving-labelled =
       record {
         along = λ i l. along i l (ℕ-discrete i v);
-        apart = λ i j li lj ri rj. sound .labelled .apart i j li lj (halving-root i ri) (halving-root j rj)
+        apart = λ i j li lj ri rj. sound .labelled .apart i j li lj (halving-root i ri) (halving-root j rj);
       }
     where
       along : (i : ℕ) → i < n → Dec (i ≡ v) → B (p′ i) ≡ B i
@@ -53,10 +53,10 @@ module _ {n : ℕ} {p r B p′ r′ : ℕ → ℕ} {v k u : ℕ} (sound : Sound 
   pub halving-sound : Sound n p′ r′ B
   halving-sound =
       subst
-        (λ s. Sound n p′ s B)
-        (sym (fun-ext halving-ranks))
-        (record {
-           formed = moved-formed (sound .formed) (halving .target) (halving .before) parents;
-           labelled = halving-labelled;
-           heavy = halving-heavy
-         })
+      (λ s. Sound n p′ s B)
+      (sym (fun-ext halving-ranks))
+      (record {
+        formed = moved-formed (sound .formed) parents (halving .target) (halving .before);
+        labelled = halving-labelled;
+        heavy = halving-heavy;
+      })

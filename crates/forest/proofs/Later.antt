@@ -6,7 +6,7 @@
 -- known of the order and of the sets of nodes is still so.
 use mathlib.Core.Path.{_≡_, refl, _∙_, sym}
 use mathlib.Core.Logic.{_≢_}
-use Prim.Native.Nat.{ℕ, suc, _+_, _*_, _≤_, _<_}
+use Prim.Native.Nat.{ℕ, suc, _≤_, _<_}
 use native.Mathlib.Omega.{arith}
 use native.Mathlib.Decide.{ℕ-discrete}
 use Rattle.word.specs.Word.{key}
@@ -37,7 +37,7 @@ later-refl n p r B =
       frozen = λ i l d. refl;
       grows = λ i l. omega arith;
       merges = λ i j li lj e. e;
-      larger = λ i l. omega arith
+      larger = λ i l. omega arith;
     }
 
 pub later-trans : {n : ℕ} {p r B p′ r′ B′ p″ r″ B″ : ℕ → ℕ} → Later n p r B p′ r′ B′ → Later n p′ r′ B′ p″ r″ B″
@@ -48,7 +48,7 @@ later-trans first second =
       frozen = λ i l d. second .frozen i l (λ e. d (first .root i l e)) ∙ first .frozen i l d;
       grows = λ i l. omega (arith, first .grows i l, second .grows i l);
       merges = λ i j li lj e. second .merges i j li lj (first .merges i j li lj e);
-      larger = λ i l. omega (arith, first .larger i l, second .larger i l)
+      larger = λ i l. omega (arith, first .larger i l, second .larger i l);
     }
 
 module _ {n : ℕ} {p r B p′ r′ B′ : ℕ → ℕ} (later : Later n p r B p′ r′ B′) where
@@ -68,7 +68,7 @@ halving-later sound halving parents ranks =
       frozen = λ i l d. halving-ranks sound halving parents ranks i;
       grows = λ i l. omega (arith, halving-ranks sound halving parents ranks i);
       merges = λ i j li lj e. e;
-      larger = λ i l. omega arith
+      larger = λ i l. omega arith;
     }
 
 pub linking-later : {n : ℕ} {p r B B′ p′ r′ : ℕ → ℕ} {x k y : ℕ} → Sound n p r B → Linking n p r B B′ x k y
@@ -79,7 +79,7 @@ linking-later {n} sound linking parents ranks =
       frozen = λ i l d. linking-ranks sound linking parents ranks i;
       grows = λ i l. omega (arith, linking-ranks sound linking parents ranks i);
       merges = λ i j li lj. linking .labels .kept i j;
-      larger = λ i l. merged-grows (linking .labels) n i
+      larger = λ i l. merged-grows (linking .labels) n i;
     }
 
 pub raising-later : {n : ℕ} {p r B p′ r′ : ℕ → ℕ} {y k : ℕ} → Sound n p r B → Raising n p r B y k → Changed p p′ y y
@@ -90,7 +90,7 @@ raising-later {n} {p} {r} {B} {p′} {r′} {y} {k} sound raising parents ranks 
       frozen = λ i l. raising-frozen sound raising parents ranks i;
       grows = λ i l. grows i (ℕ-discrete i y);
       merges = λ i j li lj e. e;
-      larger = λ i l. omega arith
+      larger = λ i l. omega arith;
     }
   where
     grows : (i : ℕ) → Dec (i ≡ y) → r i ≤ r′ i

@@ -6,7 +6,7 @@
 -- linking-weight, the set made has the nodes that a rank of k + 1 asks for.
 use mathlib.Core.Path.{_≡_, sym, ap, _∙_, subst, fun-ext}
 use mathlib.Core.Logic.{_≢_}
-use Prim.Native.Nat.{ℕ, suc, _+_, _*_, _^_, _≤_, _<_}
+use Prim.Native.Nat.{ℕ, suc, _^_, _≤_, _<_}
 use native.Mathlib.Omega.{arith}
 use native.Mathlib.Decide.{ℕ-discrete}
 use lib.Pow.{pow-mono}
@@ -34,36 +34,37 @@ module _ {n : ℕ} {p r B B′ : ℕ → ℕ} {x k y : ℕ} (sound : Sound n p r
   pub linking-apart : B x ≢ B y
   linking-apart =
       before-apart
-        (sound .formed)
-        (sound .labelled)
-        x
-        y
-        (linking .node)
-        (linking .target)
-        (linking .root)
-        (linking .before)
+      (sound .formed)
+      (sound .labelled)
+      x
+      y
+      (linking .node)
+      (linking .target)
+      (linking .root)
+      (linking .before)
 
   -- x's rank is at most y's, so each of the two sets had 2 ^ k nodes
   pub linking-weight : 2 ^ suc k ≤ size n B′ (B′ y)
   linking-weight =
       let low : r x ≤ r y = omega (arith, linking .node, linking .target, linking .before, sound .formed .limit) in
-      omega
-        (arith,
-         ap (λ m. 2 ^ m) (linking .rank),
-         pow-mono low,
-         sound .heavy .all x (linking .node),
-         sound .heavy .all y (linking .target),
-         merged-size (linking .labels) n linking-apart)
+      omega (
+        arith,
+        ap (λ m. 2 ^ m) (linking .rank),
+        pow-mono low,
+        sound .heavy .all x (linking .node),
+        sound .heavy .all y (linking .target),
+        merged-size (linking .labels) n linking-apart,
+      )
 
   module _ {p′ r′ : ℕ → ℕ} (parents : Changed p p′ x y) (ranks : Changed r r′ x k) where
     pub linking-ranks : (i : ℕ) → r′ i ≡ r i
     linking-ranks = changed-same ranks (linking .rank)
 
     pub linking-other : (i : ℕ) → p′ i ≡ i → i ≢ x
-    linking-other = moved-other (sound .formed) (linking .target) (linking .before) parents
+    linking-other = moved-other (sound .formed) parents (linking .target) (linking .before)
 
     pub linking-root : (i : ℕ) → p′ i ≡ i → p i ≡ i
-    linking-root = moved-root (sound .formed) (linking .target) (linking .before) parents
+    linking-root = moved-root (sound .formed) parents (linking .target) (linking .before)
 
     -- a root of x's set would be x, which is a root no more
     linking-not-x : (i : ℕ) → i < n → p′ i ≡ i → B i ≢ B x
@@ -74,7 +75,7 @@ module _ {n : ℕ} {p r B B′ : ℕ → ℕ} {x k y : ℕ} (sound : Sound n p r
     linking-labelled =
         record {
           along = λ i l. along i l (ℕ-discrete i x);
-          apart = λ i j li lj ri rj e. apart i j li lj ri rj (linking .labels .only i j e)
+          apart = λ i j li lj ri rj e. apart i j li lj ri rj (linking .labels .only i j e);
         }
       where
         along : (i : ℕ) → i < n → Dec (i ≡ x) → B′ (p′ i) ≡ B′ i
@@ -90,24 +91,25 @@ module _ {n : ℕ} {p r B B′ : ℕ → ℕ} {x k y : ℕ} (sound : Sound n p r
     linking-heavy =
         record {
           all = λ i l. omega (arith, sound .heavy .all i l, merged-grows (linking .labels) n i);
-          lower = λ i l d. lower i l d (ℕ-discrete i x)
+          lower = λ i l d. lower i l d (ℕ-discrete i x);
         }
       where
         lower : (i : ℕ) → i < n → p′ i ≢ i → Dec (i ≡ x) → 2 ^ suc (r i) ≤ size n B′ (B′ i)
         lower i l d (yes e) = rw (e, ← linking .rank, linking .labels .joined) linking-weight
         lower i l d (no e) =
-            omega
-              (arith,
-               sound .heavy .lower i l (λ f. d (parents .other i e ∙ f)),
-               merged-grows (linking .labels) n i)
+            omega (
+              arith,
+              sound .heavy .lower i l (λ f. d (parents .other i e ∙ f)),
+              merged-grows (linking .labels) n i,
+            )
 
     pub linking-sound : Sound n p′ r′ B′
     linking-sound =
         subst
-          (λ s. Sound n p′ s B′)
-          (sym (fun-ext linking-ranks))
-          (record {
-             formed = moved-formed (sound .formed) (linking .target) (linking .before) parents;
-             labelled = linking-labelled;
-             heavy = linking-heavy
-           })
+        (λ s. Sound n p′ s B′)
+        (sym (fun-ext linking-ranks))
+        (record {
+          formed = moved-formed (sound .formed) parents (linking .target) (linking .before);
+          labelled = linking-labelled;
+          heavy = linking-heavy;
+        })

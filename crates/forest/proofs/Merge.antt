@@ -8,8 +8,8 @@
 -- same sets; merged-size, the set made is as large as the two were together.
 use mathlib.Core.Path.{_≡_, refl, sym, ap, _∙_}
 use mathlib.Core.Logic.{_≢_}
-use mathlib.Core.Bool.{Bool, cond}
-use Prim.Native.Nat.{ℕ, _+_, _≤_, _<_}
+use mathlib.Core.Bool.{cond}
+use Prim.Native.Nat.{ℕ, _+_, _≤_}
 use native.Mathlib.Decide.{ℕ-discrete}
 use lib.Dec.{eqb}
 use borrow.Author.Tests.{eq-eqb, ne-eqb}
@@ -54,7 +54,7 @@ module _ {B B′ : ℕ → ℕ} {a b : ℕ} (merged : Merged B B′ a b) where
       record {
         kept = merged .kept;
         joined = merged-joined x y ends;
-        only = λ i j e. joint-change ends (merged .only i j e)
+        only = λ i j e. joint-change ends (merged .only i j e);
       }
 
   pub merged-crossed : Merged B B′ b a
@@ -66,15 +66,15 @@ module _ {B B′ : ℕ → ℕ} {a b : ℕ} (merged : Merged B B′ a b) where
   pub merged-size : (n : ℕ) → B a ≢ B b → size n B (B a) + size n B (B b) ≤ size n B′ (B′ b)
   merged-size n apart =
       size-sum
-        n
-        B
-        B′
-        (B a)
-        (B b)
-        (B′ b)
-        apart
-        (λ i l e. merged .kept i a e ∙ merged .joined)
-        (λ i l e. merged .kept i b e)
+      n
+      B
+      B′
+      (B a)
+      (B b)
+      (B′ b)
+      apart
+      (λ i l e. merged .kept i a e ∙ merged .joined)
+      (λ i l e. merged .kept i b e)
 
 -- Relabelling: every node labelled as a gets the label of b, the others keep theirs.
 module _ (B B′ : ℕ → ℕ) (a b : ℕ) (relabelled : (i : ℕ) → B′ i ≡ cond (eqb (B i) (B a)) (B b) (B i)) where
@@ -102,5 +102,5 @@ module _ (B B′ : ℕ → ℕ) (a b : ℕ) (relabelled : (i : ℕ) → B′ i �
       record {
         kept = relabelled-kept;
         joined = relabelled-joined (ℕ-discrete (B b) (B a));
-        only = λ i j. relabelled-only i j (ℕ-discrete (B i) (B a)) (ℕ-discrete (B j) (B a))
+        only = λ i j. relabelled-only i j (ℕ-discrete (B i) (B a)) (ℕ-discrete (B j) (B a));
       }

@@ -5,7 +5,7 @@
 -- Main law: raising-sound, the table stays sound.
 use mathlib.Core.Path.{_≡_, sym, ap, _∙_, subst, fun-ext}
 use mathlib.Core.Logic.{_≢_}
-use Prim.Native.Nat.{ℕ, suc, _+_, _*_, _^_, _≤_, _<_}
+use Prim.Native.Nat.{ℕ, suc, _^_, _≤_, _<_}
 use native.Mathlib.Omega.{arith}
 use native.Mathlib.Decide.{ℕ-discrete}
 use Rattle.word.specs.Word.{key}
@@ -22,11 +22,11 @@ pub record Raising (n : ℕ) (p r B : ℕ → ℕ) (y k : ℕ) : Type 0 where
   pub weight : 2 ^ suc k ≤ size n B (B y)
 
 module _ {n : ℕ} {p r B p′ r′ : ℕ → ℕ} {y k : ℕ} (sound : Sound n p r B) (raising : Raising n p r B y k)
-         (parents : Changed p p′ y y) (ranks : Changed r r′ y (suc k)) where
+    (parents : Changed p p′ y y) (ranks : Changed r r′ y (suc k)) where
   pub raising-parents : (i : ℕ) → p′ i ≡ p i
   raising-parents = changed-same parents (sym (raising .root))
 
-  -- no child of a root is the root
+  -- y is a root
   raising-other : (i : ℕ) → p i ≢ i → i ≢ y
   raising-other i d e = d (ap p e ∙ raising .root ∙ sym e)
 
@@ -38,7 +38,7 @@ module _ {n : ℕ} {p r B p′ r′ : ℕ → ℕ} {y k : ℕ} (sound : Sound n 
       record {
         limit = sound .formed .limit;
         inside = sound .formed .inside;
-        rising = λ i l d. rising i l d (ℕ-discrete (p i) y)
+        rising = λ i l d. rising i l d (ℕ-discrete (p i) y);
       }
     where
       rising : (i : ℕ) → i < n → p i ≢ i → Dec (p i ≡ y) → key (r′ i) i < key (r′ (p i)) (p i)
@@ -50,7 +50,7 @@ module _ {n : ℕ} {p r B p′ r′ : ℕ → ℕ} {y k : ℕ} (sound : Sound n 
   raising-heavy =
       record {
         all = λ i l. all i l (ℕ-discrete i y);
-        lower = λ i l d. rw (raising-frozen i d) (sound .heavy .lower i l d)
+        lower = λ i l d. rw (raising-frozen i d) (sound .heavy .lower i l d);
       }
     where
       all : (i : ℕ) → i < n → Dec (i ≡ y) → 2 ^ r′ i ≤ size n B (B i)
@@ -60,6 +60,6 @@ module _ {n : ℕ} {p r B p′ r′ : ℕ → ℕ} {y k : ℕ} (sound : Sound n 
   pub raising-sound : Sound n p′ r′ B
   raising-sound =
       subst
-        (λ q. Sound n q r′ B)
-        (sym (fun-ext raising-parents))
-        (record { formed = raising-formed; labelled = sound .labelled; heavy = raising-heavy })
+      (λ q. Sound n q r′ B)
+      (sym (fun-ext raising-parents))
+      (record { formed = raising-formed; labelled = sound .labelled; heavy = raising-heavy })

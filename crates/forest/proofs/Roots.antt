@@ -1,8 +1,10 @@
 -- How many roots a table has: all nodes at the start, one less with each link, the same after the other writes.
+--
+--   isRoot p i   the test that counts: node i is its own parent
 use mathlib.Core.Path.{_≡_, refl, sym, ap, _∙_}
 use mathlib.Core.Logic.{_≢_}
 use mathlib.Core.Bool.{Bool}
-use Prim.Native.Nat.{ℕ, suc, _<_}
+use Prim.Native.Nat.{ℕ, suc}
 use native.Mathlib.Decide.{ℕ-discrete}
 use lib.Dec.{eqb}
 use borrow.Author.Tests.{eq-eqb, ne-eqb}
@@ -36,14 +38,14 @@ pub linking-roots : {n : ℕ} {p r B B′ p′ r′ : ℕ → ℕ} {x k y : ℕ}
     → Changed p p′ x y → Changed r r′ x k → suc (rootCount p′ n) ≡ rootCount p n
 linking-roots {n} {p} {r} {B} {B′} {p′} {r′} {x} sound linking parents ranks =
     count-less
-      (isRoot p)
-      (isRoot p′)
-      n
-      x
-      (linking .node)
-      (eq-eqb (p x) x (linking .root))
-      (ne-eqb (p′ x) x (λ e. linking-other sound linking parents ranks x e refl))
-      (λ i d. ap (λ q. eqb q i) (sym (parents .other i d)))
+    (isRoot p)
+    (isRoot p′)
+    n
+    x
+    (linking .node)
+    (eq-eqb (p x) x (linking .root))
+    (ne-eqb (p′ x) x (λ e. linking-other sound linking parents ranks x e refl))
+    (λ i d. ap (λ q. eqb q i) (sym (parents .other i d)))
 
 pub raising-roots : {n : ℕ} {p r B p′ r′ : ℕ → ℕ} {y k : ℕ} → Sound n p r B → Raising n p r B y k → Changed p p′ y y
     → Changed r r′ y (suc k) → rootCount p′ n ≡ rootCount p n

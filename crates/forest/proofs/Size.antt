@@ -6,8 +6,7 @@
 -- goes over into another is no larger; size-sum, two sets that go over into one are together no larger.
 use mathlib.Core.Path.{_≡_, refl, sym, _∙_}
 use mathlib.Core.Logic.{_≢_}
-use mathlib.Core.Bool.{Bool, true}
-use Prim.Native.Nat.{ℕ, zero, suc, _+_, _≤_, _<_}
+use Prim.Native.Nat.{ℕ, _+_, _≤_, _<_}
 use lib.Dec.{eqb}
 use borrow.Author.Tests.{eqb-true, eq-eqb, ne-eqb}
 use Rattle.forest.specs.Forest.{count}
@@ -30,13 +29,13 @@ pub size-sum : (n : ℕ) (B B′ : ℕ → ℕ) (l m k : ℕ) → l ≢ m → ((
 unfolding size
 size-sum n B B′ l m k apart left right =
     count-sum
-      (λ i. eqb (B i) l)
-      (λ i. eqb (B i) m)
-      (λ i. eqb (B′ i) k)
-      n
-      (λ i h e. ne-eqb (B i) m (λ f. apart (sym (eqb-true (B i) l e) ∙ f)))
-      (λ i h e. eq-eqb (B′ i) k (left i h (eqb-true (B i) l e)))
-      (λ i h e. eq-eqb (B′ i) k (right i h (eqb-true (B i) m e)))
+    (λ i. eqb (B i) l)
+    (λ i. eqb (B i) m)
+    (λ i. eqb (B′ i) k)
+    n
+    (λ i h e. ne-eqb (B i) m (λ f. apart (sym (eqb-true (B i) l e) ∙ f)))
+    (λ i h e. eq-eqb (B′ i) k (left i h (eqb-true (B i) l e)))
+    (λ i h e. eq-eqb (B′ i) k (right i h (eqb-true (B i) m e)))
 
 pub size-positive : (n : ℕ) (B : ℕ → ℕ) (i : ℕ) → i < n → 1 ≤ size n B (B i)
 unfolding size

@@ -4,15 +4,15 @@
 --   Sound n p r B   well formed, labelled and heavy
 --   Start n p r B   document 01's start: each node its own parent, rank 0 and alone
 --
--- Main laws: start-sound, the start is sound; rank-bound and rank-limit, ranks stay below the logarithm of the node
--- count.
-use mathlib.Core.Path.{_≡_, refl, sym, ap, _∙_}
+-- Main laws: start-sound, the start is sound; rank-bound and rank-limit, ranks never exceed the base-2 logarithm of
+-- the node count.
+use mathlib.Core.Path.{_≡_, sym, ap, _∙_}
 use mathlib.Core.Logic.{_≢_}
 use Prim.Native.Nat.{ℕ, suc, _^_, _≤_, _<_}
 use native.Mathlib.Omega.{arith}
 use native.Mathlib.Decide.{decLe}
 use lib.Pow.{pow-mono, pow-pos}
-use Rattle.word.specs.Word.{key, nodeLimit}
+use Rattle.word.specs.Word.{nodeLimit}
 use Rattle.forest.proofs.Forest.{WellFormed, Labelled}
 use Rattle.forest.proofs.Size.{size, size-le, size-positive}
 
@@ -57,21 +57,21 @@ module _ {n : ℕ} {p r B : ℕ → ℕ} (start : Start n p r B) where
       record {
         limit = start .limit;
         inside = λ i l. omega (arith, start .roots i l);
-        rising = λ i l d. absurd (d (start .roots i l))
+        rising = λ i l d. absurd (d (start .roots i l));
       }
 
   start-labelled : Labelled n p B
   start-labelled =
       record {
         along = λ i l. ap B (start .roots i l);
-        apart = λ i j li lj _ _ e. sym (start .alone i li) ∙ e ∙ start .alone j lj
+        apart = λ i j li lj _ _ e. sym (start .alone i li) ∙ e ∙ start .alone j lj;
       }
 
   start-heavy : Heavy n p r B
   start-heavy =
       record {
         all = λ i l. rw (start .ranks i l) (size-positive n B i l);
-        lower = λ i l d. absurd (d (start .roots i l))
+        lower = λ i l d. absurd (d (start .roots i l));
       }
 
   pub start-sound : Sound n p r B

@@ -6,7 +6,7 @@
 -- after the node makes no root and keeps the table well formed.
 use mathlib.Core.Path.{_≡_, sym, ap, _∙_}
 use mathlib.Core.Logic.{_≢_}
-use Prim.Native.Nat.{ℕ, _+_, _*_, _<_}
+use Prim.Native.Nat.{ℕ, _<_}
 use native.Mathlib.Omega.{arith}
 use native.Mathlib.Decide.{ℕ-discrete}
 use Rattle.word.specs.Word.{key}
@@ -25,8 +25,8 @@ changed-same {f} {g} {v} {u} change e j = go (ℕ-discrete j v)
     go (no d) = change .other j d
 
 -- A new parent u of v that comes after v makes no root and keeps the table well formed.
-module _ {n : ℕ} {p r p′ : ℕ → ℕ} {v u : ℕ} (formed : WellFormed n p r) (target : u < n)
-         (before : key (r v) v < key (r u) u) (change : Changed p p′ v u) where
+module _ {n : ℕ} {p r p′ : ℕ → ℕ} {v u : ℕ} (formed : WellFormed n p r) (change : Changed p p′ v u) (target : u < n)
+    (before : key (r v) v < key (r u) u) where
   pub moved-other : (i : ℕ) → p′ i ≡ i → i ≢ v
   moved-other i e d =
       let one : u ≡ v = sym (change .at) ∙ ap p′ (sym d) ∙ e ∙ d in
@@ -40,7 +40,7 @@ module _ {n : ℕ} {p r p′ : ℕ → ℕ} {v u : ℕ} (formed : WellFormed n p
       record {
         limit = formed .limit;
         inside = λ i l. inside i l (ℕ-discrete i v);
-        rising = λ i l d. rising i l d (ℕ-discrete i v)
+        rising = λ i l d. rising i l d (ℕ-discrete i v);
       }
     where
       inside : (i : ℕ) → i < n → Dec (i ≡ v) → p′ i < n
