@@ -3,17 +3,18 @@
 --   entry point request   the entry of two numbers
 --   Free point es         no entry has that point
 --   Below limit es        every point is less than the limit
-use mathlib.Core.Path.{_≡_, refl, sym, ap, _∙_, subst}
+use mathlib.Core.Path.{_≡_, refl, sym, ap, _∙_}
 use mathlib.Core.Logic.{_≢_}
 use mathlib.Core.Bool.{Bool, true, false, cond}
 use mathlib.Core.List.{List, [], _∷_, _++_, List·Memᴰ, List·Memᴰ·head, List·Memᴰ·tail, Memᴰ·append-right}
-use Prim.Native.Nat.{ℕ, zero, suc, _+_, _≤_, _<_}
+use Prim.Native.Nat.{ℕ, zero, suc, _≤_, _<_}
 use native.Mathlib.Omega.{arith}
 use native.Mathlib.Decide.{decLt}
 use lib.Dec.{eqb, ltb}
 use lib.ListN.{length, take, drop, getD}
-use borrow.Author.Tests.{eqb-true, eqb-false, eq-eqb, ne-eqb, ltb-true, ltb-false, lt-ltb, le-ltb}
-use Rattle.linearization.specs.Entry.{Entry, insert, earlier, Rising, none, rises, occurrences}
+use borrow.Author.Tests.{eq-eqb, ne-eqb, ltb-true, ltb-false, lt-ltb, le-ltb}
+use Rattle.linearization.specs.Entry.{Entry, insert, earlier, Rising, empty, rises, occurrences}
+use Rattle.linearization.proofs.Tests.{split}
 
 abbrev pub entry : ℕ → ℕ → Entry
 entry point request = record { point = point; request = request }
@@ -23,11 +24,6 @@ Free point es = (e : Entry) → List·Memᴰ e es → e .point ≢ point
 
 abbrev pub Below : ℕ → List Entry → Type 0
 Below limit es = (e : Entry) → List·Memᴰ e es → e .point < limit
-
--- Both outcomes of a test, each with its equation.
-pub split : {A : Type 0} (t : Bool) → (t ≡ true → A) → (t ≡ false → A) → A
-split true f g = f refl
-split false f g = g refl
 
 -- ---- insertion
 
@@ -54,8 +50,10 @@ module _ (point request : ℕ) where
   occurrences-insert q [] = refl
   occurrences-insert q (e ∷ es) =
       split (ltb point (e .point)) (λ t. rw (t, occurrences))
-      (λ t. rw (t, occurrences)
-      (ap (λ n. cond (eqb (e .request) q) (suc n) n) (occurrences-insert q es) ∙ count-swap (eqb (e .request) q) (eqb request q) (occurrences q es)))
+      (λ t.
+      rw (t, occurrences)
+      (ap (λ n. cond (eqb (e .request) q) (suc n) n) (occurrences-insert q es)
+      ∙ count-swap (eqb (e .request) q) (eqb request q) (occurrences q es)))
 
   pub occurrences-inserted : (es : List Entry) → occurrences request (insert point request es) ≡ suc (occurrences request es)
   occurrences-inserted es = occurrences-insert request es ∙ rw (eq-eqb request request refl)
@@ -65,7 +63,7 @@ module _ (point request : ℕ) where
 
   -- rising entries still rise with one more at a point of its own
   pub rising-insert : {low : ℕ} (es : List Entry) → low < point → Free point es → Rising low es → Rising low (insert point request es)
-  rising-insert [] above free none = rises above none
+  rising-insert [] above free empty = rises above empty
   rising-insert (e ∷ es) above free (rises first rest) =
       split (ltb point (e .point)) (λ t. rw t (rises above (rises (ltb-true point (e .point) t) rest)))
       (λ t.
@@ -75,10 +73,12 @@ module _ (point request : ℕ) where
 
   -- where the entry goes in: behind the earlier ones
   pub insert-split :
-    (es : List Entry) →
-    insert point request es ≡ take (earlier point es) es ++ entry point request ∷ drop (earlier point es) es
+      (es : List Entry) →
+      insert point request es ≡ take (earlier point es) es ++ entry point request ∷ drop (earlier point es) es
   insert-split [] = refl
-  insert-split (e ∷ es) = split (ltb point (e .point)) (λ t. rw (t, take, drop)) (λ t. rw (t, take, drop) (ap {B = List Entry} (λ r. e ∷ r) (insert-split es)))
+  insert-split (e ∷ es) =
+      split (ltb point (e .point)) (λ t. rw (t, take, drop))
+      (λ t. rw (t, take, drop) (ap {B = List Entry} (λ r. e ∷ r) (insert-split es)))
 
 -- ---- occurrences
 
@@ -107,32 +107,34 @@ rising-member (rises first rest) (List·Memᴰ·tail member) = omega (arith, ris
 
 -- the entries in front of others that rise with them rise
 pub rising-front : {low : ℕ} (es fs : List Entry) → Rising low (es ++ fs) → Rising low es
-rising-front [] fs rising = none
+rising-front [] fs rising = empty
 rising-front (e ∷ es) fs (rises first rest) = rises first (rising-front es fs rest)
 
-module _ (d : Entry) where
-  pub rising-above : {low : ℕ} {es : List Entry} → Rising low es → (i : ℕ) → i < length es → low < getD es i d .point
-  rising-above none i h = absurd (omega arith)
+module _ (default : Entry) where
+  pub rising-above : {low : ℕ} {es : List Entry} → Rising low es → (i : ℕ) → i < length es → low < getD es i default .point
+  rising-above empty i h = absurd (omega arith)
   rising-above (rises first rest) zero h = first
   rising-above (rises first rest) (suc i) h = omega (arith, rising-above rest i (omega arith))
 
   -- an entry that stands before another has the lower point
   pub rising-order :
-    {low : ℕ} {es : List Entry} → Rising low es → (i j : ℕ) → i < j → j < length es → getD es i d .point < getD es j d .point
-  rising-order none i j before within = absurd (omega arith)
+      {low : ℕ} {es : List Entry} → Rising low es →
+      (i j : ℕ) → i < j → j < length es → getD es i default .point < getD es j default .point
+  rising-order empty i j before within = absurd (omega arith)
   rising-order (rises first rest) i zero before within = absurd (omega arith)
   rising-order (rises first rest) zero (suc j) before within = rising-above rest j (omega arith)
   rising-order (rises first rest) (suc i) (suc j) before within = rising-order rest i j (omega arith) (omega arith)
 
   -- and an entry with the lower point stands before
   pub rising-position :
-    {low : ℕ} {es : List Entry} → Rising low es → (i j : ℕ) → i < length es → getD es i d .point < getD es j d .point → i < j
+      {low : ℕ} {es : List Entry} → Rising low es →
+      (i j : ℕ) → i < length es → getD es i default .point < getD es j default .point → i < j
   rising-position {es = es} rising i j within lower = go (decLt i j) (decLt j i)
     where
       go : Dec (i < j) → Dec (j < i) → i < j
       go (yes before) back = before
       go (no after) (yes back) = absurd (omega (arith, rising-order rising j i back within))
-      go (no after) (no back) = let same : i ≡ j = omega arith in absurd (omega (arith, ap (λ k. getD es k d .point) same))
+      go (no after) (no back) = let same : i ≡ j = omega arith in absurd (omega (arith, ap (λ k. getD es k default .point) same))
 
 -- ---- how many entries are earlier
 
@@ -147,8 +149,8 @@ earlier-later point (f ∷ es) e h = split (ltb point (f .point)) (λ t. rw t) (
 
 -- where the last of rising entries is not later, all are earlier
 pub earlier-last :
-  {low : ℕ} (point : ℕ) (es : List Entry) (e : Entry) → Rising low (es ++ (e ∷ [])) → e .point ≤ point →
-  earlier point (es ++ (e ∷ [])) ≡ suc (length es)
+    {low : ℕ} (point : ℕ) (es : List Entry) (e : Entry) → Rising low (es ++ (e ∷ [])) → e .point ≤ point →
+    earlier point (es ++ (e ∷ [])) ≡ suc (length es)
 earlier-last point [] e rising h = rw (le-ltb point (e .point) h)
 earlier-last point (f ∷ es) e (rises first rest) h =
     let f-lower : f .point < e .point = rising-member rest (Memᴰ·append-right es (List·Memᴰ·head refl)) in

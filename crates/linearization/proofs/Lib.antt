@@ -1,4 +1,5 @@
 -- The laws of the sequential specification, of entries, of their numbers and of replays.
+pub mod Tests
 pub mod Partition
 pub mod Entries
 pub mod Numbers

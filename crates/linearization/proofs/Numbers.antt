@@ -1,8 +1,7 @@
 -- Entries as numbers in a lent buffer: from the one to the other and back, and what an insertion leaves there.
 --
---   length-flat, entriesOf-flat, flat-entriesOf      two numbers an entry, both ways
---   insertable-shown, inserted-shown                 for a buffer that shows entries, with numbers past them
---   inserted-parts                                   the buffer after an insertion, by its parts
+-- Main laws: entriesOf-flat and flat-entriesOf, each is the other's inverse; insertable-shown and inserted-shown, of a
+-- buffer that shows entries with numbers past them; inserted-parts, an insertion by its parts of the buffer.
 use mathlib.Core.Path.{_≡_, refl, sym, ap, ap₂, _∙_, subst}
 use mathlib.Core.List.{List, [], _∷_, _++_, append-assoc}
 use Prim.Native.Nat.{ℕ, zero, suc, _+_, _*_, _≤_}
@@ -61,18 +60,18 @@ module _ (es : List Entry) (rest : List ℕ) where
       }
 
   pub inserted-shown :
-    (point request : ℕ) → inserted (flat es ++ rest) (length es) point request ≡ flat (insert point request es) ++ drop 2 rest
+      (point request : ℕ) → inserted (flat es ++ rest) (length es) point request ≡ flat (insert point request es) ++ drop 2 rest
   unfolding inserted
   inserted-shown point request =
       let past : drop (2 * length es + 2) (flat es ++ rest) ≡ drop 2 rest =
-        ap (λ k. drop (k + 2) (flat es ++ rest)) (sym (length-flat es)) ∙ drop-append-add (flat es) rest 2 in
+      ap (λ k. drop (k + 2) (flat es ++ rest)) (sym (length-flat es)) ∙ drop-append-add (flat es) rest 2 in
       ap₂ (λ fs tail. flat (insert point request fs) ++ tail) listed-shown past
 
 -- ---- the first entries of a buffer
 
 pub listed-suc :
-  (n : ℕ) (numbers : List ℕ) → 2 * n + 2 ≤ length numbers →
-  listed numbers (suc n) ≡ listed numbers n ++ (entry (getD numbers (2 * n) 0) (getD numbers (2 * n + 1) 0) ∷ [])
+    (n : ℕ) (numbers : List ℕ) → 2 * n + 2 ≤ length numbers →
+    listed numbers (suc n) ≡ listed numbers n ++ (entry (getD numbers (2 * n) 0) (getD numbers (2 * n + 1) 0) ∷ [])
 listed-suc n [] room = absurd (omega arith)
 listed-suc n (p ∷ []) room = absurd (omega arith)
 listed-suc zero (p ∷ q ∷ numbers) room = refl
@@ -88,15 +87,15 @@ module _ (numbers : List ℕ) (n : ℕ) (room : 2 * n ≤ length numbers) where
 
   -- the buffer after an insertion at position k, by its parts
   pub inserted-parts :
-    (point request k : ℕ) → k ≡ earlier point (listed numbers n) →
-    inserted numbers n point request
-    ≡ take (2 * k) numbers ++ point ∷ request ∷ (drop (2 * k) (take (2 * n) numbers) ++ drop (2 * n + 2) numbers)
+      (point request k : ℕ) → k ≡ earlier point (listed numbers n) →
+      inserted numbers n point request
+      ≡ take (2 * k) numbers ++ point ∷ request ∷ (drop (2 * k) (take (2 * n) numbers) ++ drop (2 * n + 2) numbers)
   unfolding inserted
   inserted-parts point request k is =
       let es = listed numbers n in
       let within : 2 * k ≤ 2 * n = omega (arith, earlier-le point es, length-listed) in
       let front : flat (take k es) ≡ take (2 * k) numbers =
-        flat-take k es ∙ ap (take (2 * k)) flat-listed ∙ take-take (2 * k) (2 * n) numbers within in
+      flat-take k es ∙ ap (take (2 * k)) flat-listed ∙ take-take (2 * k) (2 * n) numbers within in
       let behind : flat (drop k es) ≡ drop (2 * k) (take (2 * n) numbers) = flat-drop k es ∙ ap (drop (2 * k)) flat-listed in
       let cut : insert point request es ≡ take k es ++ entry point request ∷ drop k es = rw is (insert-split point request es) in
       rw (cut, flat-append, front, behind, append-assoc)

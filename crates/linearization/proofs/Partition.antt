@@ -1,7 +1,8 @@
 -- Laws of the sequential specification: what it answers, and which nodes share a set after a join.
 --
 --   Shared B a b i j   how i and j can share a set once the sets of a and b are joined
---   Unchanged B o      the operation o leaves the labels B as they are
+--   Joining B o        the operation o is a union of two sets of B
+--   Unjoined B o       the operation o leaves the labels B as they are
 use mathlib.Core.Path.{_≡_, refl, sym, ap, _∙_, fun-ext}
 use mathlib.Core.Logic.{_≢_}
 use mathlib.Core.Bool.{Bool, true, false, cond}
@@ -13,6 +14,7 @@ use Rattle.job.specs.declared.Kind.{Kind}
 use Rattle.job.specs.declared.Kind.the-variants.{Union, SameSet}
 use Rattle.job.specs.declared.Answer.the-variants.{Joined}
 use Rattle.linearization.specs.Partition.{Labels, Operation, join, replyTo, reply, nextOf, next}
+use Rattle.linearization.proofs.Tests.{split}
 
 pub reply-together : (B : Labels) (o : Operation) → B (o .x) ≡ B (o .y) → reply B o ≡ replyTo (o .kind) true
 unfolding reply
@@ -35,11 +37,8 @@ module _ (B : Labels) (a b : ℕ) where
 
   -- b's set keeps its label
   pub join-target : (i : ℕ) → B i ≡ B b → join B a b i ≡ B b
-  join-target i e = go (eqb (B i) (B a)) refl
-    where
-      go : (t : Bool) → eqb (B i) (B a) ≡ t → join B a b i ≡ B b
-      go true t = join-moved i (eqb-true (B i) (B a) t)
-      go false t = join-other i (eqb-false (B i) (B a) t) ∙ e
+  join-target i e =
+      split (eqb (B i) (B a)) (λ t. join-moved i (eqb-true (B i) (B a) t)) (λ t. join-other i (eqb-false (B i) (B a) t) ∙ e)
 
   -- nodes that shared a set still do
   pub join-kept : (i j : ℕ) → B i ≡ B j → join B a b i ≡ join B a b j
@@ -52,11 +51,11 @@ module _ (B : Labels) (a b : ℕ) where
 
   -- a join of two nodes that share a set changes nothing
   pub join-together : B a ≡ B b → join B a b ≡ B
-  join-together e = fun-ext (λ i. go i (eqb (B i) (B a)) refl)
-    where
-      go : (i : ℕ) (t : Bool) → eqb (B i) (B a) ≡ t → join B a b i ≡ B i
-      go i true t = join-moved i (eqb-true (B i) (B a) t) ∙ sym (eqb-true (B i) (B a) t ∙ e)
-      go i false t = join-other i (eqb-false (B i) (B a) t)
+  join-together e =
+      fun-ext
+      (λ i.
+      split (eqb (B i) (B a)) (λ t. join-moved i (eqb-true (B i) (B a) t) ∙ sym (eqb-true (B i) (B a) t ∙ e))
+      (λ t. join-other i (eqb-false (B i) (B a) t)))
 
 pub data Shared (B : Labels) (a b i j : ℕ) : Type 0 where
   before : B i ≡ B j → Shared B a b i j
@@ -78,8 +77,24 @@ join-only B a b i j e = go (eqb (B i) (B a)) (eqb (B j) (B a)) refl refl
     go false false s t =
         before (sym (join-other B a b i (eqb-false (B i) (B a) s)) ∙ e ∙ join-other B a b j (eqb-false (B j) (B a) t))
 
-abbrev pub Unchanged : Labels → Operation → Type 0
-Unchanged B o = next B o ≡ B
+-- what joined means: a union of nodes in two sets
+pub record Joining (B : Labels) (o : Operation) : Type 0 where
+  pub union : o .kind ≡ Union
+  pub distinct : B (o .x) ≢ B (o .y)
+
+-- joined is told to nothing else
+pub reply-joined : (B : Labels) (o : Operation) → reply B o ≡ Joined → Joining B o
+unfolding reply
+reply-joined B o told = go (o .kind) refl (eqb (B (o .x)) (B (o .y))) refl told
+  where
+    go : (k : Kind) → o .kind ≡ k → (t : Bool) → eqb (B (o .x)) (B (o .y)) ≡ t → replyTo k t ≡ Joined → Joining B o
+    go Union k false t told = record { union = k; distinct = eqb-false (B (o .x)) (B (o .y)) t }
+    go Union k true t told = let never : _≡_ {A = ℕ} 0 1 = cc in absurd (omega arith)
+    go SameSet k true t told = let never : _≡_ {A = ℕ} 0 1 = cc in absurd (omega arith)
+    go SameSet k false t told = let never : _≡_ {A = ℕ} 0 1 = cc in absurd (omega arith)
+
+abbrev pub Unjoined : Labels → Operation → Type 0
+Unjoined B o = next B o ≡ B
 
 pub next-same-set : (B : Labels) (o : Operation) → o .kind ≡ SameSet → next B o ≡ B
 unfolding next
@@ -98,18 +113,19 @@ next-kept B o i j e = go (o .kind) refl
     go SameSet k = rw (next-same-set B o k) e
 
 -- an operation on two nodes that share a set changes nothing
-pub next-together : (B : Labels) (o : Operation) → B (o .x) ≡ B (o .y) → Unchanged B o
+pub next-together : (B : Labels) (o : Operation) → B (o .x) ≡ B (o .y) → Unjoined B o
 next-together B o e = go (o .kind) refl
   where
-    go : (k : Kind) → o .kind ≡ k → Unchanged B o
+    go : (k : Kind) → o .kind ≡ k → Unjoined B o
     go Union k = next-union B o k ∙ join-together B (o .x) (o .y) e
     go SameSet k = next-same-set B o k
 
 -- only an operation that is told joined changes the labels
-pub next-unjoined : (B : Labels) (o : Operation) → reply B o ≢ Joined → Unchanged B o
-next-unjoined B o d = go (o .kind) refl (eqb (B (o .x)) (B (o .y))) refl
+pub next-unjoined : (B : Labels) (o : Operation) → reply B o ≢ Joined → Unjoined B o
+next-unjoined B o d = go (o .kind) refl
   where
-    go : (k : Kind) → o .kind ≡ k → (t : Bool) → eqb (B (o .x)) (B (o .y)) ≡ t → Unchanged B o
-    go SameSet k t e = next-same-set B o k
-    go Union k true e = next-together B o (eqb-true (B (o .x)) (B (o .y)) e)
-    go Union k false e = absurd (d (reply-apart B o (eqb-false (B (o .x)) (B (o .y)) e) ∙ ap (λ kind. replyTo kind false) k))
+    go : (k : Kind) → o .kind ≡ k → Unjoined B o
+    go SameSet k = next-same-set B o k
+    go Union k =
+        split (eqb (B (o .x)) (B (o .y))) (λ t. next-together B o (eqb-true (B (o .x)) (B (o .y)) t))
+        (λ t. absurd (d (reply-apart B o (eqb-false (B (o .x)) (B (o .y)) t) ∙ ap (λ kind. replyTo kind false) k)))

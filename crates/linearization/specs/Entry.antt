@@ -6,11 +6,13 @@
 --   Rising low es                the points rise strictly from above low
 --   occurrences request es       how often a request is listed
 --   flat es, entriesOf numbers   from entries to numbers, two an entry, and back
+--   listed numbers n             the entries that the first numbers hold
+--   movedUp part                 a part of the numbers, moved up one entry
 --   inserted numbers n point request   the buffer of n entries with one more
 --   Insertable numbers n         the buffer has room for one more, and its n entries rise
 use mathlib.Core.Bool.{cond}
 use mathlib.Core.List.{List, [], _∷_, _++_}
-use Prim.Native.Nat.{ℕ, zero, suc, _+_, _*_, _≤_, _<_}
+use Prim.Native.Nat.{ℕ, zero, suc, _+_, _*_, _-_, _≤_, _<_}
 use lib.Dec.{eqb, ltb}
 use lib.ListN.{length, take, drop}
 
@@ -34,9 +36,10 @@ earlier point (e ∷ es) = cond (ltb point (e .point)) zero (suc (earlier point 
 
 -- Entries rise by point. Grants count from 1, so the points of a whole line-up rise from above 0.
 pub data Rising : ℕ → List Entry → Type 0 where
-  none : {low : ℕ} → Rising low []
+  empty : {low : ℕ} → Rising low []
   rises : {low : ℕ} {e : Entry} {es : List Entry} → low < e .point → Rising (e .point) es → Rising low (e ∷ es)
 
+-- How often a request is listed.
 abbrev pub occurrences : ℕ → List Entry → ℕ
 occurrences request [] = zero
 occurrences request (e ∷ es) = cond (eqb (e .request) request) (suc (occurrences request es)) (occurrences request es)
@@ -54,6 +57,10 @@ entriesOf (point ∷ request ∷ numbers) = record { point = point; request = re
 -- The entries that the first numbers of a buffer hold.
 abbrev pub listed : List ℕ → ℕ → List Entry
 listed numbers n = entriesOf (take (2 * n) numbers)
+
+-- Later entries move up one place, which is two numbers: the part's first two numbers stay, its last two are given up.
+abbrev pub movedUp : List ℕ → List ℕ
+movedUp part = take 2 part ++ take (length part - 2) part
 
 -- Numbers past the line-up's entries remain as lent.
 unfoldable pub inserted : List ℕ → ℕ → ℕ → ℕ → List ℕ

@@ -1,9 +1,8 @@
 // The linearization in a lent buffer: an entry goes in at its point, and later entries move up one place.
 ghost use mathlib.Core.Path.{_≡_};
-ghost use mathlib.Core.List.{_++_};
-ghost use Prim.Native.Nat.{_*_, _-_, _≤_};
-ghost use lib.ListN.{length, take};
-ghost use Rattle.linearization.specs.Entry.{earlier, listed, inserted, Insertable};
+ghost use Prim.Native.Nat.{_*_, _≤_};
+ghost use lib.ListN.{length};
+ghost use Rattle.linearization.specs.Entry.{earlier, listed, movedUp, inserted, Insertable};
 
 // Where the entry at a point belongs, in numbers: behind the entries that stand before it. It looks from the back,
 // since nearly every entry goes in last.
@@ -21,10 +20,10 @@ fn position(linearization: &[u32], entries: usize, point: u32) -> usize
     0
 }
 
-// Moves the numbers of a part up two places; its last two are lost, its first two stand twice.
+// Moves the numbers of a part up one entry, from the back. Its first two numbers are then free, its last two gone.
 fn move_up(part: &mut [u32])
     requires { ⌜ 2 ≤ length (now part) ⌝ }
-    ensures { λ _. ⌜ now (part .exit) ≡ take 2 (now (part .entry)) ++ take (length (now (part .entry)) - 2) (now (part .entry)) ⌝ }
+    ensures { λ _. ⌜ now (part .exit) ≡ movedUp (now (part .entry)) ⌝ }
 {
     let mut i = part.len();
     while 2 < i {
@@ -33,7 +32,7 @@ fn move_up(part: &mut [u32])
     }
 }
 
-// Inserts an entry at its point; numbers past the entries stay as lent.
+// Inserts an entry at its point: the numbers from there to the end of the new last entry are lent and moved up.
 pub fn insert_entry(linearization: &mut [u32], entries: u32, point: u32, request: u32)
     requires { ⌜ Insertable (now linearization) entries ⌝ }
     ensures { λ _. ⌜ now (linearization .exit) ≡ inserted (now (linearization .entry)) entries point request ⌝ }

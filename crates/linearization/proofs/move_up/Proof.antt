@@ -1,57 +1,54 @@
+-- `linearization::move_up` moves each number up two places, from the back.
+use borrow.Author.Needs.{needs}
+use native.Mathlib.Omega.{arith}
+use denote.Ref.{now}
+use Prim.Native.Nat.{_-_}
+use Rattle.linearization.proofs.Buffer.{Moved, moved-none, moved-on, moved-all}
 use Rattle.linearization.proofs.move_up.Statement.{statement}
 use Rattle.linearization.proofs.move_up.Tie as tie
-use Rattle.linearization.proofs.move_up.Reads as reads
-use Rattle.linearization.proofs.move_up.Lts as lts
 
 abbrev Inv-loop : tie.InvT-loop
-Inv-loop part₀ i₀ part i = ?
+Inv-loop part₀ i₀ part i = Moved part₀ i part
 
 abbrev μ-loop : tie.MeasureT-loop
-μ-loop part₀ i₀ part i = ?
+μ-loop part₀ i₀ part i = i
 
--- src/lib.rt:30:5
 loop-holds : tie.Need-loop-holds Inv-loop μ-loop
-loop-holds c = ?
+loop-holds c = moved-none (now (c .args .part)) (c .pre)
 
--- src/lib.rt:31:9
 sub-i : tie.Need-sub-i Inv-loop μ-loop
-sub-i c = ?
+sub-i c = search needs
 
--- src/lib.rt:32:24
 sub-part : tie.Need-sub-part Inv-loop μ-loop
-sub-part c = ?
+sub-part c = search needs
 
--- src/lib.rt:32:19
 mul-part : tie.Need-mul-part Inv-loop μ-loop
-mul-part c = ?
+mul-part c = search needs
 
--- src/lib.rt:32:19
 slice-read-part : tie.Need-slice-read-part Inv-loop μ-loop
-slice-read-part c = ?
+slice-read-part c = search needs
 
--- src/lib.rt:32:9
 mul-part-2 : tie.Need-mul-part-2 Inv-loop μ-loop
-mul-part-2 c = ?
+mul-part-2 c = search needs
 
--- src/lib.rt:32:9
 slice-write-part : tie.Need-slice-write-part Inv-loop μ-loop
-slice-write-part c = ?
+slice-write-part c = search needs
 
--- src/lib.rt:30:5
 loop-less : tie.Need-loop-less Inv-loop μ-loop
-loop-less c = ?
+loop-less c = search needs
 
--- src/lib.rt:30:5
 loop-again : tie.Need-loop-again Inv-loop μ-loop
-loop-again c = ?
+loop-again c =
+    let l = c .before .before .loop in
+    moved-on (now (c .before .before .before .args .part)) _ (l .i) (l .i - 1) (omega arith) (omega arith) (l .inv)
 
--- src/lib.rt:25:1
 same-length : tie.Need-same-length Inv-loop μ-loop
-same-length c = ?
+same-length c = c .before .loop .inv .size
 
--- src/lib.rt:25:1
 returns : tie.Need-returns Inv-loop μ-loop
-returns c = ?
+returns c =
+    let l = c .before .loop in
+    moved-all (now (c .before .before .args .part)) (l .i) (l .part) (omega arith) (l .inv)
 
 pub move-up-spec : {M : Type 1} → statement M
 move-up-spec =

@@ -1,57 +1,56 @@
+-- `linearization::position` looks from the back and stops at the first entry that is not later.
+use denote.Ref.{now}
+use borrow.Author.Needs.{needs}
+use native.Mathlib.Omega.{arith}
+use mathlib.Core.Path.{refl}
+use Rattle.linearization.proofs.Buffer.{Scanned, scanned-on, scanned-here, scanned-none}
 use Rattle.linearization.proofs.position.Statement.{statement}
 use Rattle.linearization.proofs.position.Tie as tie
-use Rattle.linearization.proofs.position.Reads as reads
-use Rattle.linearization.proofs.position.Lts as lts
 
 abbrev Inv-loop : tie.InvT-loop
-Inv-loop linearization entries point at₀ at = ?
+Inv-loop linearization entries point at₀ at = Scanned linearization entries point at
 
 abbrev μ-loop : tie.MeasureT-loop
-μ-loop linearization entries point at₀ at = ?
+μ-loop linearization entries point at₀ at = at
 
--- src/lib.rt:15:5
 loop-holds : tie.Need-loop-holds Inv-loop μ-loop
-loop-holds c = ?
+loop-holds c = record { within = omega arith; rising = c .pre .rising; same = refl }
 
--- src/lib.rt:16:26
 mul-if1 : tie.Need-mul-if1 Inv-loop μ-loop
-mul-if1 c = ?
+mul-if1 c = search needs
 
--- src/lib.rt:16:26
 sub-if1 : tie.Need-sub-if1 Inv-loop μ-loop
-sub-if1 c = ?
+sub-if1 c = search needs
 
--- src/lib.rt:16:12
 mul-if1-2 : tie.Need-mul-if1-2 Inv-loop μ-loop
-mul-if1-2 c = ?
+mul-if1-2 c = search needs
 
--- src/lib.rt:16:12
 shared-slice-read-if1 : tie.Need-shared-slice-read-if1 Inv-loop μ-loop
-shared-slice-read-if1 c = ?
+shared-slice-read-if1 c = search needs
 
--- src/lib.rt:17:20
 mul-result : tie.Need-mul-result Inv-loop μ-loop
-mul-result c = ?
+mul-result c = search needs
 
--- src/lib.rt:17:13
 returns : tie.Need-returns Inv-loop μ-loop
-returns c = ?
+returns c =
+    let a = c .before .before .before .before .args in
+    scanned-here (now (a .linearization)) (a .entries) (a .point) (omega arith) _ (omega arith) (c .before .before .before .loop .inv) (omega arith)
 
--- src/lib.rt:19:9
 sub-at : tie.Need-sub-at Inv-loop μ-loop
-sub-at c = ?
+sub-at c = search needs
 
--- src/lib.rt:15:5
 loop-less : tie.Need-loop-less Inv-loop μ-loop
-loop-less c = ?
+loop-less c = search needs
 
--- src/lib.rt:15:5
 loop-again : tie.Need-loop-again Inv-loop μ-loop
-loop-again c = ?
+loop-again c =
+    let a = c .before .before .before .before .args in
+    scanned-on (now (a .linearization)) (a .entries) (a .point) (omega arith) _ (omega arith) (c .before .before .before .loop .inv) (omega arith)
 
--- src/lib.rt:10:1
 returns-2 : tie.Need-returns-2 Inv-loop μ-loop
-returns-2 c = ?
+returns-2 c =
+    let a = c .before .before .args in
+    scanned-none (now (a .linearization)) (a .entries) (a .point) (omega arith) _ (omega arith) (c .before .loop .inv)
 
 pub position-spec : {M : Type 1} → statement M
 position-spec =
