@@ -1,6 +1,7 @@
 -- Document 01, "One grant, one word": the record of a head and the start of its loop.
 --
 --   isResting h    the head h serves no request
+--   ofSide s x y   x or y, by the side s
 --   nodeAt h s     the current node of side s
 --   staged h t     the head h at stage t
 --   movedTo h s v  the head h with v as the node of side s
@@ -31,9 +32,12 @@ restingAt (Raise r) = false
 abbrev pub isResting : Head → Bool
 isResting h = restingAt (h .stage)
 
+abbrev pub ofSide : Side → ℕ → ℕ → ℕ
+ofSide X x y = x
+ofSide Y x y = y
+
 abbrev pub nodeAt : Head → Side → ℕ
-nodeAt h X = h .x
-nodeAt h Y = h .y
+nodeAt h s = ofSide s (h .x) (h .y)
 
 abbrev pub staged : Head → Stage → Head
 staged h t = record { stage = t; x = h .x; y = h .y; request = h .request }

@@ -1,0 +1,217 @@
+-- What one more happening does to what a history says.
+--
+--   Other q a        the grant a was not used for request q
+--   usedFor past p   one more than the request that grant p was used for, 0 for none
+--
+-- Main laws: row-served and row-other, the row of a request after a grant; point-other, a grant for another request
+-- leaves a point alone; used-kept, what grant p was used for stays so.
+use mathlib.Core.Path.{_≡_, refl, sym, ap, _∙_}
+use mathlib.Core.Logic.{_≢_}
+use mathlib.Core.Bool.{Bool, true, false, cond}
+use mathlib.Core.List.{List, [], _∷_}
+use Prim.Native.Nat.{ℕ, suc, _+_, _≤_}
+use native.Mathlib.Omega.{arith}
+use native.Mathlib.Decide.{ℕ-discrete}
+use lib.Dec.{eqb}
+use lib.ListN.{length}
+use borrow.Author.Tests.{eq-eqb, ne-eqb}
+use Rattle.job.specs.declared.Kind.{Kind}
+use Rattle.job.specs.declared.Kind.the-variants.{Union, SameSet}
+use Rattle.job.specs.declared.Answer.{Answer}
+use Rattle.job.specs.declared.Answer.the-variants.{Unfinished, Joined, Together, Yes, No}
+use Rattle.job.specs.Job.{answerNumber}
+use Rattle.process.specs.declared.Event.{Event}
+use Rattle.rules.specs.Report.{isFinal, charge}
+use Rattle.rules.specs.Run.{Happening}
+use Rattle.rules.specs.Run.Happening.{idle, served}
+use Rattle.rules.specs.History.{firstWhere, lastWhere, countWhere, isOf, endsFindOf, linksFor, answerOf, rowOf, linkOf, pointOf}
+
+-- A grant that was not used for q.
+abbrev pub Other : ℕ → Happening → Type 0
+Other q a = isOf q a ≡ false
+
+pub other-served : (q r : ℕ) (e : Event) → r ≢ q → Other q (served r e)
+other-served q r e d = ne-eqb r q d
+
+-- it ended no find of q, linked nothing for it and left its answer
+other-find : (q : ℕ) (a : Happening) → Other q a → endsFindOf q a ≡ false
+other-find q idle o = refl
+other-find q (served r e) o = rw o
+
+other-link : (q : ℕ) (a : Happening) → Other q a → linksFor q a ≡ false
+other-link q idle o = refl
+other-link q (served r e) o = rw o
+
+other-answer : (q : ℕ) (a : Happening) (past : List Happening) → Other q a → answerOf q (a ∷ past) ≡ answerOf q past
+other-answer q idle past o = refl
+other-answer q (served r e) past o = rw o
+
+module _ (f : Happening → Bool) (a : Happening) (past : List Happening) where
+  pub last-new : f a ≡ true → lastWhere f (a ∷ past) ≡ suc (length past)
+  last-new t = rw t
+
+  pub last-kept : f a ≡ false → lastWhere f (a ∷ past) ≡ lastWhere f past
+  last-kept o = rw o
+
+  count-kept : f a ≡ false → countWhere f (a ∷ past) ≡ countWhere f past
+  count-kept o = rw o
+
+  -- the first grant is settled once there is one
+  pub first-settled : firstWhere f past ≢ 0 → firstWhere f (a ∷ past) ≡ firstWhere f past
+  first-settled d = rw (ne-eqb (firstWhere f past) 0 d)
+
+  pub first-new : f a ≡ true → firstWhere f past ≡ 0 → firstWhere f (a ∷ past) ≡ suc (length past)
+  first-new t e = rw (eq-eqb (firstWhere f past) 0 e, t)
+
+  first-kept : f a ≡ false → firstWhere f (a ∷ past) ≡ firstWhere f past
+  first-kept o = go (ℕ-discrete (firstWhere f past) 0)
+    where
+      go : Dec (firstWhere f past ≡ 0) → firstWhere f (a ∷ past) ≡ firstWhere f past
+      go (yes e) = rw (eq-eqb (firstWhere f past) 0 e, o) (sym e)
+      go (no d) = first-settled d
+
+-- No grant is beyond the present one.
+pub first-bound : (f : Happening → Bool) (past : List Happening) → firstWhere f past ≤ length past
+first-bound f [] = omega arith
+first-bound f (a ∷ past) = go (eqb (firstWhere f past) 0) (f a) (first-bound f past)
+  where
+    go : (s t : Bool) → firstWhere f past ≤ length past → cond s (cond t (suc (length past)) 0) (firstWhere f past) ≤ suc (length past)
+    go true true h = omega arith
+    go true false h = omega arith
+    go false t h = omega arith
+
+-- A grant that was used for q is its first, or comes after it.
+pub first-positive : (f : Happening → Bool) (a : Happening) (past : List Happening) → f a ≡ true → firstWhere f (a ∷ past) ≢ 0
+first-positive f a past t e = go (ℕ-discrete (firstWhere f past) 0)
+  where
+    go : Dec (firstWhere f past ≡ 0) → ⊥
+    go (yes z) = omega (arith, first-new f a past t z)
+    go (no d) = d (sym (first-settled f a past d) ∙ e)
+
+-- ---- report rows
+
+-- The row of a request that a grant was not used for.
+pub row-other : (q : ℕ) (a : Happening) (past : List Happening) → Other q a → rowOf q (a ∷ past) ≡ rowOf q past
+unfolding rowOf
+row-other q a past o =
+    λ i. record {
+      answer = other-answer q a past o i;
+      first = first-kept (isOf q) a past o i;
+      last = cond (eqb (other-answer q a past o i) 0) 0 (last-kept (isOf q) a past o i);
+      used = count-kept (isOf q) a past o i;
+    }
+
+-- a last grant is 0 exactly while the answer is
+last-answer : (a : Answer) (now : ℕ) → cond (isFinal a) now 0 ≡ cond (eqb (answerNumber a) 0) 0 now
+last-answer Unfinished now = refl
+last-answer Joined now = refl
+last-answer Together now = refl
+last-answer Yes now = refl
+last-answer No now = refl
+
+-- The row of the request that a grant was used for: charged with that grant.
+pub row-served : (q : ℕ) (e : Event) (past : List Happening)
+    → charge (rowOf q past) (suc (length past)) (e .answer) ≡ rowOf q (served q e ∷ past)
+unfolding rowOf charge
+row-served q e past =
+    let t : eqb q q ≡ true = eq-eqb q q refl in
+    let more : countWhere (isOf q) past + 1 ≡ suc (countWhere (isOf q) past) = omega arith in
+    rw (t, last-answer (e .answer) (suc (length past)), more)
+
+-- what the row of a served request says
+module _ (q : ℕ) (e : Event) (past : List Happening) where
+  of-itself : isOf q (served q e) ≡ true
+  of-itself = eq-eqb q q refl
+
+  pub served-answer : rowOf q (served q e ∷ past) .answer ≡ answerNumber (e .answer)
+  unfolding rowOf
+  served-answer = rw of-itself
+
+  pub served-last : e .answer ≢ Unfinished → rowOf q (served q e ∷ past) .last ≡ suc (length past)
+  unfolding rowOf
+  served-last d = go (e .answer) refl
+    where
+      go : (a : Answer) → e .answer ≡ a → rowOf q (served q e ∷ past) .last ≡ suc (length past)
+      go Unfinished k = absurd (d k)
+      go Joined k = rw (of-itself, k)
+      go Together k = rw (of-itself, k)
+      go Yes k = rw (of-itself, k)
+      go No k = rw (of-itself, k)
+
+  pub served-first : rowOf q (served q e ∷ past) .first ≢ 0
+  unfolding rowOf
+  served-first = first-positive (isOf q) (served q e) past of-itself
+
+  pub served-settled : rowOf q past .first ≢ 0 → rowOf q (served q e ∷ past) .first ≡ rowOf q past .first
+  unfolding rowOf
+  served-settled = first-settled (isOf q) (served q e) past
+
+pub row-first-bound : (q : ℕ) (past : List Happening) → rowOf q past .first ≤ length past
+unfolding rowOf
+row-first-bound q past = first-bound (isOf q) past
+
+-- ---- links and points
+
+module _ (q : ℕ) (a : Happening) (past : List Happening) (other : Other q a) where
+  pub link-other : linkOf q (a ∷ past) ≡ linkOf q past
+  unfolding linkOf
+  link-other = last-kept (linksFor q) a past (other-link q a other)
+
+  pub find-other : lastWhere (endsFindOf q) (a ∷ past) ≡ lastWhere (endsFindOf q) past
+  find-other = last-kept (endsFindOf q) a past (other-find q a other)
+
+  pub point-other : (k : Kind) → pointOf k q (a ∷ past) ≡ pointOf k q past
+  unfolding pointOf
+  point-other Union = rw (link-other, last-kept (isOf q) a past other)
+  point-other SameSet = find-other
+
+module _ (q : ℕ) (e : Event) (past : List Happening) where
+  pub link-served : e .linked ≡ true → linkOf q (served q e ∷ past) ≡ suc (length past)
+  unfolding linkOf
+  link-served t = rw (of-itself q e past, t)
+
+  pub link-unserved : e .linked ≡ false → linkOf q (served q e ∷ past) ≡ linkOf q past
+  unfolding linkOf
+  link-unserved t = rw (of-itself q e past, t)
+
+  pub find-served : e .found ≡ true → lastWhere (endsFindOf q) (served q e ∷ past) ≡ suc (length past)
+  find-served t = rw (of-itself q e past, t)
+
+  pub find-unserved : e .found ≡ false → lastWhere (endsFindOf q) (served q e ∷ past) ≡ lastWhere (endsFindOf q) past
+  find-unserved t = rw (of-itself q e past, t)
+
+  -- a union that has linked has its point there
+  pub point-linked : linkOf q (served q e ∷ past) ≢ 0 → pointOf Union q (served q e ∷ past) ≡ linkOf q (served q e ∷ past)
+  unfolding pointOf
+  point-linked d = rw (ne-eqb (linkOf q (served q e ∷ past)) 0 d)
+
+  -- one that has not, at its last grant
+  pub point-unlinked : linkOf q (served q e ∷ past) ≡ 0 → pointOf Union q (served q e ∷ past) ≡ suc (length past)
+  unfolding pointOf
+  point-unlinked z = rw (eq-eqb (linkOf q (served q e ∷ past)) 0 z, of-itself q e past)
+
+pub point-same-set : (q : ℕ) (past : List Happening) → pointOf SameSet q past ≡ lastWhere (endsFindOf q) past
+unfolding pointOf
+point-same-set q past = refl
+
+pub point-union : (q : ℕ) (past : List Happening) → linkOf q past ≢ 0 → pointOf Union q past ≡ linkOf q past
+unfolding pointOf
+point-union q past d = rw (ne-eqb (linkOf q past) 0 d)
+
+-- ---- which request a grant was used for
+
+abbrev userOf : Happening → ℕ
+userOf idle = 0
+userOf (served q e) = suc q
+
+unfoldable pub usedFor : List Happening → ℕ → ℕ
+usedFor [] p = 0
+usedFor (a ∷ past) p = cond (eqb p (suc (length past))) (userOf a) (usedFor past p)
+
+pub used-now : (q : ℕ) (e : Event) (past : List Happening) → usedFor (served q e ∷ past) (suc (length past)) ≡ suc q
+unfolding usedFor
+used-now q e past = rw (eq-eqb (suc (length past)) (suc (length past)) refl)
+
+pub used-kept : (a : Happening) (past : List Happening) (p : ℕ) → p ≤ length past → usedFor (a ∷ past) p ≡ usedFor past p
+unfolding usedFor
+used-kept a past p h = rw (ne-eqb p (suc (length past)) (λ e. omega arith))

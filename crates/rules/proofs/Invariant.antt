@@ -1,0 +1,112 @@
+-- The invariant of a run: what holds of the state and of its history between any two grants.
+--
+--   labels qs B S           the sets after the replay of the entries so far
+--   ApartAt qs B es q p     the two nodes of request q are in two sets after the entries up to point p
+--   claim past q            what the sequential specification is to answer to request q
+--   Candidate q past p      what the history says of a pending point
+--   Timed q past st         what the history says of a request whose head is at stage st
+--   Over, Current, Waiting  what holds of a finished request, of one being served, and of one not begun
+--   Phase                   which of the three a request is, by its head
+--   Placed qs past e        an entry stands at its request's point, within the request
+--   Invariant               all of it
+use mathlib.Core.Path.{_≡_}
+use mathlib.Core.Logic.{_≢_}
+use mathlib.Core.Bool.{Bool, true, false, cond}
+use mathlib.Core.List.{List}
+use Prim.Native.Nat.{ℕ, suc, _+_, _≤_, _<_}
+use lib.Dec.{eqb}
+use lib.ListN.{length, getD}
+use Rattle.job.specs.declared.Answer.{Answer}
+use Rattle.job.specs.declared.Request.{Request}
+use Rattle.process.specs.declared.Stage.{Stage}
+use Rattle.process.specs.declared.Head.{Head}
+use Rattle.process.specs.Process.{isResting}
+use Rattle.forest.specs.Forest.{rootCount}
+use Rattle.forest.proofs.Sound.{Sound}
+use Rattle.linearization.specs.Partition.{Labels}
+use Rattle.linearization.specs.Entry.{Entry, occurrences}
+use Rattle.linearization.proofs.Replay.{after, labelsTo, Replayed}
+use Rattle.rules.specs.Table.{parent, rank}
+use Rattle.rules.specs.Report.{noRow}
+use Rattle.rules.specs.State.{State, requestAt}
+use Rattle.rules.specs.Step.{headAt}
+use Rattle.rules.specs.Run.{Happening}
+use Rattle.rules.specs.History.{lastWhere, endsFindOf, rowOf, linkOf, pointOf}
+use Rattle.rules.specs.Linearized.{operationAt, promised}
+use Rattle.rules.proofs.History.{usedFor}
+use Rattle.rules.proofs.Stages.{isRaising, pendingOf, Knows}
+
+abbrev pub labels : List Request → Labels → State → Labels
+labels qs B S = after (operationAt qs) B (S .entries)
+
+abbrev pub ApartAt : List Request → Labels → List Entry → ℕ → ℕ → Type 0
+ApartAt qs B es q point = labelsTo (operationAt qs) point B es (requestAt qs q .x) ≢ labelsTo (operationAt qs) point B es (requestAt qs q .y)
+
+abbrev pub claim : List Happening → ℕ → Answer
+claim past q = promised (rowOf q past .answer)
+
+pub record Candidate (q : ℕ) (past : List Happening) (point : ℕ) : Type 0 where
+  -- the point is not before the request's first grant
+  pub begun : rowOf q past .first ≢ 0
+  pub since : rowOf q past .first ≤ point
+  -- it is the grant that ended the request's last find from y
+  pub last : lastWhere (endsFindOf q) past ≡ point
+  pub used : usedFor past point ≡ suc q
+
+pub record Timed (q : ℕ) (past : List Happening) (st : Stage) : Type 0 where
+  pub unlinked : isRaising st ≡ false → linkOf q past ≡ 0
+  pub linked : isRaising st ≡ true → linkOf q past ≢ 0
+  pub candidate : pendingOf st ≢ 0 → Candidate q past (pendingOf st)
+
+pub record Over (q : ℕ) (past : List Happening) (times : ℕ) : Type 0 where
+  pub finished : rowOf q past .answer ≢ 0
+  pub begun : rowOf q past .first ≢ 0
+  pub ended : rowOf q past .last ≤ length past
+  pub listed : times ≡ 1
+
+pub record Current (q : ℕ) (past : List Happening) (times : ℕ) : Type 0 where
+  pub unfinished : rowOf q past .answer ≡ 0
+  pub begun : rowOf q past .first ≢ 0
+  -- listed once if it has linked, else not
+  pub listed : times ≡ cond (eqb (linkOf q past) 0) 0 1
+
+pub record Waiting (q : ℕ) (past : List Happening) (times : ℕ) : Type 0 where
+  pub unfinished : rowOf q past .answer ≡ 0
+  pub fresh : rowOf q past .first ≡ 0
+  pub unlinked : linkOf q past ≡ 0
+  pub unlisted : times ≡ 0
+
+-- A head serves its requests in file order, so that its own position tells which it is.
+pub data Phase (head : Head) (q : ℕ) (past : List Happening) (times : ℕ) : Type 0 where
+  over : q < head .request → Over q past times → Phase head q past times
+  current : q ≡ head .request → isResting head ≡ false → Current q past times → Phase head q past times
+  waiting : head .request ≤ q → (q ≡ head .request → isResting head ≡ true) → Waiting q past times → Phase head q past times
+
+pub record Placed (qs : List Request) (past : List Happening) (e : Entry) : Type 0 where
+  pub known : e .request < length qs
+  pub since : rowOf (e .request) past .first ≤ e .point
+  pub until : e .point ≤ length past
+  pub ended : rowOf (e .request) past .last ≢ 0 → e .point ≤ rowOf (e .request) past .last
+  pub point : e .point ≡ pointOf (requestAt qs (e .request) .kind) (e .request) past
+  -- no two requests used one grant, so that points are distinct
+  pub used : usedFor past (e .point) ≡ suc (e .request)
+
+pub record Invariant (qs : List Request) (n : ℕ) (B : Labels) (roots₀ : ℕ) (S : State) (past : List Happening) : Type 0 where
+  pub nodes : length (S .table) ≡ n
+  pub clock : S .now ≡ length past
+  -- the report is what the history says
+  pub reports : length (S .report) ≡ length qs
+  pub rows : (q : ℕ) → q < length qs → getD (S .report) q noRow ≡ rowOf q past
+  -- the table shows the sets of the replayed entries, and each link took one root away
+  pub sound : Sound n (parent (S .table)) (rank (S .table)) (labels qs B S)
+  pub roots : rootCount (parent (S .table)) n + S .links ≡ roots₀
+  -- a head serves its own requests, and knows what its stage says
+  pub own : (h : ℕ) → h < length (S .heads) → headAt S h .request < length qs → requestAt qs (headAt S h .request) .head ≡ h
+  pub busy : (h : ℕ) → isResting (headAt S h) ≡ false → headAt S h .request < length qs
+  pub knows : (h : ℕ) → isResting (headAt S h) ≡ false
+      → Knows n (parent (S .table)) (rank (S .table)) (labels qs B S) (ApartAt qs B (S .entries) (headAt S h .request)) (S .now)
+        (requestAt qs (headAt S h .request)) (headAt S h) (headAt S h .stage)
+  pub timed : (h : ℕ) → isResting (headAt S h) ≡ false → Timed (headAt S h .request) past (headAt S h .stage)
+  -- entries rise, stand at their points and are answered as reported
+  pub entries : Replayed (operationAt qs) (Placed qs past) (claim past) B 0 (S .entries)
+  pub phases : (q : ℕ) → q < length qs → Phase (headAt S (requestAt qs q .head)) q past (occurrences q (S .entries))

@@ -1,0 +1,9 @@
+-- The starred cases, and the laws behind the linearization theorem.
+pub mod Cases
+pub mod History
+pub mod Table
+pub mod Requests
+pub mod Stages
+pub mod Outcomes
+pub mod Steps
+pub mod Invariant

@@ -1,0 +1,100 @@
+-- What a grant can be to the request that it serves: five outcomes, whatever the stage.
+--
+--   Kept t t′ B B′    the table stays sound, and the new state is a later one
+--   Going             the head goes on with its request
+--   Closing           the two finds ended at one root: yes, or already together
+--   Joining           the link was written
+--   Ending            the raise was tried: the linked union is finished
+--   Denying           x is still a root: no, at the point that was pending
+use mathlib.Core.Path.{_≡_}
+use mathlib.Core.Logic.{_≢_}
+use mathlib.Core.Bool.{Bool, true, false}
+use mathlib.Core.List.{List}
+use Prim.Native.Nat.{ℕ, suc, _≤_}
+use Rattle.job.specs.declared.Kind.the-variants.{Union, SameSet}
+use Rattle.job.specs.declared.Answer.the-variants.{Unfinished, Joined, No}
+use Rattle.job.specs.declared.Request.{Request}
+use Rattle.word.specs.declared.Node.{Node}
+use Rattle.process.specs.declared.Stage.{Stage}
+use Rattle.process.specs.declared.Stage.the-variants.{Resting, Raise}
+use Rattle.process.specs.declared.Advanced.{Advanced}
+use Rattle.process.specs.Process.{isResting}
+use Rattle.process.specs.Advance.{together}
+use Rattle.forest.specs.Forest.{rootCount}
+use Rattle.forest.proofs.Sound.{Sound}
+use Rattle.forest.proofs.Later.{Later}
+use Rattle.rules.specs.Table.{parent, rank}
+use Rattle.rules.proofs.Stages.{isRaising, pendingOf, Raising, Knows}
+
+pub record Kept (n : ℕ) (t t′ : List Node) (B B′ : ℕ → ℕ) : Type 0 where
+  pub sound : Sound n (parent t′) (rank t′) B′
+  pub later : Later n (parent t) (rank t) B (parent t′) (rank t′) B′
+
+pub record Going (n now : ℕ) (t t′ : List Node) (B : ℕ → ℕ) (Apart : ℕ → Type 0) (q : Request) (st : Stage) (a : Advanced) : Type 0 where
+  pub kept : Kept n t t′ B B
+  pub roots : rootCount (parent t′) n ≡ rootCount (parent t) n
+  pub unraised : isRaising st ≡ false
+  pub unlinked : a .event .linked ≡ false
+  pub unfinished : a .event .answer ≡ Unfinished
+  pub unplaced : a .event .point ≡ 0
+  pub busy : isResting (a .head) ≡ false
+  pub still : isRaising (a .head .stage) ≡ false
+  -- a pending point is new: this grant ended the find from y
+  pub proposed : pendingOf (a .head .stage) ≢ 0 → pendingOf (a .head .stage) ≡ suc now
+  pub found : pendingOf (a .head .stage) ≢ 0 → a .event .found ≡ true
+  pub knows : Knows n (parent t′) (rank t′) B Apart (suc now) q (a .head) (a .head .stage)
+
+pub record Closing (now : ℕ) (t t′ : List Node) (B : ℕ → ℕ) (q : Request) (st : Stage) (a : Advanced) : Type 0 where
+  pub same : t′ ≡ t
+  pub unraised : isRaising st ≡ false
+  pub unlinked : a .event .linked ≡ false
+  pub found : a .event .found ≡ true
+  pub answer : a .event .answer ≡ together (q .kind)
+  pub point : a .event .point ≡ suc now
+  pub rests : a .head .stage ≡ Resting
+  pub one-set : B (q .x) ≡ B (q .y)
+
+-- after the link: finished, or about to raise y's rank
+pub data Linked (n : ℕ) (t′ : List Node) (B′ : ℕ → ℕ) (q : Request) (a : Advanced) : Type 0 where
+  finished : a .event .answer ≡ Joined → a .head .stage ≡ Resting → Linked n t′ B′ q a
+  raises : (k : ℕ) → a .event .answer ≡ Unfinished → a .head .stage ≡ Raise k → Raising n (rank t′) B′ q (a .head .y) k → Linked n t′ B′ q a
+
+pub record Joining (n now : ℕ) (t t′ : List Node) (B B′ : ℕ → ℕ) (q : Request) (st : Stage) (a : Advanced) : Type 0 where
+  pub kept : Kept n t t′ B B′
+  pub roots : suc (rootCount (parent t′) n) ≡ rootCount (parent t) n
+  pub unraised : isRaising st ≡ false
+  pub kind : q .kind ≡ Union
+  pub linked : a .event .linked ≡ true
+  pub point : a .event .point ≡ suc now
+  pub two-sets : B (q .x) ≢ B (q .y)
+  pub after : Linked n t′ B′ q a
+
+pub record Ending (n : ℕ) (t t′ : List Node) (B : ℕ → ℕ) (q : Request) (st : Stage) (a : Advanced) : Type 0 where
+  pub kept : Kept n t t′ B B
+  pub roots : rootCount (parent t′) n ≡ rootCount (parent t) n
+  pub raised : isRaising st ≡ true
+  pub kind : q .kind ≡ Union
+  pub unlinked : a .event .linked ≡ false
+  pub answer : a .event .answer ≡ Joined
+  pub unplaced : a .event .point ≡ 0
+  pub rests : a .head .stage ≡ Resting
+
+pub record Denying (now : ℕ) (t t′ : List Node) (Apart : ℕ → Type 0) (q : Request) (st : Stage) (a : Advanced) : Type 0 where
+  pub same : t′ ≡ t
+  pub unraised : isRaising st ≡ false
+  pub kind : q .kind ≡ SameSet
+  pub unlinked : a .event .linked ≡ false
+  pub unfound : a .event .found ≡ false
+  pub answer : a .event .answer ≡ No
+  pub point : a .event .point ≡ pendingOf st
+  pub rests : a .head .stage ≡ Resting
+  pub positive : 1 ≤ pendingOf st
+  pub until : pendingOf st ≤ now
+  pub two-sets : Apart (pendingOf st)
+
+pub data Outcome (n now : ℕ) (t t′ : List Node) (B B′ : ℕ → ℕ) (Apart : ℕ → Type 0) (q : Request) (st : Stage) (a : Advanced) : Type 0 where
+  going : Going n now t t′ B Apart q st a → Outcome n now t t′ B B′ Apart q st a
+  closing : Closing now t t′ B q st a → Outcome n now t t′ B B′ Apart q st a
+  joining : Joining n now t t′ B B′ q st a → Outcome n now t t′ B B′ Apart q st a
+  ending : Ending n t t′ B q st a → Outcome n now t t′ B B′ Apart q st a
+  denying : Denying now t t′ Apart q st a → Outcome n now t t′ B B′ Apart q st a

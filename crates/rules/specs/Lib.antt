@@ -1,0 +1,9 @@
+-- The rules of document 01: the table, the report, the state, one step, the run and its history.
+pub mod Table
+pub mod Report
+pub mod State
+pub mod Step
+pub mod Run
+pub mod History
+pub mod Cases
+pub mod Linearized

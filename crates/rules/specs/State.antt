@@ -1,0 +1,80 @@
+-- Document 01, "Whole runs and the plain book": what stands between two grants, and what stands before the first.
+--
+--   requestAt qs q       request number q
+--   seek qs h q          the first request of head h from number q on, or the number of requests
+--   State                table, heads, report, entries, counters, grants so far
+--   start qs m t         m heads before their first request, on the table t
+--   hasWork qs head      the head has an unfinished request
+--   tallyOf qs S         the four counters
+use mathlib.Core.Bool.{Bool, cond}
+use mathlib.Core.List.{List, [], _∷_}
+use Prim.Native.Nat.{ℕ, zero, suc}
+use lib.Dec.{eqb, ltb}
+use lib.ListN.{length, getD, drop, replicate}
+use Rattle.job.specs.declared.Kind.the-variants.{Union}
+use Rattle.job.specs.declared.Request.{Request}
+use Rattle.job.specs.declared.Tally.{Tally}
+use Rattle.word.specs.declared.Node.{Node}
+use Rattle.process.specs.declared.Stage.the-variants.{Resting}
+use Rattle.process.specs.declared.Head.{Head}
+use Rattle.linearization.specs.Entry.{Entry}
+use Rattle.rules.specs.declared.Row.{Row}
+use Rattle.rules.specs.Report.{noRow}
+
+abbrev pub noRequest : Request
+noRequest = record { head = 0; kind = Union; x = 0; y = 0 }
+
+abbrev pub requestAt : List Request → ℕ → Request
+requestAt qs q = getD qs q noRequest
+
+-- Request numbers count from 0 in file order; a head serves its own in that order.
+abbrev pub seekIn : ℕ → ℕ → List Request → ℕ
+seekIn h q [] = q
+seekIn h q (r ∷ rs) = cond (eqb (r .head) h) q (seekIn h (suc q) rs)
+
+unfoldable pub seek : List Request → ℕ → ℕ → ℕ
+seek qs h q = seekIn h q (drop q qs)
+
+pub record State : Type 0 where
+  pub table : List Node
+  pub heads : List Head
+  pub report : List Row
+  pub entries : List Entry
+  pub idle : ℕ
+  pub failed : ℕ
+  pub links : ℕ
+  -- the number of grants so far; grants count from 1
+  pub now : ℕ
+
+abbrev pub resting : ℕ → Head
+resting q = record { stage = Resting; x = 0; y = 0; request = q }
+
+abbrev pub headsFrom : List Request → ℕ → ℕ → List Head
+headsFrom qs h zero = []
+headsFrom qs h (suc m) = resting (seek qs h 0) ∷ headsFrom qs (suc h) m
+
+-- Every head resting before its first request, the requests' report numbers zero and no line-up entry.
+abbrev pub start : List Request → ℕ → List Node → State
+start qs m t =
+    record {
+      table = t;
+      heads = headsFrom qs 0 m;
+      report = replicate (length qs) noRow;
+      entries = [];
+      idle = 0;
+      failed = 0;
+      links = 0;
+      now = 0;
+    }
+
+-- A head's request is its current one, or while it rests its next one; it has none left when that is the count.
+abbrev pub hasWork : List Request → Head → Bool
+hasWork qs head = ltb (head .request) (length qs)
+
+abbrev pub working : List Request → List Head → ℕ
+working qs [] = 0
+working qs (head ∷ heads) = cond (hasWork qs head) (suc (working qs heads)) (working qs heads)
+
+-- The tally: idle grants, failed swaps, links, and the heads with work left now.
+abbrev pub tallyOf : List Request → State → Tally
+tallyOf qs S = record { idle = S .idle; failed = S .failed; links = S .links; working = working qs (S .heads) }

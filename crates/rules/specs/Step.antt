@@ -1,0 +1,94 @@
+-- Document 01, "One grant, one word" and "Report and line-up": what one grant does to the state.
+--
+--   turn qs S h        whom a grant to head h serves: nobody, or the head as it stands or as it begins its next request
+--   served qs S h head the state after a grant to head h that serves it
+--   step qs S h        the state after a grant to head h
+use mathlib.Core.Bool.{Bool, true, false, not, cond}
+use mathlib.Core.List.{List}
+use Prim.Native.Nat.{ℕ, suc, _+_}
+use lib.Dec.{eqb}
+use lib.ListN.{getD, set}
+use Rattle.job.specs.declared.Request.{Request}
+use Rattle.word.specs.declared.Node.{Node}
+use Rattle.process.specs.declared.Head.{Head}
+use Rattle.process.specs.declared.Event.{Event}
+use Rattle.process.specs.declared.Advanced.{Advanced}
+use Rattle.process.specs.Process.{begin, isResting}
+use Rattle.process.specs.Access.{accessOf}
+use Rattle.process.specs.Advance.{advanceOf}
+use Rattle.linearization.specs.Entry.{Entry, insert}
+use Rattle.rules.specs.declared.Row.{Row}
+use Rattle.rules.specs.Table.{seen, touched}
+use Rattle.rules.specs.Report.{noRow, isFinal, charge}
+use Rattle.rules.specs.State.{requestAt, seek, State, resting, hasWork}
+
+-- What a grant does is decided once: nobody is served, or a head, begun or not.
+pub data Turn : Type 0 where
+  idled : Turn
+  serves : Head → Turn
+
+-- A head's next request begins at its next grant.
+abbrev pub ready : List Request → Head → Head
+ready qs head = cond (isResting head) (begin (requestAt qs (head .request)) (head .request)) head
+
+-- A grant to a head without requests left is idle.
+abbrev pub turnOf : List Request → Head → Turn
+turnOf qs head = cond (hasWork qs head) (serves (ready qs head)) idled
+
+abbrev pub headAt : State → ℕ → Head
+headAt S h = getD (S .heads) h (resting 0)
+
+abbrev pub turn : List Request → State → ℕ → Turn
+turn qs S h = turnOf qs (headAt S h)
+
+-- One access to the table, and where it leads.
+abbrev pub advanced : State → Head → Advanced
+advanced S head = advanceOf head (seen (S .table) (accessOf head)) (suc (S .now))
+
+-- A head that has finished its request rests before its next one.
+abbrev pub settled : List Request → ℕ → Advanced → Head
+settled qs h a =
+    cond (isFinal (a .event .answer))
+    (record { stage = a .head .stage; x = a .head .x; y = a .head .y; request = seek qs h (suc (a .head .request)) })
+    (a .head)
+
+-- The entry goes in at its point, once that is known; later entries move up one place.
+abbrev pub entered : List Entry → ℕ → Event → List Entry
+entered es q e = cond (eqb (e .point) 0) es (insert (e .point) q es)
+
+abbrev pub plus : Bool → ℕ → ℕ
+plus b n = cond b (suc n) n
+
+abbrev pub served : List Request → State → ℕ → Head → State
+served qs S h head =
+    record {
+      table = touched (S .table) (accessOf head);
+      heads = set (S .heads) h (settled qs h (advanced S head));
+      report = set (S .report) (head .request) (charge (getD (S .report) (head .request) noRow) (suc (S .now)) (advanced S head .event .answer));
+      entries = entered (S .entries) (head .request) (advanced S head .event);
+      idle = S .idle;
+      failed = plus (advanced S head .event .failed) (S .failed);
+      links = plus (advanced S head .event .linked) (S .links);
+      now = suc (S .now);
+    }
+
+-- An idle grant changes only the idle count, but it has its number.
+abbrev pub passed : State → State
+passed S =
+    record {
+      table = S .table;
+      heads = S .heads;
+      report = S .report;
+      entries = S .entries;
+      idle = suc (S .idle);
+      failed = S .failed;
+      links = S .links;
+      now = suc (S .now);
+    }
+
+abbrev pub stepBy : List Request → State → ℕ → Turn → State
+stepBy qs S h idled = passed S
+stepBy qs S h (serves head) = served qs S h head
+
+unfoldable pub step : List Request → State → ℕ → State
+step qs S h = stepBy qs S h (turn qs S h)
