@@ -1,0 +1,144 @@
+//! The limits of a job file, from both sides.
+
+use peer::job::{self, Job, Request, MAX_BYTES};
+use peer::play;
+use peer::player::{Outcome, AMPLE};
+
+/// A file of these records with its balance right, whatever they hold.
+fn file(nodes: u16, heads: u16, requests: &[[u8; 6]], runs: &[(u8, u8)]) -> Vec<u8> {
+    let mut file = b"DK".to_vec();
+    file.extend(nodes.to_le_bytes());
+    file.extend(heads.to_le_bytes());
+    for request in requests {
+        file.extend(b"RQ");
+        file.extend(request);
+    }
+    for &(head, run) in runs {
+        file.extend([b'G', b'R', head, run]);
+    }
+    file.extend(b"CL\0\0");
+    job::repair_balance(&mut file);
+    file
+}
+
+fn number(file: &[u8]) -> u32 {
+    let outcome = Outcome::of(&play::play, file, AMPLE);
+    if outcome.played.number != 0 {
+        assert_eq!(outcome, Outcome::untouched(outcome.played.number, AMPLE));
+    }
+    outcome.played.number
+}
+
+const JOIN: [u8; 6] = [0, 1, 0, 0, 0, 0];
+
+#[test]
+fn nodes_and_heads() {
+    for (nodes, heads, told) in [
+        (4096, 16, 0),
+        (4097, 16, 4),
+        (0, 1, 4),
+        (1, 17, 5),
+        (1, 0, 5),
+        (0, 0, 4),
+        (1, 256, 5),
+    ] {
+        assert_eq!(
+            number(&file(nodes, heads, &[], &[])),
+            told,
+            "{nodes} {heads}"
+        );
+    }
+}
+
+#[test]
+fn requests() {
+    assert_eq!(number(&file(1, 1, &[JOIN; 512], &[])), 0);
+    let more = file(1, 1, &[JOIN; 513], &[]);
+    assert_eq!(number(&more), 9);
+    // The 513th is whole first, and counted before its fields are looked at.
+    let whole = 6 + 8 * 513;
+    assert_eq!(number(&more[..whole]), 9);
+    assert_eq!(number(&more[..whole - 1]), 2);
+    let wrong = [&[JOIN; 512][..], &[[9, 9, 9, 9, 9, 9]]].concat();
+    assert_eq!(number(&file(1, 1, &wrong, &[])), 9);
+}
+
+#[test]
+fn fields_from_left_to_right() {
+    let wrong = [
+        ([1, 0, 1, 0, 1, 0], 6),
+        ([0, 0, 1, 0, 1, 0], 7),
+        ([0, 3, 1, 0, 1, 0], 7),
+        ([0, 1, 1, 0, 0, 0], 8),
+        ([0, 2, 0, 0, 0, 1], 8),
+    ];
+    for (request, told) in wrong {
+        assert_eq!(number(&file(1, 1, &[request], &[])), told);
+    }
+}
+
+#[test]
+fn runs() {
+    let with = |runs: &[(u8, u8)]| number(&file(1, 2, &[], runs));
+    assert_eq!(with(&[(0, 255), (0, 1)]), 0);
+    assert_eq!(with(&[(0, 254), (0, 1)]), 11);
+    assert_eq!(with(&[(0, 255), (0, 255), (0, 3), (1, 1), (0, 3)]), 0);
+    assert_eq!(with(&[(0, 255), (0, 3), (0, 1)]), 11);
+    assert_eq!(with(&[(2, 1)]), 10);
+    assert_eq!(with(&[(0, 0)]), 10);
+    assert_eq!(with(&[(0, 1), (0, 0)]), 10);
+}
+
+#[test]
+fn marks_and_ends() {
+    let whole = file(1, 1, &[JOIN], &[(0, 2)]);
+    for length in 0..whole.len() {
+        assert_eq!(number(&whole[..length]), 2);
+    }
+    assert_eq!(number(b"D"), 2);
+    assert_eq!(number(b"DL"), 3);
+    assert_eq!(number(b"RQ"), 3);
+    assert_eq!(number(b"DK\x01\0\x01\0DK"), 3);
+    // A request after a run.
+    let mut late = file(1, 1, &[], &[(0, 2)]);
+    late.splice(10..10, *b"RQ");
+    assert_eq!(number(&late), 3);
+    // After the close comes before the balance.
+    let mut long = whole.clone();
+    long[whole.len() - 1] ^= 1;
+    assert_eq!(number(&long), 13);
+    long.push(0);
+    assert_eq!(number(&long), 12);
+}
+
+#[test]
+fn lengths() {
+    let runs = |count: usize| vec![(0, 255); count];
+    let longest = file(1, 1, &[], &runs(8_189));
+    assert_eq!(longest.len(), 32_766);
+    let outcome = Outcome::of(&play::play, &longest, AMPLE);
+    assert_eq!(
+        (outcome.played.grants, outcome.played.tally.idle),
+        (2_088_195, 2_088_195)
+    );
+    let mut longer = longest.clone();
+    longer.extend([0, 0]);
+    assert_eq!((longer.len(), number(&longer)), (MAX_BYTES, 12));
+    longer.push(0);
+    assert_eq!((longer.len(), number(&longer)), (32_769, 1));
+    let unclosed = &file(1, 1, &[], &runs(8_190))[..MAX_BYTES];
+    assert_eq!(number(unclosed), 2);
+}
+
+#[test]
+fn writer_lengths() {
+    let job = Job::new(1, 2, &[], &[(0, 2_088_195)]);
+    assert_eq!(job.file().map(|file| file.len()), Ok(32_766));
+    let job = Job::new(1, 2, &[], &[(0, 2_088_195), (1, 1)]);
+    assert_eq!(job.file(), Err(1));
+    // A wrong head anywhere comes before the length.
+    let job = Job::new(1, 2, &[], &[(0, 2_088_195), (1, 1), (2, 1)]);
+    assert_eq!(job.file(), Err(10));
+    let job = Job::new(1, 1, &[Request::union(0, 0, 0); 513], &[]);
+    assert_eq!(job.file(), Err(9));
+}
