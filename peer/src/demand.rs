@@ -3,9 +3,9 @@
 //! A run is told by its trace of accesses. Nothing here knows the stages of a head: a link is
 //! known as a written swap of a root's word to another parent.
 
+use crate::head::{Access, Deed};
 use crate::job::{Job, Kind};
 use crate::numbers::answer;
-use crate::play::{Access, Deed};
 use crate::player::Outcome;
 use crate::replay::Book;
 use crate::word::{before, parent, rank};

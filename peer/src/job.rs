@@ -328,7 +328,7 @@ fn fill(file: &mut [u8], nodes: u32, heads: u32, requests: &[u32], grants: &[u8]
 
 /// Sets the last word so that the words add up to zero; a file of odd length keeps its bytes.
 pub fn repair_balance(file: &mut [u8]) {
-    if file.len() >= 2 && file.len() % 2 == 0 {
+    if file.len() >= 2 && file.len().is_multiple_of(2) {
         let (rest, balance) = file.split_at_mut(file.len() - 2);
         balance.copy_from_slice(&0u16.wrapping_sub(sum(rest)).to_le_bytes());
     }

@@ -7,6 +7,7 @@
 
 pub mod demand;
 pub mod gen;
+pub mod head;
 pub mod job;
 pub mod listing;
 pub mod numbers;

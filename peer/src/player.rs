@@ -3,8 +3,9 @@
 //! A player that lives elsewhere (behind C functions, say) is held against this crate by giving
 //! its calls these types.
 
+use crate::head::Access;
 use crate::job::{Written, MAX_NODES, MAX_REQUESTS};
-use crate::play::{play_watched, Access, Played};
+use crate::play::{play_watched, Played};
 use crate::query::Queried;
 
 /// File, table, report, line-up.

@@ -1,9 +1,10 @@
 //! A slow second reading of the rules: each request is a straight program, started over at every
 //! grant on what its head saw before. It can also take one of the known wrong turns.
 
+use peer::head::{Access, Deed};
 use peer::job::{self, Job, Kind, Request};
 use peer::numbers::answer;
-use peer::play::{Access, Deed, Played, Tally};
+use peer::play::{Played, Tally};
 use peer::word::{before, parent, rank, word};
 
 #[derive(Clone, Copy, Debug, PartialEq, Eq)]

@@ -3,8 +3,9 @@
 
 use peer::demand;
 use peer::gen::{self, Random};
+use peer::head::Access;
 use peer::job::{Job, Request};
-use peer::play::{self, Access};
+use peer::play;
 use peer::player::{Outcome, AMPLE};
 
 use crate::plain::{self, Turn, WRONG_TURNS};
@@ -54,27 +55,29 @@ fn demands_catch_wrong_results() {
     }
 }
 
+type Change = fn(&mut Outcome);
+
 /// A result with one number changed breaks a sentence.
 #[test]
 fn demands_name_what_is_wrong() {
     let requests = [Request::union(0, 2, 3), Request::same_set(1, 0, 1)];
     let job = Job::new(4, 2, &requests, &[(1, 2), (0, 6), (1, 1)]);
     let (right, trace) = Outcome::traced(&job.file().expect("accepted"), AMPLE);
-    let sentence = |change: &dyn Fn(&mut Outcome)| {
+    let sentence = |change: Change| {
         let mut wrong = right.clone();
         change(&mut wrong);
         demand::check(&job, &trace, &wrong).expect_err("something is wrong")
     };
-    let cases: [(&dyn Fn(&mut Outcome), &str); 9] = [
-        (&|o| o.table[2] = 2, "the table is what the writes left"),
-        (&|o| o.table[4] = 0, "numbers past the used parts stay"),
-        (&|o| o.report[3] = 7, "the grants used are the request's"),
-        (&|o| o.report[6] = 8, "the last grant ends it, or 0"),
-        (&|o| o.report[4] = 3, "a point is where the rules put it"),
-        (&|o| o.lineup[0] = 9, "points rise"),
-        (&|o| o.lineup[2] = 8, "a point is where the rules put it"),
-        (&|o| o.lineup[3] = 1, "a finished request is entered once"),
-        (&|o| o.played.tally.links = 2, "links are counted"),
+    let cases: [(Change, &str); 9] = [
+        (|o| o.table[2] = 2, "the table is what the writes left"),
+        (|o| o.table[4] = 0, "numbers past the used parts stay"),
+        (|o| o.report[3] = 7, "the grants used are the request's"),
+        (|o| o.report[6] = 8, "the last grant ends it, or 0"),
+        (|o| o.report[4] = 3, "a point is where the rules put it"),
+        (|o| o.lineup[0] = 9, "points rise"),
+        (|o| o.lineup[2] = 8, "a point is where the rules put it"),
+        (|o| o.lineup[3] = 1, "a finished request is entered once"),
+        (|o| o.played.tally.links = 2, "links are counted"),
     ];
     for (change, broken) in cases {
         assert_eq!(sentence(change), broken);
