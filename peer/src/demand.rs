@@ -71,31 +71,12 @@ impl<'a> Run<'a> {
                 own.links.push(access.grant);
             }
         }
-        let numbers = |n: &[u32]| Numbers {
-            answer: n[0],
-            first: n[1],
-            last: n[2],
-            used: n[3],
-        };
-        let entry = |n: &[u32]| Entry {
-            point: n[0],
-            request: n[1] as usize,
-        };
-        let report = outcome
-            .report
-            .chunks_exact(4)
-            .map(numbers)
-            .take(job.requests.len());
+        let numbers = |n: &[u32]| Numbers { answer: n[0], first: n[1], last: n[2], used: n[3] };
+        let entry = |n: &[u32]| Entry { point: n[0], request: n[1] as usize };
+        let report = outcome.report.chunks_exact(4).map(numbers).take(job.requests.len());
         let lineup = outcome.lineup.chunks_exact(2).map(entry);
         let lineup = lineup.take(outcome.played.entries as usize).collect();
-        Run {
-            job,
-            trace,
-            outcome,
-            own,
-            report: report.collect(),
-            lineup,
-        }
+        Run { job, trace, outcome, own, report: report.collect(), lineup }
     }
 
     fn counts(&self) -> Verdict {
@@ -103,22 +84,10 @@ impl<'a> Run<'a> {
         hold(played.number == 0, "the job is accepted")?;
         hold(played.nodes == self.job.nodes, "the nodes are the job's")?;
         hold(played.heads == self.job.heads, "the heads are the job's")?;
-        hold(
-            played.requests as usize == self.job.requests.len(),
-            "the requests are the job's",
-        )?;
-        hold(
-            played.grants as usize == self.job.grants.len(),
-            "the grants are the job's",
-        )?;
-        hold(
-            self.lineup.len() == played.entries as usize,
-            "the entries are within the line-up",
-        )?;
-        hold(
-            self.outcome.rest_as_lent(),
-            "numbers past the used parts stay",
-        )
+        hold(played.requests as usize == self.job.requests.len(), "the requests are the job's")?;
+        hold(played.grants as usize == self.job.grants.len(), "the grants are the job's")?;
+        hold(self.lineup.len() == played.entries as usize, "the entries are within the line-up")?;
+        hold(self.outcome.rest_as_lent(), "numbers past the used parts stay")
     }
 
     /// Each grant finds what the grant before it left.
@@ -130,19 +99,13 @@ impl<'a> Run<'a> {
             hold(previous < access.grant, "a grant makes one access")?;
             hold(*own == access.seen, "an access sees the word that stands")?;
             let granted = self.job.grants.get(access.grant as usize - 1);
-            hold(
-                granted == Some(&access.head),
-                "an access is made by the head granted",
-            )?;
+            hold(granted == Some(&access.head), "an access is made by the head granted")?;
             if let (true, Deed::Swap { new, .. }) = (access.wrote(), access.deed) {
                 *own = new;
             }
             previous = access.grant;
         }
-        hold(
-            self.outcome.table[..table.len()] == table,
-            "the table is what the writes left",
-        )
+        hold(self.outcome.table[..table.len()] == table, "the table is what the writes left")
     }
 
     fn report(&self) -> Verdict {
@@ -152,24 +115,12 @@ impl<'a> Run<'a> {
             let first = own.grants.first().copied().unwrap_or(0);
             let last = own.grants.last().copied().unwrap_or(0);
             let finished = numbers.answer != answer::UNFINISHED;
-            hold(
-                numbers.first == first,
-                "the first grant is the request's first",
-            )?;
-            hold(
-                numbers.used as usize == own.grants.len(),
-                "the grants used are the request's",
-            )?;
-            hold(
-                numbers.last == if finished { last } else { 0 },
-                "the last grant ends it, or 0",
-            )?;
+            hold(numbers.first == first, "the first grant is the request's first")?;
+            hold(numbers.used as usize == own.grants.len(), "the grants used are the request's")?;
+            hold(numbers.last == if finished { last } else { 0 }, "the last grant ends it, or 0")?;
             hold(!finished || first != 0, "nothing ends before it begins")?;
             let over = &mut over[usize::from(request.head)];
-            hold(
-                first == 0 || *over < first,
-                "a head's requests are in file order",
-            )?;
+            hold(first == 0 || *over < first, "a head's requests are in file order")?;
             *over = if finished { last } else { u32::MAX };
         }
         Ok(())
@@ -183,19 +134,10 @@ impl<'a> Run<'a> {
         let rows = self.job.requests.iter().zip(&self.report);
         let unfinished = rows.filter(|(_, numbers)| numbers.answer == answer::UNFINISHED);
         let working = unfinished.fold(0u32, |mask, (request, _)| mask | 1 << request.head);
-        hold(
-            tally.idle as usize == idle,
-            "grants without an access are idle",
-        )?;
-        hold(
-            tally.failed as usize == failed,
-            "swaps that did not write have failed",
-        )?;
+        hold(tally.idle as usize == idle, "grants without an access are idle")?;
+        hold(tally.failed as usize == failed, "swaps that did not write have failed")?;
         hold(tally.links as usize == links, "links are counted")?;
-        hold(
-            tally.working == working.count_ones(),
-            "working heads have unfinished requests",
-        )
+        hold(tally.working == working.count_ones(), "working heads have unfinished requests")
     }
 
     fn forest(&self) -> Verdict {
@@ -209,16 +151,10 @@ impl<'a> Run<'a> {
             let of_parent = rank(table[up as usize]);
             let after = before(rank(own), node, of_parent, up);
             hold(up == node || after, "a parent comes after its child")?;
-            hold(
-                rank(own) <= nodes.ilog2(),
-                "no rank exceeds the logarithm of the nodes",
-            )?;
+            hold(rank(own) <= nodes.ilog2(), "no rank exceeds the logarithm of the nodes")?;
             roots += u32::from(up == node);
         }
-        hold(
-            roots + self.outcome.played.tally.links == nodes,
-            "roots plus links are the nodes",
-        )
+        hold(roots + self.outcome.played.tally.links == nodes, "roots plus links are the nodes")
     }
 
     /// Finished requests are in it once, unfinished ones exactly if they have linked.
@@ -233,10 +169,7 @@ impl<'a> Run<'a> {
             hold(linked <= 1, "a request links at most once")?;
             match numbers.answer {
                 answer::UNFINISHED => {
-                    hold(
-                        times == linked,
-                        "an unfinished request is entered if it has linked",
-                    )?;
+                    hold(times == linked, "an unfinished request is entered if it has linked")?;
                 }
                 answer::JOINED => {
                     hold(linked == 1, "joined says that it has linked")?;
@@ -253,27 +186,18 @@ impl<'a> Run<'a> {
 
     /// Points rise, lie within their requests and are where document 01 puts them.
     fn points(&self) -> Verdict {
-        let rising = self
-            .lineup
-            .windows(2)
-            .all(|pair| pair[0].point < pair[1].point);
+        let rising = self.lineup.windows(2).all(|pair| pair[0].point < pair[1].point);
         hold(rising, "points rise")?;
         for entry in &self.lineup {
             let own = &self.own[entry.request];
             let grants = &own.grants;
-            hold(
-                grants.binary_search(&entry.point).is_ok(),
-                "a point is a grant of its request",
-            )?;
+            hold(grants.binary_search(&entry.point).is_ok(), "a point is a grant of its request")?;
             let place = match self.report[entry.request].answer {
                 answer::UNFINISHED | answer::JOINED => own.links.last(),
                 answer::NO => grants.iter().rev().nth(1),
                 _ => grants.last(),
             };
-            hold(
-                place == Some(&entry.point),
-                "a point is where the rules put it",
-            )?;
+            hold(place == Some(&entry.point), "a point is where the rules put it")?;
         }
         Ok(())
     }
@@ -284,10 +208,7 @@ impl<'a> Run<'a> {
         for entry in &self.lineup {
             let Numbers { first, last, .. } = self.report[entry.request];
             latest_first = latest_first.max(first);
-            hold(
-                last == 0 || latest_first <= last,
-                "what ended first stands first",
-            )?;
+            hold(last == 0 || latest_first <= last, "what ended first stands first")?;
         }
         Ok(())
     }
@@ -314,14 +235,8 @@ impl<'a> Run<'a> {
             let (set, root) = (book.set_of(node), self.root(node));
             let set_there = *set_of_root[root as usize].get_or_insert(set);
             let root_there = *root_of_set[set as usize].get_or_insert(root);
-            hold(
-                set_there == set,
-                "one group in the table is one set in the book",
-            )?;
-            hold(
-                root_there == root,
-                "one set in the book is one group in the table",
-            )?;
+            hold(set_there == set, "one group in the table is one set in the book")?;
+            hold(root_there == root, "one set in the book is one group in the table")?;
         }
         Ok(())
     }

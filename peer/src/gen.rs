@@ -43,12 +43,7 @@ pub fn contended(random: &mut Random) -> Job {
     let count = random.between(1, 24);
     let requests = requests(random, nodes, heads, count);
     let length = random.between(0, 14 * count);
-    Job {
-        nodes,
-        heads,
-        requests,
-        grants: schedule(random, heads, length),
-    }
+    Job { nodes, heads, requests, grants: schedule(random, heads, length) }
 }
 
 /// A larger job, up to every limit, whose requests keep to a part of the nodes.
@@ -59,12 +54,7 @@ pub fn larger(random: &mut Random) -> Job {
     let count = random.between(1, 512);
     let requests = requests(random, busy, heads, count);
     let length = random.between(0, 20 * count).min(7_000);
-    Job {
-        nodes,
-        heads,
-        requests,
-        grants: schedule(random, heads, length),
-    }
+    Job { nodes, heads, requests, grants: schedule(random, heads, length) }
 }
 
 fn requests(random: &mut Random, nodes: u32, heads: u32, count: u32) -> Vec<Request> {
@@ -87,11 +77,7 @@ fn schedule(random: &mut Random, heads: u32, length: u32) -> Vec<u8> {
     let mut grants = Vec::new();
     let mut head = 0;
     while grants.len() < length as usize {
-        head = if style == 0 {
-            (head + 1) % heads
-        } else {
-            random.below(heads)
-        };
+        head = if style == 0 { (head + 1) % heads } else { random.below(heads) };
         let burst = match style {
             0 | 1 => 1,
             2 => random.between(1, 3),
@@ -107,11 +93,7 @@ fn schedule(random: &mut Random, heads: u32, length: u32) -> Vec<u8> {
 
 /// Schedules that random ones seldom meet.
 pub fn built() -> Vec<Job> {
-    let three = [
-        Request::union(0, 0, 1),
-        Request::union(0, 2, 1),
-        Request::union(1, 1, 2),
-    ];
+    let three = [Request::union(0, 0, 1), Request::union(0, 2, 1), Request::union(1, 1, 2)];
     let everyone: Vec<Request> = (0..16).map(|head| Request::union(head, 0, 1)).collect();
     let in_turn = |grants: u8| (0..16 * grants).map(|n| (n % 16, 1)).collect::<Vec<_>>();
     vec![
@@ -154,9 +136,7 @@ pub fn admitted_table(random: &mut Random, nodes: u32) -> Vec<u32> {
             node
         }
     };
-    (0..nodes)
-        .map(|node| word(rank_of(node), parent_of(node)))
-        .collect()
+    (0..nodes).map(|node| word(rank_of(node), parent_of(node))).collect()
 }
 
 /// What is known of a damaged file.
@@ -172,10 +152,7 @@ pub fn damaged(random: &mut Random, job: &Job) -> (Vec<u8>, Expected) {
     let file = job.file().expect("a generated job is accepted");
     match random.below(9) {
         0 => bytes_changed(random, file),
-        1 => (
-            file[..random.below(file.len() as u32) as usize].to_vec(),
-            ends_early(),
-        ),
+        1 => (file[..random.below(file.len() as u32) as usize].to_vec(), ends_early()),
         2 => lengthened(random, file),
         3 => marks_exchanged(random, file),
         4 => opening_out_of_range(random, file),
@@ -202,25 +179,14 @@ fn bytes_changed(random: &mut Random, mut file: Vec<u8>) -> (Vec<u8>, Expected) 
         return (file, Expected::Anything);
     }
     // A single byte always shows in the sum.
-    (
-        file,
-        if one {
-            Expected::Refused
-        } else {
-            Expected::Anything
-        },
-    )
+    (file, if one { Expected::Refused } else { Expected::Anything })
 }
 
 fn lengthened(random: &mut Random, mut file: Vec<u8>) -> (Vec<u8>, Expected) {
     let oversize = random.chance(20);
     let length = if oversize { MAX_BYTES } else { file.len() } + random.between(1, 4) as usize;
     file.resize(length, random.below(256) as u8);
-    let number = if oversize {
-        refusal::FILE_TOO_LONG
-    } else {
-        refusal::AFTER_CLOSE
-    };
+    let number = if oversize { refusal::FILE_TOO_LONG } else { refusal::AFTER_CLOSE };
     (file, Expected::Number(number))
 }
 
@@ -228,10 +194,7 @@ fn lengthened(random: &mut Random, mut file: Vec<u8>) -> (Vec<u8>, Expected) {
 fn marks_exchanged(random: &mut Random, mut file: Vec<u8>) -> (Vec<u8>, Expected) {
     let words = (file.len() / 2) as u32;
     let marks = [0, words - 2, random.below(words), OPENING as u32 / 2];
-    let (a, b) = (
-        2 * random.pick(&marks) as usize,
-        2 * random.pick(&marks) as usize,
-    );
+    let (a, b) = (2 * random.pick(&marks) as usize, 2 * random.pick(&marks) as usize);
     for byte in 0..2 {
         file.swap(a + byte, b + byte);
     }
@@ -293,11 +256,7 @@ fn run_split(random: &mut Random, mut file: Vec<u8>, job: &Job) -> (Vec<u8>, Exp
         return (file, Expected::Number(0));
     };
     let (head, run) = (file[at + 2], file[at + 3]);
-    let first = if run < 2 {
-        run
-    } else {
-        random.between(1, u32::from(run) - 1) as u8
-    };
+    let first = if run < 2 { run } else { random.between(1, u32::from(run) - 1) as u8 };
     let second = (run - first).max(1);
     file[at + 3] = first;
     file.splice(at + RUN..at + RUN, [b'G', b'R', head, second]);

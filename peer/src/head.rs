@@ -63,15 +63,7 @@ impl<'a, W: FnMut(Access)> Memory<'a, W> {
         for (node, own) in table.iter_mut().enumerate() {
             *own = word(0, node as u32);
         }
-        Memory {
-            table,
-            failed: 0,
-            links: 0,
-            now: 0,
-            head: 0,
-            request: 0,
-            watch,
-        }
+        Memory { table, failed: 0, links: 0, now: 0, head: 0, request: 0, watch }
     }
 
     fn read(&mut self, node: u32) -> u32 {
@@ -115,7 +107,21 @@ enum Side {
 #[derive(Clone, Copy)]
 enum Stage {
     Resting,
-    Find(Side, Find),
+    /// The round of a find: `own` is the node's word as read, `up` its parent's.
+    ReadNode(Side),
+    ReadParent {
+        side: Side,
+        own: u32,
+    },
+    Halve {
+        side: Side,
+        own: u32,
+        up: u32,
+    },
+    ReadParentAgain {
+        side: Side,
+        parent: u32,
+    },
     /// Of a same-set whose two roots differ.
     RereadX,
     /// Of a union whose two roots differ.
@@ -132,15 +138,6 @@ enum Stage {
     },
 }
 
-/// A find's round: `own` is the node's word and `up` its parent's, as read.
-#[derive(Clone, Copy)]
-enum Find {
-    ReadNode,
-    ReadParent { own: u32 },
-    Halve { own: u32, up: u32 },
-    ReadParentAgain { parent: u32 },
-}
-
 /// A head, with its request under way or, while it rests, its next one.
 #[derive(Clone, Copy)]
 pub struct Head {
@@ -154,28 +151,23 @@ pub struct Head {
 }
 
 /// What a grant gives to the line-up, a point, and to the report, an answer; zero for nothing.
-pub struct Outcome {
+pub struct Progress {
     pub point: u32,
     pub answer: u32,
 }
 
-impl Outcome {
-    const NOTHING: Outcome = Outcome::new(0, answer::UNFINISHED);
+impl Progress {
+    const NOTHING: Progress = Progress::new(0, answer::UNFINISHED);
 
-    const fn new(point: u32, answer: u32) -> Outcome {
-        Outcome { point, answer }
+    const fn new(point: u32, answer: u32) -> Progress {
+        Progress { point, answer }
     }
 }
 
 impl Head {
-    pub const IDLE: Head = Head {
-        request: 0,
-        kind: Kind::Union,
-        x: 0,
-        y: 0,
-        point: 0,
-        stage: Stage::Resting,
-    };
+    /// Before it has any request.
+    pub const NEW: Head =
+        Head { request: 0, kind: Kind::Union, x: 0, y: 0, point: 0, stage: Stage::Resting };
 
     /// Rests before the request of this number.
     pub fn rest(&mut self, request: usize) {
@@ -196,17 +188,24 @@ impl Head {
     }
 
     /// Makes the one access of a grant.
-    pub fn step<W: FnMut(Access)>(&mut self, memory: &mut Memory<W>) -> Outcome {
+    pub fn step<W: FnMut(Access)>(&mut self, memory: &mut Memory<W>) -> Progress {
         match self.stage {
-            Stage::Resting => Outcome::NOTHING,
-            Stage::Find(side, find) => self.find(side, find, memory),
-            Stage::RereadX => {
-                if parent(memory.read(self.x)) == self.x {
-                    Outcome::new(self.point, answer::NO)
-                } else {
-                    self.try_again()
-                }
+            Stage::Resting => Progress::NOTHING,
+            Stage::ReadNode(side) => self.read_node(side, memory),
+            Stage::ReadParent { side, own } => {
+                let up = memory.read(parent(own));
+                self.go_on(Stage::Halve { side, own, up })
             }
+            Stage::Halve { side, own, up } => {
+                memory.swap(*self.node(side), own, word(rank(own), parent(up)));
+                let parent = parent(own);
+                self.go_on(Stage::ReadParentAgain { side, parent })
+            }
+            Stage::ReadParentAgain { side, parent: node } => {
+                *self.node(side) = parent(memory.read(node));
+                self.go_on(Stage::ReadNode(side))
+            }
+            Stage::RereadX => self.reread(memory),
             Stage::RankOfX => {
                 let rank_x = rank(memory.read(self.x));
                 self.go_on(Stage::RankOfY { rank_x })
@@ -218,51 +217,29 @@ impl Head {
             Stage::Link { rank_x, rank_y } => self.link(rank_x, rank_y, memory),
             Stage::Raise { rank } => {
                 memory.swap(self.y, word(rank, self.y), word(rank + 1, self.y));
-                Outcome::new(0, answer::JOINED)
+                Progress::new(0, answer::JOINED)
             }
         }
     }
 
-    fn find<W: FnMut(Access)>(
-        &mut self,
-        side: Side,
-        find: Find,
-        memory: &mut Memory<W>,
-    ) -> Outcome {
+    fn read_node<W: FnMut(Access)>(&mut self, side: Side, memory: &mut Memory<W>) -> Progress {
         let node = *self.node(side);
-        let next = match find {
-            Find::ReadNode => {
-                let own = memory.read(node);
-                if parent(own) == node {
-                    return self.found(side, memory.now);
-                }
-                Find::ReadParent { own }
-            }
-            Find::ReadParent { own } => {
-                let up = memory.read(parent(own));
-                Find::Halve { own, up }
-            }
-            Find::Halve { own, up } => {
-                memory.swap(node, own, word(rank(own), parent(up)));
-                let parent = parent(own);
-                Find::ReadParentAgain { parent }
-            }
-            Find::ReadParentAgain { parent: up } => {
-                *self.node(side) = parent(memory.read(up));
-                Find::ReadNode
-            }
-        };
-        self.go_on(Stage::Find(side, next))
+        let own = memory.read(node);
+        if parent(own) == node {
+            self.found(side, memory.now)
+        } else {
+            self.go_on(Stage::ReadParent { side, own })
+        }
     }
 
     /// After the grant that ended a find at a root.
-    fn found(&mut self, side: Side, now: u32) -> Outcome {
+    fn found(&mut self, side: Side, now: u32) -> Progress {
         let met = self.x == self.y;
         match (side, self.kind) {
-            (Side::X, _) => self.go_on(Stage::Find(Side::Y, Find::ReadNode)),
-            (Side::Y, Kind::Union) if met => Outcome::new(now, answer::TOGETHER),
+            (Side::X, _) => self.go_on(Stage::ReadNode(Side::Y)),
+            (Side::Y, Kind::Union) if met => Progress::new(now, answer::TOGETHER),
             (Side::Y, Kind::Union) => self.go_on(Stage::RankOfX),
-            (Side::Y, Kind::SameSet) if met => Outcome::new(now, answer::YES),
+            (Side::Y, Kind::SameSet) if met => Progress::new(now, answer::YES),
             (Side::Y, Kind::SameSet) => {
                 self.point = now;
                 self.go_on(Stage::RereadX)
@@ -270,8 +247,16 @@ impl Head {
         }
     }
 
+    fn reread<W: FnMut(Access)>(&mut self, memory: &mut Memory<W>) -> Progress {
+        if parent(memory.read(self.x)) == self.x {
+            Progress::new(self.point, answer::NO)
+        } else {
+            self.try_again()
+        }
+    }
+
     /// Both ranks are read: x is to come before y.
-    fn order(&mut self, rank_x: u32, rank_y: u32) -> Outcome {
+    fn order(&mut self, rank_x: u32, rank_y: u32) -> Progress {
         if before(rank_y, self.y, rank_x, self.x) {
             std::mem::swap(&mut self.x, &mut self.y);
             let (rank_x, rank_y) = (rank_y, rank_x);
@@ -286,25 +271,25 @@ impl Head {
         rank_x: u32,
         rank_y: u32,
         memory: &mut Memory<W>,
-    ) -> Outcome {
+    ) -> Progress {
         if !memory.swap(self.x, word(rank_x, self.x), word(rank_x, self.y)) {
             return self.try_again();
         }
         memory.links += 1;
         if rank_x != rank_y {
-            return Outcome::new(memory.now, answer::JOINED);
+            return Progress::new(memory.now, answer::JOINED);
         }
         self.stage = Stage::Raise { rank: rank_y };
-        Outcome::new(memory.now, answer::UNFINISHED)
+        Progress::new(memory.now, answer::UNFINISHED)
     }
 
-    fn try_again(&mut self) -> Outcome {
-        self.go_on(Stage::Find(Side::X, Find::ReadNode))
+    fn try_again(&mut self) -> Progress {
+        self.go_on(Stage::ReadNode(Side::X))
     }
 
-    fn go_on(&mut self, stage: Stage) -> Outcome {
+    fn go_on(&mut self, stage: Stage) -> Progress {
         self.stage = stage;
-        Outcome::NOTHING
+        Progress::NOTHING
     }
 
     fn node(&mut self, side: Side) -> &mut u32 {

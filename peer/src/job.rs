@@ -35,21 +35,11 @@ pub struct Request {
 
 impl Request {
     pub fn union(head: u8, x: u32, y: u32) -> Request {
-        Request {
-            head,
-            kind: Kind::Union,
-            x,
-            y,
-        }
+        Request { head, kind: Kind::Union, x, y }
     }
 
     pub fn same_set(head: u8, x: u32, y: u32) -> Request {
-        Request {
-            head,
-            kind: Kind::SameSet,
-            x,
-            y,
-        }
+        Request { head, kind: Kind::SameSet, x, y }
     }
 }
 
@@ -80,24 +70,13 @@ pub struct Written {
 impl Job {
     /// A job with its schedule as pairs of a head and its number of grants.
     pub fn new(nodes: u32, heads: u32, requests: &[Request], runs: &[(u8, usize)]) -> Job {
-        let grants = runs
-            .iter()
-            .flat_map(|&(head, run)| vec![head; run])
-            .collect();
-        Job {
-            nodes,
-            heads,
-            requests: requests.to_vec(),
-            grants,
-        }
+        let grants = runs.iter().flat_map(|&(head, run)| vec![head; run]).collect();
+        Job { nodes, heads, requests: requests.to_vec(), grants }
     }
 
     /// The same job with only its first grants.
     pub fn cut(&self, grants: usize) -> Job {
-        Job {
-            grants: self.grants[..grants].to_vec(),
-            ..self.clone()
-        }
+        Job { grants: self.grants[..grants].to_vec(), ..self.clone() }
     }
 
     /// The requests as the writer takes them: head, kind, x, y of each.
@@ -126,9 +105,7 @@ pub fn read(file: &[u8]) -> Result<Job, u32> {
     Ok(Job {
         nodes: shape.nodes,
         heads: shape.heads,
-        requests: (0..shape.requests)
-            .map(|number| request_at(file, number))
-            .collect(),
+        requests: (0..shape.requests).map(|number| request_at(file, number)).collect(),
         grants: grants.collect(),
     })
 }
@@ -160,11 +137,7 @@ fn check_opening(file: &[u8]) -> Result<Shape, u32> {
     let (nodes, heads) = (field(record, 2), field(record, 4));
     refuse_if(!(1..=MAX_NODES).contains(&nodes), refusal::NODES)?;
     refuse_if(!(1..=MAX_HEADS).contains(&heads), refusal::HEADS)?;
-    Ok(Shape {
-        nodes,
-        heads,
-        ..Shape::default()
-    })
+    Ok(Shape { nodes, heads, ..Shape::default() })
 }
 
 fn check_request(record: &[u8], shape: &mut Shape) -> Result<(), u32> {
@@ -194,32 +167,19 @@ fn check_run(
 /// A request of an accepted file.
 pub fn request_at(file: &[u8], number: usize) -> Request {
     let record = &file[OPENING + REQUEST * number..][..REQUEST];
-    let kind = if record[3] == 1 {
-        Kind::Union
-    } else {
-        Kind::SameSet
-    };
-    Request {
-        head: record[2],
-        kind,
-        x: field(record, 4),
-        y: field(record, 6),
-    }
+    let kind = if record[3] == 1 { Kind::Union } else { Kind::SameSet };
+    Request { head: record[2], kind, x: field(record, 4), y: field(record, 6) }
 }
 
 /// The runs of an accepted file: head and length of each.
 pub fn runs<'a>(file: &'a [u8], shape: &Shape) -> impl Iterator<Item = (u8, u8)> + 'a {
     let records = &file[OPENING + REQUEST * shape.requests..file.len() - CLOSE];
-    records
-        .chunks_exact(RUN)
-        .map(|record| (record[2], record[3]))
+    records.chunks_exact(RUN).map(|record| (record[2], record[3]))
 }
 
 /// The sum of a file's 16-bit words, carries dropped.
 pub fn sum(file: &[u8]) -> u16 {
-    let words = file
-        .chunks_exact(2)
-        .map(|pair| u16::from_le_bytes([pair[0], pair[1]]));
+    let words = file.chunks_exact(2).map(|pair| u16::from_le_bytes([pair[0], pair[1]]));
     words.fold(0, u16::wrapping_add)
 }
 
@@ -256,10 +216,7 @@ pub fn write(
         Err(number) => Written { number, bytes: 0 },
         Ok(bytes) => {
             fill(&mut buffer[..bytes], nodes, heads, requests, grants);
-            Written {
-                number: refusal::NONE,
-                bytes: bytes as u32,
-            }
+            Written { number: refusal::NONE, bytes: bytes as u32 }
         }
     }
 }
@@ -274,10 +231,7 @@ fn check_meaning(
 ) -> Result<usize, u32> {
     refuse_if(!(1..=MAX_NODES).contains(&nodes), refusal::NODES)?;
     refuse_if(!(1..=MAX_HEADS).contains(&heads), refusal::HEADS)?;
-    refuse_if(
-        requests.len() / 4 > MAX_REQUESTS,
-        refusal::TOO_MANY_REQUESTS,
-    )?;
+    refuse_if(requests.len() / 4 > MAX_REQUESTS, refusal::TOO_MANY_REQUESTS)?;
     for request in requests.chunks_exact(4) {
         refuse_if(request[0] >= heads, refusal::REQUEST_HEAD)?;
         refuse_if(!(1..=2).contains(&request[1]), refusal::REQUEST_KIND)?;
@@ -296,9 +250,7 @@ fn check_meaning(
 
 /// Splits the grants into stretches of one head, each as long as it can be.
 fn longest_runs(grants: &[u8]) -> impl Iterator<Item = &[u8]> {
-    grants
-        .chunk_by(|a, b| a == b)
-        .flat_map(|stretch| stretch.chunks(MAX_RUN))
+    grants.chunk_by(|a, b| a == b).flat_map(|stretch| stretch.chunks(MAX_RUN))
 }
 
 fn fill(file: &mut [u8], nodes: u32, heads: u32, requests: &[u32], grants: &[u8]) {

@@ -29,10 +29,7 @@ pub fn text(played: &Played, table: &[u32], report: &[u32], lineup: &[u32]) -> S
         }
         text.push('\n');
     };
-    line(
-        "job",
-        &[played.nodes, played.heads, played.requests, played.grants],
-    );
+    line("job", &[played.nodes, played.heads, played.requests, played.grants]);
     for node in 0..played.nodes {
         let own = table[node as usize];
         line("word", &[node, parent(own), rank(own)]);
@@ -44,9 +41,6 @@ pub fn text(played: &Played, table: &[u32], report: &[u32], lineup: &[u32]) -> S
         line("line", entry);
     }
     let tally = &played.tally;
-    line(
-        "tally",
-        &[tally.idle, tally.failed, tally.links, tally.working],
-    );
+    line("tally", &[tally.idle, tally.failed, tally.links, tally.working]);
     text
 }

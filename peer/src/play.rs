@@ -26,10 +26,7 @@ pub struct Played {
 
 impl Played {
     pub fn refused(number: u32) -> Played {
-        Played {
-            number,
-            ..Played::default()
-        }
+        Played { number, ..Played::default() }
     }
 }
 
@@ -92,15 +89,12 @@ impl<'a, W: FnMut(Access)> Run<'a, W> {
         let mut run = Run {
             file,
             shape,
-            heads: [Head::IDLE; job::MAX_HEADS as usize],
+            heads: [Head::NEW; job::MAX_HEADS as usize],
             work: 0,
             idle: 0,
             memory: Memory::start(table, watch),
             report,
-            lineup: Lineup {
-                numbers: lineup,
-                entries: 0,
-            },
+            lineup: Lineup { numbers: lineup, entries: 0 },
         };
         for head in 0..shape.heads as u8 {
             run.rest(head, 0);
@@ -136,12 +130,12 @@ impl<'a, W: FnMut(Access)> Run<'a, W> {
         numbers[3] += 1;
         self.memory.head = head;
         self.memory.request = number;
-        let outcome = state.step(&mut self.memory);
-        if outcome.point != 0 {
-            self.lineup.enter(outcome.point, number as u32);
+        let progress = state.step(&mut self.memory);
+        if progress.point != 0 {
+            self.lineup.enter(progress.point, number as u32);
         }
-        if outcome.answer != answer::UNFINISHED {
-            numbers[0] = outcome.answer;
+        if progress.answer != answer::UNFINISHED {
+            numbers[0] = progress.answer;
             numbers[2] = self.memory.now;
             self.rest(head, number + 1);
         }
@@ -178,8 +172,7 @@ impl Lineup<'_> {
         while place > 0 && self.numbers[2 * place - 2] > point {
             place -= 1;
         }
-        self.numbers
-            .copy_within(2 * place..2 * self.entries, 2 * place + 2);
+        self.numbers.copy_within(2 * place..2 * self.entries, 2 * place + 2);
         self.numbers[2 * place] = point;
         self.numbers[2 * place + 1] = request;
         self.entries += 1;

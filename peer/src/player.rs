@@ -1,21 +1,38 @@
-//! The calls through which any player is driven, and everything that one call leaves behind.
-//!
-//! A player that lives elsewhere (behind C functions, say) is held against this crate by giving
-//! its calls these types.
+//! The calls of a player, this crate's or another's, and everything that one call leaves behind.
 
 use crate::head::Access;
-use crate::job::{Written, MAX_NODES, MAX_REQUESTS};
-use crate::play::{play_watched, Played};
-use crate::query::Queried;
+use crate::job::{self, Job, Written, MAX_NODES, MAX_REQUESTS};
+use crate::listing;
+use crate::play::{self, Played};
+use crate::query::{self, Queried};
 
 /// File, table, report, line-up.
-pub type Play<'a> = &'a dyn Fn(&[u8], &mut [u32], &mut [u32], &mut [u32]) -> Played;
+pub type Play = fn(&[u8], &mut [u32], &mut [u32], &mut [u32]) -> Played;
 /// Nodes, heads, requests, grants, buffer.
-pub type Write<'a> = &'a dyn Fn(u32, u32, &[u32], &[u8], &mut [u8]) -> Written;
+pub type Write = fn(u32, u32, &[u32], &[u8], &mut [u8]) -> Written;
 /// Table, x, y, budget.
-pub type Query<'a> = &'a dyn Fn(&mut [u32], u32, u32, u16) -> Queried;
-/// The program's text for a file.
-pub type List<'a> = &'a dyn Fn(&[u8]) -> String;
+pub type Query = fn(&mut [u32], u32, u32, u16) -> Queried;
+/// A file; gives the program's text for it.
+pub type List = fn(&[u8]) -> String;
+
+/// A player as its calls. One that lives elsewhere, behind C functions say, is held against this
+/// crate's by giving its calls these types.
+#[derive(Clone, Copy)]
+pub struct Player {
+    pub name: &'static str,
+    pub play: Play,
+    pub write: Write,
+    pub query: Query,
+    pub list: List,
+}
+
+pub const PEER: Player = Player {
+    name: "peer",
+    play: play::play,
+    write: job::write,
+    query: query::query,
+    list: listing::listing,
+};
 
 /// How many numbers are lent for the table, the report and the line-up.
 #[derive(Clone, Copy, Debug, PartialEq, Eq)]
@@ -25,12 +42,23 @@ pub struct Lengths {
     pub lineup: usize,
 }
 
+impl Lengths {
+    /// No more than a job needs.
+    pub fn exact(job: &Job) -> Lengths {
+        let requests = job.requests.len();
+        Lengths { table: job.nodes as usize, report: 4 * requests, lineup: 2 * requests }
+    }
+
+    /// So many more of each.
+    pub fn and(self, more: usize) -> Lengths {
+        let Lengths { table, report, lineup } = self;
+        Lengths { table: table + more, report: report + more, lineup: lineup + more }
+    }
+}
+
 /// Enough for every job.
-pub const AMPLE: Lengths = Lengths {
-    table: MAX_NODES as usize,
-    report: 4 * MAX_REQUESTS,
-    lineup: 2 * MAX_REQUESTS,
-};
+pub const AMPLE: Lengths =
+    Lengths { table: MAX_NODES as usize, report: 4 * MAX_REQUESTS, lineup: 2 * MAX_REQUESTS };
 
 /// A result with every number lent, used or not.
 #[derive(Clone, Debug, PartialEq, Eq)]
@@ -59,14 +87,12 @@ impl Outcome {
     }
 
     /// What a player leaves of buffers of these lengths.
-    pub fn of(play: Play, file: &[u8], lengths: Lengths) -> Outcome {
+    pub fn of<P>(play: P, file: &[u8], lengths: Lengths) -> Outcome
+    where
+        P: FnOnce(&[u8], &mut [u32], &mut [u32], &mut [u32]) -> Played,
+    {
         let mut outcome = Outcome::untouched(0, lengths);
-        let Outcome {
-            table,
-            report,
-            lineup,
-            ..
-        } = &mut outcome;
+        let Outcome { table, report, lineup, .. } = &mut outcome;
         outcome.played = play(file, table, report, lineup);
         outcome
     }
@@ -75,28 +101,18 @@ impl Outcome {
     pub fn traced(file: &[u8], lengths: Lengths) -> (Outcome, Vec<Access>) {
         let mut outcome = Outcome::untouched(0, lengths);
         let mut trace = Vec::new();
-        let Outcome {
-            table,
-            report,
-            lineup,
-            ..
-        } = &mut outcome;
-        outcome.played = play_watched(file, table, report, lineup, |access| trace.push(access));
+        let Outcome { table, report, lineup, .. } = &mut outcome;
+        let watch = |access| trace.push(access);
+        outcome.played = play::play_watched(file, table, report, lineup, watch);
         (outcome, trace)
     }
 
     /// Whether the numbers past the used part of each buffer are as lent.
     pub fn rest_as_lent(&self) -> bool {
-        let Played {
-            nodes,
-            requests,
-            entries,
-            ..
-        } = self.played;
+        let Played { nodes, requests, entries, .. } = self.played;
         let kept = |buffer: &[u32], used: u32| {
             let rest = buffer.iter().enumerate().skip(used as usize);
-            rest.into_iter()
-                .all(|(index, &number)| number == lent(index))
+            rest.into_iter().all(|(index, &number)| number == lent(index))
         };
         kept(&self.table, nodes)
             && kept(&self.report, 4 * requests)

@@ -5,7 +5,7 @@ use crate::numbers::{answer, refusal};
 use crate::word::{before, parent, rank, word};
 
 /// The answer is `YES`, `NO`, or `UNFINISHED` for a budget spent; a refused call has zeros.
-#[derive(Clone, Copy, Debug, PartialEq, Eq)]
+#[derive(Clone, Copy, Debug, Default, PartialEq, Eq)]
 pub struct Queried {
     pub number: u32,
     pub answer: u32,
@@ -15,22 +15,11 @@ pub struct Queried {
 /// The table's length is its node count. Nothing is written by a refused call.
 pub fn query(table: &mut [u32], x: u32, y: u32, budget: u16) -> Queried {
     if let Err(number) = check(table, x, y) {
-        return Queried {
-            number,
-            answer: answer::UNFINISHED,
-            grants: 0,
-        };
+        return Queried { number, answer: answer::UNFINISHED, grants: 0 };
     }
-    let mut steps = Steps {
-        table,
-        left: budget,
-    };
+    let mut steps = Steps { table, left: budget };
     let answer = steps.same_set(x, y).unwrap_or(answer::UNFINISHED);
-    Queried {
-        number: refusal::NONE,
-        answer,
-        grants: u32::from(budget - steps.left),
-    }
+    Queried { number: refusal::NONE, answer, grants: u32::from(budget - steps.left) }
 }
 
 fn check(table: &[u32], x: u32, y: u32) -> Result<(), u32> {
@@ -38,11 +27,7 @@ fn check(table: &[u32], x: u32, y: u32) -> Result<(), u32> {
     if nodes == 0 || nodes > MAX_NODES as usize || x as usize >= nodes || y as usize >= nodes {
         return Err(refusal::QUERY_RANGE);
     }
-    if table
-        .iter()
-        .enumerate()
-        .all(|(node, &own)| admitted(table, node as u32, own))
-    {
+    if table.iter().enumerate().all(|(node, &own)| admitted(table, node as u32, own)) {
         Ok(())
     } else {
         Err(refusal::QUERY_WORD)

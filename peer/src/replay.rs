@@ -12,9 +12,7 @@ pub struct Book {
 impl Book {
     /// Each node alone.
     pub fn new(nodes: u32) -> Book {
-        Book {
-            set: (0..nodes).collect(),
-        }
+        Book { set: (0..nodes).collect() }
     }
 
     pub fn set_of(&self, node: u32) -> u32 {

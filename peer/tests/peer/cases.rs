@@ -2,9 +2,10 @@
 
 use peer::gen;
 use peer::job::{self, Job, Request};
-use peer::listing::listing;
 use peer::numbers::answer;
-use peer::query::{query, Queried};
+use peer::query::Queried;
+
+use crate::PLAYERS;
 
 fn union(head: u8, x: u32, y: u32) -> Request {
     Request::union(head, x, y)
@@ -15,33 +16,27 @@ fn same_set(head: u8, x: u32, y: u32) -> Request {
 }
 
 /// Name, nodes, heads, requests, schedule, the listing's lines.
-type Case<'a> = (
-    &'a str,
-    u32,
-    u32,
-    &'a [Request],
-    &'a [(u8, usize)],
-    &'a [&'a str],
-);
+type Case<'a> = (&'a str, u32, u32, &'a [Request], &'a [(u8, usize)], &'a [&'a str]);
+
+/// Every player prints this text for this file.
+fn lists(file: &[u8], text: &str) {
+    for player in PLAYERS {
+        assert_eq!((player.list)(file), text, "{}", player.name);
+    }
+}
 
 fn check(cases: &[Case]) {
     for (name, nodes, heads, requests, runs, lines) in cases {
         let file = Job::new(*nodes, *heads, requests, runs).file().expect(name);
         let text: String = lines.iter().map(|line| format!("{line}\n")).collect();
-        assert_eq!(listing(&file), text, "{name}");
+        lists(&file, &text);
     }
 }
 
 #[test]
 fn one_head() {
     let join = &[union(0, 0, 1)];
-    let cut = [
-        "job 2 1 1 5",
-        "word 0 1 0",
-        "word 1 1 0",
-        "request 0 0 1 0 5",
-        "line 5 0",
-    ];
+    let cut = ["job 2 1 1 5", "word 0 1 0", "word 1 1 0", "request 0 0 1 0 5", "line 5 0"];
     check(&[
         (
             "union of a node with itself",
@@ -49,13 +44,7 @@ fn one_head() {
             1,
             &[union(0, 0, 0)],
             &[(0, 2)],
-            &[
-                "job 1 1 1 2",
-                "word 0 0 0",
-                "request 0 2 1 2 2",
-                "line 2 0",
-                "tally 0 0 0 0",
-            ],
+            &["job 1 1 1 2", "word 0 0 0", "request 0 2 1 2 2", "line 2 0", "tally 0 0 0 0"],
         ),
         (
             "same-set of a node with itself",
@@ -63,13 +52,7 @@ fn one_head() {
             1,
             &[same_set(0, 0, 0)],
             &[(0, 2)],
-            &[
-                "job 1 1 1 2",
-                "word 0 0 0",
-                "request 0 3 1 2 2",
-                "line 2 0",
-                "tally 0 0 0 0",
-            ],
+            &["job 1 1 1 2", "word 0 0 0", "request 0 3 1 2 2", "line 2 0", "tally 0 0 0 0"],
         ),
         (
             "union alone",
@@ -86,27 +69,14 @@ fn one_head() {
                 "tally 0 0 1 0",
             ],
         ),
-        (
-            "cut after its link",
-            2,
-            1,
-            join,
-            &[(0, 5)],
-            &[&cut[..], &["tally 0 0 1 1"]].concat(),
-        ),
+        ("cut after its link", 2, 1, join, &[(0, 5)], &[&cut[..], &["tally 0 0 1 1"]].concat()),
         (
             "cut before its link",
             2,
             1,
             join,
             &[(0, 4)],
-            &[
-                "job 2 1 1 4",
-                "word 0 0 0",
-                "word 1 1 0",
-                "request 0 0 1 0 4",
-                "tally 0 0 0 1",
-            ],
+            &["job 2 1 1 4", "word 0 0 0", "word 1 1 0", "request 0 0 1 0 4", "tally 0 0 0 1"],
         ),
         (
             "same-set alone",
@@ -123,14 +93,7 @@ fn one_head() {
                 "tally 0 0 0 0",
             ],
         ),
-        (
-            "no requests",
-            1,
-            1,
-            &[],
-            &[(0, 3)],
-            &["job 1 1 0 3", "word 0 0 0", "tally 3 0 0 0"],
-        ),
+        ("no requests", 1, 1, &[], &[(0, 3)], &["job 1 1 0 3", "word 0 0 0", "tally 3 0 0 0"]),
     ]);
 }
 
@@ -243,34 +206,29 @@ fn program() {
     ];
     let text = "job 4 2 2 9\nword 0 0 0\nword 1 1 0\nword 2 3 0\nword 3 3 1\n\
                 request 0 1 3 8 6\nrequest 1 4 1 9 3\nline 2 1\nline 7 0\ntally 0 0 1 0\n";
-    assert_eq!(listing(&file), text);
-    assert_eq!(
-        job::read(&file).expect("accepted").file(),
-        Ok(file.to_vec())
-    );
-    assert_eq!(listing(&[]), "refused 2\n");
+    lists(&file, text);
+    assert_eq!(job::read(&file).expect("accepted").file(), Ok(file.to_vec()));
+    lists(&[], "refused 2\n");
 }
 
 #[test]
 fn enquiry() {
-    for (budget, answer, grants) in [(5, answer::UNFINISHED, 5), (6, answer::YES, 6)] {
+    let rows = [(5, answer::UNFINISHED, 5), (6, answer::YES, 6)];
+    for (player, (budget, answer, grants)) in PLAYERS.iter().flat_map(|p| rows.map(|row| (p, row)))
+    {
         let mut table = [1, 65_537];
-        let queried = query(&mut table, 0, 1, budget);
-        assert_eq!(
-            queried,
-            Queried {
-                number: 0,
-                answer,
-                grants
-            }
-        );
+        let queried = (player.query)(&mut table, 0, 1, budget);
+        assert_eq!(queried, Queried { number: 0, answer, grants }, "{}", player.name);
         assert_eq!(table, [1, 65_537]);
     }
 }
 
 #[test]
 fn tournament_reaches_rank_nine() {
-    let text = listing(&gen::tournament(512).file().expect("accepted"));
-    assert!(text.contains("\nword 511 511 9\n"));
-    assert!(text.ends_with("\ntally 0 0 511 0\n"));
+    let file = gen::tournament(512).file().expect("accepted");
+    for player in PLAYERS {
+        let text = (player.list)(&file);
+        assert!(text.contains("\nword 511 511 9\n"));
+        assert!(text.ends_with("\ntally 0 0 511 0\n"));
+    }
 }

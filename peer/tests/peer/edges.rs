@@ -1,8 +1,10 @@
 //! The limits of a job file, from both sides.
 
 use peer::job::{self, Job, Request, MAX_BYTES};
-use peer::play;
 use peer::player::{Outcome, AMPLE};
+
+use crate::writer::written;
+use crate::PLAYERS;
 
 /// A file of these records with its balance right, whatever they hold.
 fn file(nodes: u16, heads: u16, requests: &[[u8; 6]], runs: &[(u8, u8)]) -> Vec<u8> {
@@ -21,32 +23,25 @@ fn file(nodes: u16, heads: u16, requests: &[[u8; 6]], runs: &[(u8, u8)]) -> Vec<
     file
 }
 
+/// The number that all players give.
 fn number(file: &[u8]) -> u32 {
-    let outcome = Outcome::of(&play::play, file, AMPLE);
-    if outcome.played.number != 0 {
-        assert_eq!(outcome, Outcome::untouched(outcome.played.number, AMPLE));
+    let outcomes = PLAYERS.map(|player| Outcome::of(player.play, file, AMPLE));
+    let number = outcomes[0].played.number;
+    for outcome in outcomes {
+        assert_eq!(outcome.played.number, number);
+        assert!(number == 0 || outcome == Outcome::untouched(number, AMPLE));
     }
-    outcome.played.number
+    number
 }
 
 const JOIN: [u8; 6] = [0, 1, 0, 0, 0, 0];
 
 #[test]
 fn nodes_and_heads() {
-    for (nodes, heads, told) in [
-        (4096, 16, 0),
-        (4097, 16, 4),
-        (0, 1, 4),
-        (1, 17, 5),
-        (1, 0, 5),
-        (0, 0, 4),
-        (1, 256, 5),
-    ] {
-        assert_eq!(
-            number(&file(nodes, heads, &[], &[])),
-            told,
-            "{nodes} {heads}"
-        );
+    for (nodes, heads, told) in
+        [(4096, 16, 0), (4097, 16, 4), (0, 1, 4), (1, 17, 5), (1, 0, 5), (0, 0, 4), (1, 256, 5)]
+    {
+        assert_eq!(number(&file(nodes, heads, &[], &[])), told, "{nodes} {heads}");
     }
 }
 
@@ -116,11 +111,10 @@ fn lengths() {
     let runs = |count: usize| vec![(0, 255); count];
     let longest = file(1, 1, &[], &runs(8_189));
     assert_eq!(longest.len(), 32_766);
-    let outcome = Outcome::of(&play::play, &longest, AMPLE);
-    assert_eq!(
-        (outcome.played.grants, outcome.played.tally.idle),
-        (2_088_195, 2_088_195)
-    );
+    for player in PLAYERS {
+        let played = Outcome::of(player.play, &longest, AMPLE).played;
+        assert_eq!((played.grants, played.tally.idle), (2_088_195, 2_088_195));
+    }
     let mut longer = longest.clone();
     longer.extend([0, 0]);
     assert_eq!((longer.len(), number(&longer)), (MAX_BYTES, 12));
@@ -132,13 +126,16 @@ fn lengths() {
 
 #[test]
 fn writer_lengths() {
-    let job = Job::new(1, 2, &[], &[(0, 2_088_195)]);
-    assert_eq!(job.file().map(|file| file.len()), Ok(32_766));
-    let job = Job::new(1, 2, &[], &[(0, 2_088_195), (1, 1)]);
-    assert_eq!(job.file(), Err(1));
+    let length = |requests: &[Request], runs: &[(u8, usize)]| {
+        let job = Job::new(1, 2, requests, runs);
+        let files = PLAYERS.map(|p| written(&p, &job, &job.flat_requests(), MAX_BYTES));
+        assert!(files.iter().all(|file| *file == files[0]));
+        files[0].as_ref().map(Vec::len).map_err(|&number| number)
+    };
+    assert_eq!(length(&[], &[(0, 2_088_195)]), Ok(32_766));
+    assert_eq!(length(&[], &[(0, 2_088_195), (1, 1)]), Err(1));
     // A wrong head anywhere comes before the length.
-    let job = Job::new(1, 2, &[], &[(0, 2_088_195), (1, 1), (2, 1)]);
-    assert_eq!(job.file(), Err(10));
-    let job = Job::new(1, 1, &[Request::union(0, 0, 0); 513], &[]);
-    assert_eq!(job.file(), Err(9));
+    assert_eq!(length(&[], &[(0, 2_088_195), (1, 1), (2, 1)]), Err(10));
+    assert_eq!(length(&[Request::union(0, 0, 0); 512], &[]), Ok(10 + 8 * 512));
+    assert_eq!(length(&[Request::union(0, 0, 0); 513], &[]), Err(9));
 }

@@ -3,16 +3,21 @@
 use peer::gen::{self, Random};
 use peer::job::Request;
 use peer::numbers::{answer, refusal};
-use peer::play;
 use peer::player::{Outcome, AMPLE};
-use peer::query::{query, Queried};
+use peer::query::Queried;
 use peer::word::{parent, rank, word};
 
-/// What an enquiry leaves of a table, and its result.
+use crate::PLAYERS;
+
+/// What an enquiry leaves of a table, and its result, the same with all players.
 fn queried(table: &[u32], x: u32, y: u32, budget: u16) -> (Vec<u32>, Queried) {
-    let mut table = table.to_vec();
-    let queried = query(&mut table, x, y, budget);
-    (table, queried)
+    let mut all = PLAYERS.map(|player| {
+        let mut table = table.to_vec();
+        let queried = (player.query)(&mut table, x, y, budget);
+        (table, queried)
+    });
+    assert!(all.iter().all(|one| *one == all[0]));
+    std::mem::take(&mut all[0])
 }
 
 /// The table that a job leaves is asked by an enquiry, and by a head of the job that has all of
@@ -30,7 +35,7 @@ fn agrees_with_a_same_set_played_alone() {
         job.heads += 1;
         job.requests.push(Request::same_set(asking, x, y));
         let left = |job: &peer::job::Job| {
-            let outcome = Outcome::of(&play::play, &job.file().expect("accepted"), AMPLE);
+            let outcome = Outcome::of(PLAYERS[0].play, &job.file().expect("accepted"), AMPLE);
             let numbers = outcome.report[4 * job.requests.len() - 4..][..4].to_vec();
             (outcome.table[..job.nodes as usize].to_vec(), numbers)
         };
@@ -40,14 +45,7 @@ fn agrees_with_a_same_set_played_alone() {
             let (after, queried) = queried(&start, x, y, budget);
             assert_eq!(after, table);
             let [answer, grants] = [numbers[0], numbers[3]];
-            assert_eq!(
-                queried,
-                Queried {
-                    number: refusal::NONE,
-                    answer,
-                    grants
-                }
-            );
+            assert_eq!(queried, Queried { number: refusal::NONE, answer, grants });
             job.grants.push(asking);
         }
     }
@@ -67,24 +65,13 @@ fn on_any_admitted_table() {
                 up => node = up,
             }
         };
-        let told = if root(x) == root(y) {
-            answer::YES
-        } else {
-            answer::NO
-        };
+        let told = if root(x) == root(y) { answer::YES } else { answer::NO };
         let (after, enough) = queried(&table, x, y, u16::MAX);
         assert_eq!((enough.number, enough.answer), (refusal::NONE, told));
         for budget in 0..enough.grants {
             let (_, spent) = queried(&table, x, y, budget as u16);
             let number = refusal::NONE;
-            assert_eq!(
-                spent,
-                Queried {
-                    number,
-                    answer: answer::UNFINISHED,
-                    grants: budget
-                }
-            );
+            assert_eq!(spent, Queried { number, answer: answer::UNFINISHED, grants: budget });
         }
         assert_eq!(queried(&table, x, y, enough.grants as u16), (after, enough));
     }

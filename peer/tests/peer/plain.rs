@@ -58,36 +58,14 @@ pub fn play(
     for node in 0..job.nodes {
         table[node as usize] = node;
     }
-    let fresh = |&request: &Request| Work {
-        request,
-        past: Vec::new(),
-        answer: 0,
-        point: None,
-    };
+    let fresh = |&request: &Request| Work { request, past: Vec::new(), answer: 0, point: None };
     let mut works: Vec<Work> = job.requests.iter().map(fresh).collect();
     trace.clear();
     for (grant, &head) in (1..).zip(&job.grants) {
-        let mut open = works
-            .iter_mut()
-            .enumerate()
-            .filter(|(_, work)| work.answer == 0);
+        let mut open = works.iter_mut().enumerate().filter(|(_, work)| work.answer == 0);
         if let Some((request, work)) = open.find(|(_, work)| work.request.head == head) {
-            let next = Access {
-                grant,
-                head,
-                request,
-                node: 0,
-                seen: 0,
-                deed: Deed::Read,
-            };
-            Program {
-                turn,
-                table,
-                work,
-                at: 0,
-                grant: Some(next),
-            }
-            .run();
+            let next = Access { grant, head, request, node: 0, seen: 0, deed: Deed::Read };
+            Program { turn, table, work, at: 0, grant: Some(next) }.run();
             trace.extend(work.past.last());
         }
     }
@@ -120,18 +98,11 @@ fn put_down(works: &[Work], report: &mut [u32], lineup: &mut [u32]) -> u32 {
 }
 
 fn tally(job: &Job, works: &[Work], trace: &[Access]) -> Tally {
-    let works_on = |head: u32| {
-        works
-            .iter()
-            .any(|w| w.answer == 0 && head == w.request.head.into())
-    };
+    let works_on = |head: u32| works.iter().any(|w| w.answer == 0 && head == w.request.head.into());
     Tally {
         idle: (job.grants.len() - trace.len()) as u32,
         failed: trace.iter().filter(|access| access.failed()).count() as u32,
-        links: trace
-            .iter()
-            .filter(|access| access.wrote() && access.tries_link())
-            .count() as u32,
+        links: trace.iter().filter(|access| access.wrote() && access.tries_link()).count() as u32,
         working: (0..job.heads).filter(|&head| works_on(head)).count() as u32,
     }
 }
@@ -213,11 +184,7 @@ impl Program<'_> {
     }
 
     fn link(&mut self, low: (u32, u32), high: (u32, u32)) -> Option<bool> {
-        let kept = if self.turn == Turn::LinkStoresRankOfY {
-            high.0
-        } else {
-            low.0
-        };
+        let kept = if self.turn == Turn::LinkStoresRankOfY { high.0 } else { low.0 };
         self.swap(low.1, word(low.0, low.1), word(kept, high.1))
     }
 
@@ -241,11 +208,7 @@ impl Program<'_> {
                 self.swap(x, own, word(rank(own), u))?;
             }
             let again = parent(self.read(t)?);
-            x = if self.turn == Turn::ParentReadBeforeSwap {
-                u
-            } else {
-                again
-            };
+            x = if self.turn == Turn::ParentReadBeforeSwap { u } else { again };
         }
     }
 
@@ -254,27 +217,18 @@ impl Program<'_> {
     }
 
     fn swap(&mut self, node: u32, expected: u32, new: u32) -> Option<bool> {
-        self.access(node, Deed::Swap { expected, new })
-            .map(|access| access.wrote())
+        self.access(node, Deed::Swap { expected, new }).map(|access| access.wrote())
     }
 
     fn access(&mut self, node: u32, deed: Deed) -> Option<Access> {
         if self.at == self.work.past.len() {
             let seen = self.table[node as usize];
-            let mut access = Access {
-                node,
-                seen,
-                deed,
-                ..self.grant.take()?
-            };
+            let mut access = Access { node, seen, deed, ..self.grant.take()? };
             if self.turn == Turn::LinkAtAnyRank && access.tries_link() && parent(seen) == node {
                 let Deed::Swap { new, .. } = deed else {
                     return None;
                 };
-                access.deed = Deed::Swap {
-                    expected: seen,
-                    new,
-                };
+                access.deed = Deed::Swap { expected: seen, new };
             }
             if let (true, Deed::Swap { new, .. }) = (access.wrote(), access.deed) {
                 self.table[node as usize] = new;

@@ -4,37 +4,31 @@ use peer::demand;
 use peer::gen::{self, Random};
 use peer::job::{self, Job};
 use peer::listing;
-use peer::play;
 use peer::player::{Lengths, Outcome, AMPLE};
 
 use crate::plain::{self, Turn};
+use crate::PLAYERS;
 
 const JOBS: u64 = 20_000;
-
-/// Exactly the numbers that a job needs, and a few more at times.
-fn lengths(job: &Job, more: usize) -> Lengths {
-    let requests = job.requests.len();
-    Lengths {
-        table: job.nodes as usize + more,
-        report: 4 * requests + more,
-        lineup: 2 * requests + more,
-    }
-}
 
 fn by_plain(file: &[u8], lengths: Lengths) -> Outcome {
     let play = |file: &[u8], table: &mut [u32], report: &mut [u32], lineup: &mut [u32]| {
         plain::play(Turn::Right, file, table, report, lineup, &mut Vec::new())
     };
-    Outcome::of(&play, file, lengths)
+    Outcome::of(play, file, lengths)
 }
 
 /// What a job must show, whatever it is.
 fn check(job: &Job, more: usize) -> demand::Verdict {
     let file = job.file().expect("a generated job is accepted");
     assert_eq!(job::read(&file).as_ref(), Ok(job));
-    let (outcome, trace) = Outcome::traced(&file, lengths(job, more));
-    assert_eq!(outcome, Outcome::of(&play::play, &file, lengths(job, more)));
-    assert_eq!(outcome, by_plain(&file, lengths(job, more)));
+    let lengths = Lengths::exact(job).and(more);
+    let (outcome, trace) = Outcome::traced(&file, lengths);
+    for player in PLAYERS {
+        let played = Outcome::of(player.play, &file, lengths);
+        assert_eq!(played, outcome, "{}", player.name);
+    }
+    assert_eq!(outcome, by_plain(&file, lengths));
     demand::check(job, &trace, &outcome)
 }
 
@@ -76,6 +70,10 @@ fn a_cut_leaves_what_the_grants_before_it_left() {
                 .collect();
             let (outcome, of_cut) = Outcome::traced(&cut.file().expect("accepted"), AMPLE);
             assert_eq!(of_cut, before);
+            for player in PLAYERS {
+                let played = Outcome::of(player.play, &cut.file().expect("accepted"), AMPLE);
+                assert_eq!(played, outcome, "{}", player.name);
+            }
             assert_eq!(demand::check(&cut, &before, &outcome), Ok(()), "{cut:?}");
         }
     }
@@ -93,10 +91,7 @@ fn jobs_contend() {
             raises += u32::from(access.tries_raise());
             halvings += u32::from(!access.tries_link() && !access.tries_raise());
         }
-        let entered = outcome
-            .lineup
-            .chunks(2)
-            .take(outcome.played.entries as usize);
+        let entered = outcome.lineup.chunks(2).take(outcome.played.entries as usize);
         for entry in entered.clone() {
             let [answer, _, last, _] = outcome.report[4 * entry[1] as usize..][..4] else {
                 panic!()
@@ -107,10 +102,7 @@ fn jobs_contend() {
         }
     }
     let least = [halvings, links, raises, linked, moved].into_iter().min();
-    assert!(
-        least >= Some(100),
-        "{halvings} {links} {raises} {linked} {moved}"
-    );
+    assert!(least >= Some(100), "{halvings} {links} {raises} {linked} {moved}");
 }
 
 #[test]
@@ -118,14 +110,11 @@ fn a_listing_shows_the_outcome() {
     for seed in 0..500 {
         let job = gen::contended(&mut Random::new(seed));
         let file = job.file().expect("accepted");
-        let Outcome {
-            played,
-            table,
-            report,
-            lineup,
-        } = by_plain(&file, AMPLE);
+        let Outcome { played, table, report, lineup } = by_plain(&file, AMPLE);
         let text = listing::text(&played, &table, &report, &lineup);
-        assert_eq!(listing::listing(&file), text);
+        for player in PLAYERS {
+            assert_eq!((player.list)(&file), text, "{}", player.name);
+        }
         let lines = 2 + played.nodes + played.requests + played.entries;
         assert_eq!(text.lines().count(), lines as usize);
     }

@@ -15,7 +15,7 @@ fn taking(turn: Turn, file: &[u8]) -> (Outcome, Vec<Access>) {
     let play = |file: &[u8], table: &mut [u32], report: &mut [u32], lineup: &mut [u32]| {
         plain::play(turn, file, table, report, lineup, &mut trace.borrow_mut())
     };
-    let outcome = Outcome::of(&play, file, AMPLE);
+    let outcome = Outcome::of(play, file, AMPLE);
     (outcome, trace.into_inner())
 }
 
@@ -29,7 +29,7 @@ fn jobs_tell_every_wrong_turn() {
     for turn in WRONG_TURNS {
         let told = |job: &Job| {
             let file = job.file().expect("accepted");
-            taking(turn, &file).0 != Outcome::of(&play::play, &file, AMPLE)
+            taking(turn, &file).0 != Outcome::of(play::play, &file, AMPLE)
         };
         assert!(jobs().filter(told).count() >= 5, "{turn:?}");
     }
