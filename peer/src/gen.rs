@@ -104,7 +104,16 @@ pub fn built() -> Vec<Job> {
         Job::new(3, 2, &three, &[(1, 4), (0, 11), (1, 7)]),
         Job::new(2, 16, &everyone, &in_turn(12)),
         tournament(512),
+        full(),
     ]
+}
+
+/// The longest file there is, with every request and head that it can have.
+pub fn full() -> Job {
+    let requests = requests(&mut Random::new(0), 64, 16, 512);
+    let runs: Vec<_> =
+        (0..7_165).map(|n| (n as u8 % 16, if n < 7_000 { 1 } else { 255 })).collect();
+    Job::new(4_096, 16, &requests, &runs)
 }
 
 /// Unions of equal ranks, level by level, each played to its end: the highest rank for its nodes.
@@ -240,7 +249,7 @@ fn some_run(random: &mut Random, file: &[u8], job: &Job) -> Option<usize> {
 
 fn run_out_of_range(random: &mut Random, mut file: Vec<u8>, job: &Job) -> (Vec<u8>, Expected) {
     let Some(at) = some_run(random, &file, job) else {
-        return (file, Expected::Number(0));
+        return (file, Expected::Number(refusal::NONE));
     };
     if random.chance(50) {
         file[at + 2] = random.between(job.heads, 255) as u8;
@@ -253,7 +262,7 @@ fn run_out_of_range(random: &mut Random, mut file: Vec<u8>, job: &Job) -> (Vec<u
 /// A run is cut in two, or followed by one of its head.
 fn run_split(random: &mut Random, mut file: Vec<u8>, job: &Job) -> (Vec<u8>, Expected) {
     let Some(at) = some_run(random, &file, job) else {
-        return (file, Expected::Number(0));
+        return (file, Expected::Number(refusal::NONE));
     };
     let (head, run) = (file[at + 2], file[at + 3]);
     let first = if run < 2 { run } else { random.between(1, u32::from(run) - 1) as u8 };

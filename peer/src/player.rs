@@ -111,8 +111,8 @@ impl Outcome {
     pub fn rest_as_lent(&self) -> bool {
         let Played { nodes, requests, entries, .. } = self.played;
         let kept = |buffer: &[u32], used: u32| {
-            let rest = buffer.iter().enumerate().skip(used as usize);
-            rest.into_iter().all(|(index, &number)| number == lent(index))
+            let mut rest = buffer.iter().enumerate().skip(used as usize);
+            rest.all(|(index, &number)| number == lent(index))
         };
         kept(&self.table, nodes)
             && kept(&self.report, 4 * requests)

@@ -1,5 +1,6 @@
 //! The limits of a job file, from both sides.
 
+use peer::gen;
 use peer::job::{self, Job, Request, MAX_BYTES};
 use peer::player::{Outcome, AMPLE};
 
@@ -115,6 +116,7 @@ fn lengths() {
         let played = Outcome::of(player.play, &longest, AMPLE).played;
         assert_eq!((played.grants, played.tally.idle), (2_088_195, 2_088_195));
     }
+    assert_eq!(gen::full().file().map(|file| file.len()), Ok(32_766));
     let mut longer = longest.clone();
     longer.extend([0, 0]);
     assert_eq!((longer.len(), number(&longer)), (MAX_BYTES, 12));

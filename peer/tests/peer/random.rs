@@ -4,6 +4,7 @@ use peer::demand;
 use peer::gen::{self, Random};
 use peer::job::{self, Job};
 use peer::listing;
+use peer::numbers::answer;
 use peer::player::{Lengths, Outcome, AMPLE};
 
 use crate::plain::{self, Turn};
@@ -93,12 +94,10 @@ fn jobs_contend() {
         }
         let entered = outcome.lineup.chunks(2).take(outcome.played.entries as usize);
         for entry in entered.clone() {
-            let [answer, _, last, _] = outcome.report[4 * entry[1] as usize..][..4] else {
-                panic!()
-            };
-            linked += u32::from(answer == 0);
+            let [told, _, last, _] = outcome.report[4 * entry[1] as usize..][..4] else { panic!() };
+            linked += u32::from(told == answer::UNFINISHED);
             let overtakes = |later: &[u32]| entry[0] < later[0] && later[0] < last;
-            moved += u32::from(answer == 4 && entered.clone().any(overtakes));
+            moved += u32::from(told == answer::NO && entered.clone().any(overtakes));
         }
     }
     let least = [halvings, links, raises, linked, moved].into_iter().min();
