@@ -159,7 +159,7 @@ pub enum Expected {
 /// The file of a job, damaged in some way.
 pub fn damaged(random: &mut Random, job: &Job) -> (Vec<u8>, Expected) {
     let file = job.file().expect("a generated job is accepted");
-    match random.below(9) {
+    match random.below(10) {
         0 => bytes_changed(random, file),
         1 => (file[..random.below(file.len() as u32) as usize].to_vec(), ends_early()),
         2 => lengthened(random, file),
@@ -168,6 +168,7 @@ pub fn damaged(random: &mut Random, job: &Job) -> (Vec<u8>, Expected) {
         5 => request_out_of_range(random, file, job),
         6 => run_out_of_range(random, file, job),
         7 => run_split(random, file, job),
+        8 => balance_changed(random, file),
         _ => too_many_requests(random, file, job),
     }
 }
@@ -189,6 +190,12 @@ fn bytes_changed(random: &mut Random, mut file: Vec<u8>) -> (Vec<u8>, Expected) 
     }
     // A single byte always shows in the sum.
     (file, if one { Expected::Refused } else { Expected::Anything })
+}
+
+fn balance_changed(random: &mut Random, mut file: Vec<u8>) -> (Vec<u8>, Expected) {
+    let at = file.len() - random.between(1, 2) as usize;
+    file[at] ^= random.between(1, 255) as u8;
+    (file, Expected::Number(refusal::BALANCE))
 }
 
 fn lengthened(random: &mut Random, mut file: Vec<u8>) -> (Vec<u8>, Expected) {
