@@ -1,0 +1,295 @@
+//! Seeded jobs that make heads meet, schedules built for known wrong turns, and damage to files.
+
+use crate::job::{self, Job, Request, CLOSE, MAX_BYTES, MAX_REQUESTS, OPENING, REQUEST, RUN};
+use crate::numbers::refusal;
+use crate::word::{before, word};
+
+/// A splitmix generator: the same seed gives the same numbers.
+pub struct Random(u64);
+
+impl Random {
+    pub fn new(seed: u64) -> Random {
+        Random(seed)
+    }
+
+    pub fn bits(&mut self) -> u64 {
+        self.0 = self.0.wrapping_add(0x9E37_79B9_7F4A_7C15);
+        let mut mixed = self.0;
+        mixed = (mixed ^ (mixed >> 30)).wrapping_mul(0xBF58_476D_1CE4_E5B9);
+        mixed = (mixed ^ (mixed >> 27)).wrapping_mul(0x94D0_49BB_1331_11EB);
+        mixed ^ (mixed >> 31)
+    }
+
+    pub fn below(&mut self, bound: u32) -> u32 {
+        (((self.bits() >> 32) * u64::from(bound)) >> 32) as u32
+    }
+
+    pub fn between(&mut self, low: u32, high: u32) -> u32 {
+        low + self.below(high - low + 1)
+    }
+
+    pub fn chance(&mut self, percent: u32) -> bool {
+        self.below(100) < percent
+    }
+
+    pub fn pick<T: Copy>(&mut self, of: &[T]) -> T {
+        of[self.below(of.len() as u32) as usize]
+    }
+}
+
+/// A small job: few nodes, many heads, so that swaps fail and links are overtaken.
+pub fn contended(random: &mut Random) -> Job {
+    let (nodes, heads) = (random.between(2, 8), random.between(2, 16));
+    let count = random.between(1, 24);
+    let requests = requests(random, nodes, heads, count);
+    let length = random.between(0, 14 * count);
+    Job { nodes, heads, requests, grants: schedule(random, heads, length) }
+}
+
+/// A larger job, up to every limit, whose requests keep to a part of the nodes.
+pub fn larger(random: &mut Random) -> Job {
+    let most = random.pick(&[16, 64, 512, 4096]);
+    let (nodes, heads) = (random.between(2, most), random.between(1, 16));
+    let busy = random.pick(&[nodes.min(8), nodes.min(100), nodes]);
+    let count = random.between(1, 512);
+    let requests = requests(random, busy, heads, count);
+    let length = random.between(0, 20 * count).min(7_000);
+    Job { nodes, heads, requests, grants: schedule(random, heads, length) }
+}
+
+fn requests(random: &mut Random, nodes: u32, heads: u32, count: u32) -> Vec<Request> {
+    let unions = random.pick(&[10, 50, 70, 90, 100]);
+    let mut request = || {
+        let head = random.below(heads) as u8;
+        let (x, y) = (random.below(nodes), random.below(nodes));
+        if random.chance(unions) {
+            Request::union(head, x, y)
+        } else {
+            Request::same_set(head, x, y)
+        }
+    };
+    (0..count).map(|_| request()).collect()
+}
+
+/// Grants in turn, one by one at random, in bursts, or mixed.
+fn schedule(random: &mut Random, heads: u32, length: u32) -> Vec<u8> {
+    let style = random.below(5);
+    let mut grants = Vec::new();
+    let mut head = 0;
+    while grants.len() < length as usize {
+        head = if style == 0 { (head + 1) % heads } else { random.below(heads) };
+        let burst = match style {
+            0 | 1 => 1,
+            2 => random.between(1, 3),
+            3 => random.between(1, 12),
+            _ if random.chance(10) => random.between(1, 300),
+            _ => 1,
+        };
+        grants.extend(vec![head as u8; burst as usize]);
+    }
+    grants.truncate(length as usize);
+    grants
+}
+
+/// Schedules that random ones seldom meet.
+pub fn built() -> Vec<Job> {
+    let three = [Request::union(0, 0, 1), Request::union(0, 2, 1), Request::union(1, 1, 2)];
+    let everyone: Vec<Request> = (0..16).map(|head| Request::union(head, 0, 1)).collect();
+    let in_turn = |grants: u8| (0..16 * grants).map(|n| (n % 16, 1)).collect::<Vec<_>>();
+    vec![
+        // A link that stores y's rank makes a cycle here.
+        Job::new(3, 2, &three, &[(0, 6), (1, 2), (0, 5), (1, 3)]),
+        // And one that does not compare x's rank makes one here.
+        Job::new(3, 2, &three, &[(1, 4), (0, 11), (1, 1)]),
+        Job::new(3, 2, &three, &[(1, 4), (0, 11), (1, 7)]),
+        Job::new(2, 16, &everyone, &in_turn(12)),
+        tournament(512),
+        full(),
+    ]
+}
+
+/// The longest file there is, with every request and head that it can have.
+pub fn full() -> Job {
+    let requests = requests(&mut Random::new(0), 64, 16, 512);
+    let runs: Vec<_> =
+        (0..7_165).map(|n| (n as u8 % 16, if n < 7_000 { 1 } else { 255 })).collect();
+    Job::new(4_096, 16, &requests, &runs)
+}
+
+/// Unions of equal ranks, level by level, each played to its end: the highest rank for its nodes.
+pub fn tournament(nodes: u32) -> Job {
+    let mut requests = Vec::new();
+    let mut apart = 1;
+    while apart < nodes {
+        // The root of a block is its last node.
+        let firsts = (apart - 1..nodes - apart).step_by(2 * apart as usize);
+        requests.extend(firsts.map(|node| Request::union(0, node, node + apart)));
+        apart *= 2;
+    }
+    let grants = 6 * requests.len();
+    Job::new(nodes, 1, &requests, &[(0, grants)])
+}
+
+/// A table that an enquiry admits: every parent comes after its child.
+pub fn admitted_table(random: &mut Random, nodes: u32) -> Vec<u32> {
+    let highest = random.pick(&[0, 1, 3, 12]);
+    let roots = random.pick(&[1, 10, 50]);
+    let ranks: Vec<u32> = (0..nodes).map(|_| random.between(0, highest)).collect();
+    let rank_of = |node: u32| ranks[node as usize];
+    let mut parent_of = |node: u32| {
+        let other = random.below(nodes);
+        let later = before(rank_of(node), node, rank_of(other), other);
+        if later && !random.chance(roots) {
+            other
+        } else {
+            node
+        }
+    };
+    (0..nodes).map(|node| word(rank_of(node), parent_of(node))).collect()
+}
+
+/// What is known of a damaged file.
+#[derive(Clone, Copy, Debug, PartialEq, Eq)]
+pub enum Expected {
+    Anything,
+    Refused,
+    Number(u32),
+}
+
+/// The file of a job, damaged in some way.
+pub fn damaged(random: &mut Random, job: &Job) -> (Vec<u8>, Expected) {
+    let file = job.file().expect("a generated job is accepted");
+    match random.below(10) {
+        0 => bytes_changed(random, file),
+        1 => (file[..random.below(file.len() as u32) as usize].to_vec(), ends_early()),
+        2 => lengthened(random, file),
+        3 => marks_exchanged(random, file),
+        4 => opening_out_of_range(random, file),
+        5 => request_out_of_range(random, file, job),
+        6 => run_out_of_range(random, file, job),
+        7 => run_split(random, file, job),
+        8 => balance_changed(random, file),
+        _ => too_many_requests(random, file, job),
+    }
+}
+
+fn ends_early() -> Expected {
+    Expected::Number(refusal::FILE_ENDS_EARLY)
+}
+
+/// One byte or a few, with the balance repaired or not.
+fn bytes_changed(random: &mut Random, mut file: Vec<u8>) -> (Vec<u8>, Expected) {
+    let one = random.chance(50);
+    for _ in 0..if one { 1 } else { random.between(2, 6) } {
+        let at = random.below(file.len() as u32) as usize;
+        file[at] ^= random.between(1, 255) as u8;
+    }
+    if random.chance(70) {
+        job::repair_balance(&mut file);
+        return (file, Expected::Anything);
+    }
+    // A single byte always shows in the sum.
+    (file, if one { Expected::Refused } else { Expected::Anything })
+}
+
+fn balance_changed(random: &mut Random, mut file: Vec<u8>) -> (Vec<u8>, Expected) {
+    let at = file.len() - random.between(1, 2) as usize;
+    file[at] ^= random.between(1, 255) as u8;
+    (file, Expected::Number(refusal::BALANCE))
+}
+
+fn lengthened(random: &mut Random, mut file: Vec<u8>) -> (Vec<u8>, Expected) {
+    let oversize = random.chance(20);
+    let length = if oversize { MAX_BYTES } else { file.len() } + random.between(1, 4) as usize;
+    file.resize(length, random.below(256) as u8);
+    let number = if oversize { refusal::FILE_TOO_LONG } else { refusal::AFTER_CLOSE };
+    (file, Expected::Number(number))
+}
+
+/// Two words of the file change places, marks as a rule; the sum stays.
+fn marks_exchanged(random: &mut Random, mut file: Vec<u8>) -> (Vec<u8>, Expected) {
+    let words = (file.len() / 2) as u32;
+    let marks = [0, words - 2, random.below(words), OPENING as u32 / 2];
+    let (a, b) = (2 * random.pick(&marks) as usize, 2 * random.pick(&marks) as usize);
+    for byte in 0..2 {
+        file.swap(a + byte, b + byte);
+    }
+    (file, Expected::Anything)
+}
+
+fn set_field(file: &mut [u8], at: usize, value: u32) {
+    file[at..at + 2].copy_from_slice(&(value as u16).to_le_bytes());
+}
+
+fn opening_out_of_range(random: &mut Random, mut file: Vec<u8>) -> (Vec<u8>, Expected) {
+    if random.chance(50) {
+        let nodes = random.pick(&[0, 4_097, 8_192, 65_535]);
+        set_field(&mut file, 2, nodes);
+        (file, Expected::Number(refusal::NODES))
+    } else {
+        let heads = random.pick(&[0, 17, 256, 65_535]);
+        set_field(&mut file, 4, heads);
+        (file, Expected::Number(refusal::HEADS))
+    }
+}
+
+fn request_out_of_range(random: &mut Random, mut file: Vec<u8>, job: &Job) -> (Vec<u8>, Expected) {
+    let at = OPENING + REQUEST * random.below(job.requests.len() as u32) as usize;
+    let number = random.between(refusal::REQUEST_HEAD, refusal::REQUEST_NODE);
+    match number {
+        refusal::REQUEST_HEAD => file[at + 2] = random.between(job.heads, 255) as u8,
+        refusal::REQUEST_KIND => file[at + 3] = random.pick(&[0, 3, 255]),
+        _ => {
+            let node = random.pick(&[job.nodes, 65_535]);
+            set_field(&mut file, at + random.pick(&[4, 6]), node);
+        }
+    }
+    (file, Expected::Number(number))
+}
+
+/// The place of some run's record, if there is any.
+fn some_run(random: &mut Random, file: &[u8], job: &Job) -> Option<usize> {
+    let first = OPENING + REQUEST * job.requests.len();
+    let runs = (file.len() - CLOSE - first) / RUN;
+    (runs > 0).then(|| first + RUN * random.below(runs as u32) as usize)
+}
+
+fn run_out_of_range(random: &mut Random, mut file: Vec<u8>, job: &Job) -> (Vec<u8>, Expected) {
+    let Some(at) = some_run(random, &file, job) else {
+        return (file, Expected::Number(refusal::NONE));
+    };
+    if random.chance(50) {
+        file[at + 2] = random.between(job.heads, 255) as u8;
+    } else {
+        file[at + 3] = 0;
+    }
+    (file, Expected::Number(refusal::GRANT))
+}
+
+/// A run is cut in two, or followed by one of its head.
+fn run_split(random: &mut Random, mut file: Vec<u8>, job: &Job) -> (Vec<u8>, Expected) {
+    let Some(at) = some_run(random, &file, job) else {
+        return (file, Expected::Number(refusal::NONE));
+    };
+    let (head, run) = (file[at + 2], file[at + 3]);
+    let first = if run < 2 { run } else { random.between(1, u32::from(run) - 1) as u8 };
+    let second = (run - first).max(1);
+    file[at + 3] = first;
+    file.splice(at + RUN..at + RUN, [b'G', b'R', head, second]);
+    (file, Expected::Number(refusal::SPLIT_RUN))
+}
+
+/// A 513th request, cut short, out of range or whole.
+fn too_many_requests(random: &mut Random, mut file: Vec<u8>, job: &Job) -> (Vec<u8>, Expected) {
+    let end = OPENING + REQUEST * job.requests.len();
+    let more = MAX_REQUESTS - job.requests.len();
+    let first = file[OPENING..OPENING + REQUEST].to_vec();
+    file.splice(end..end, first.repeat(more + 1));
+    let last = OPENING + REQUEST * MAX_REQUESTS;
+    if random.chance(30) {
+        file.truncate(last + random.below(REQUEST as u32) as usize);
+        return (file, ends_early());
+    }
+    file[last + 2 + random.below(6) as usize] = random.below(256) as u8;
+    (file, Expected::Number(refusal::TOO_MANY_REQUESTS))
+}

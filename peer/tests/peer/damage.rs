@@ -1,0 +1,96 @@
+//! Damaged files and short buffers: which number, and nothing written.
+
+use peer::gen::{self, Expected, Random};
+use peer::job::{self, MAX_BYTES};
+use peer::numbers::refusal;
+use peer::player::{Lengths, Outcome, Player, AMPLE};
+
+use crate::writer::written;
+use crate::PLAYERS;
+
+const FILES: u64 = 20_000;
+
+/// The number that a file gives to a player, which is the reader's too.
+fn number(player: &Player, file: &[u8]) -> u32 {
+    let outcome = Outcome::of(player.play, file, AMPLE);
+    let number = outcome.played.number;
+    match job::read(file) {
+        Ok(job) => {
+            assert_eq!(number, refusal::NONE);
+            // An accepted file's meaning is written as that file.
+            let again = written(player, &job, &job.flat_requests(), MAX_BYTES);
+            assert_eq!(again.as_deref(), Ok(file));
+        }
+        Err(read) => {
+            assert_eq!(number, read);
+            assert_eq!(outcome, Outcome::untouched(number, AMPLE));
+            assert_eq!((player.list)(file), format!("refused {number}\n"));
+        }
+    }
+    number
+}
+
+fn seeded(seed: u64) -> (Vec<u8>, Expected) {
+    let mut random = Random::new(seed);
+    let job = gen::contended(&mut random);
+    gen::damaged(&mut random, &job)
+}
+
+#[test]
+fn damaged_files_reach_every_number() {
+    for player in PLAYERS {
+        let mut reached = [0; 14];
+        for seed in 0..FILES {
+            let (file, expected) = seeded(seed);
+            let number = number(&player, &file);
+            reached[number as usize] += 1;
+            match expected {
+                Expected::Anything => (),
+                Expected::Refused => assert_ne!(number, refusal::NONE, "seed {seed}"),
+                Expected::Number(told) => assert_eq!(number, told, "seed {seed}"),
+            }
+        }
+        assert!(reached.iter().all(|&times| times >= 100), "{reached:?}");
+    }
+}
+
+const NOTHING: Lengths = Lengths { table: 0, report: 0, lineup: 0 };
+
+#[test]
+fn short_buffers() {
+    for (player, seed) in PLAYERS.iter().flat_map(|player| (0..2_000).map(move |n| (player, n))) {
+        let job = gen::contended(&mut Random::new(seed));
+        let file = job.file().expect("accepted");
+        let exact = Lengths::exact(&job);
+        assert_eq!(Outcome::of(player.play, &file, exact).played.number, refusal::NONE);
+        let table = Lengths { table: exact.table - 1, ..exact };
+        let report = Lengths { report: exact.report - 1, ..exact };
+        let lineup = Lengths { lineup: exact.lineup - 1, ..exact };
+        for lengths in [table, report, lineup, NOTHING] {
+            let untouched = Outcome::untouched(refusal::BUFFER_TOO_SHORT, lengths);
+            assert_eq!(Outcome::of(player.play, &file, lengths), untouched, "{lengths:?}");
+        }
+    }
+}
+
+#[test]
+fn a_file_is_judged_before_buffers() {
+    for (player, seed) in PLAYERS.iter().flat_map(|player| (0..2_000).map(move |n| (player, n))) {
+        let (file, _) = seeded(seed);
+        let number = match number(player, &file) {
+            refusal::NONE => refusal::BUFFER_TOO_SHORT,
+            number => number,
+        };
+        let outcome = Outcome::of(player.play, &file, NOTHING);
+        assert_eq!(outcome, Outcome::untouched(number, NOTHING));
+    }
+}
+
+#[test]
+fn no_requests_need_no_report() {
+    let file = job::Job::new(1, 1, &[], &[(0, 3)]).file().expect("accepted");
+    for player in PLAYERS {
+        let outcome = Outcome::of(player.play, &file, Lengths { table: 1, ..NOTHING });
+        assert_eq!((outcome.played.number, outcome.table), (refusal::NONE, vec![0]));
+    }
+}

@@ -1,0 +1,15 @@
+//! Tests of players: document 01's cases, its edges, seeded jobs, damage and wrong turns.
+
+use peer::player::{Player, PEER};
+
+mod cases;
+mod damage;
+mod edges;
+mod enquiry;
+mod plain;
+mod random;
+mod writer;
+mod wrong_turns;
+
+/// Who is tested: a player in this list is put under every test.
+const PLAYERS: [Player; 1] = [PEER];

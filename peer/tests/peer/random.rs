@@ -1,0 +1,120 @@
+//! Seeded jobs held against the demands on whole runs, the slow reading and the writer.
+
+use peer::demand;
+use peer::gen::{self, Random};
+use peer::job::{self, Job};
+use peer::listing;
+use peer::numbers::answer;
+use peer::player::{Lengths, Outcome, AMPLE};
+
+use crate::plain::{self, Turn};
+use crate::PLAYERS;
+
+const JOBS: u64 = 20_000;
+
+fn by_plain(file: &[u8], lengths: Lengths) -> Outcome {
+    let play = |file: &[u8], table: &mut [u32], report: &mut [u32], lineup: &mut [u32]| {
+        plain::play(Turn::Right, file, table, report, lineup, &mut Vec::new())
+    };
+    Outcome::of(play, file, lengths)
+}
+
+/// What a job must show, whatever it is.
+fn check(job: &Job, more: usize) -> demand::Verdict {
+    let file = job.file().expect("a generated job is accepted");
+    assert_eq!(job::read(&file).as_ref(), Ok(job));
+    let lengths = Lengths::exact(job).and(more);
+    let (outcome, trace) = Outcome::traced(&file, lengths);
+    for player in PLAYERS {
+        let played = Outcome::of(player.play, &file, lengths);
+        assert_eq!(played, outcome, "{}", player.name);
+    }
+    assert_eq!(outcome, by_plain(&file, lengths));
+    demand::check(job, &trace, &outcome)
+}
+
+#[test]
+fn contended_jobs() {
+    for seed in 0..JOBS {
+        let job = gen::contended(&mut Random::new(seed));
+        assert_eq!(check(&job, (seed % 3) as usize), Ok(()), "seed {seed}");
+    }
+}
+
+#[test]
+fn larger_jobs() {
+    for seed in 0..200 {
+        let job = gen::larger(&mut Random::new(seed));
+        assert_eq!(check(&job, 1), Ok(()), "seed {seed}");
+    }
+}
+
+#[test]
+fn built_jobs() {
+    for job in gen::built() {
+        assert_eq!(check(&job, 0), Ok(()), "{job:?}");
+    }
+}
+
+#[test]
+fn a_cut_leaves_what_the_grants_before_it_left() {
+    let small = |job: &Job| job.grants.len() <= 120;
+    let seeded = (0..1_000).map(|seed| gen::contended(&mut Random::new(seed)));
+    for job in seeded.chain(gen::built()).filter(small) {
+        let (_, trace) = Outcome::traced(&job.file().expect("accepted"), AMPLE);
+        for grants in 0..=job.grants.len() {
+            let cut = job.cut(grants);
+            let before: Vec<_> = trace
+                .iter()
+                .copied()
+                .take_while(|access| access.grant as usize <= grants)
+                .collect();
+            let (outcome, of_cut) = Outcome::traced(&cut.file().expect("accepted"), AMPLE);
+            assert_eq!(of_cut, before);
+            for player in PLAYERS {
+                let played = Outcome::of(player.play, &cut.file().expect("accepted"), AMPLE);
+                assert_eq!(played, outcome, "{}", player.name);
+            }
+            assert_eq!(demand::check(&cut, &before, &outcome), Ok(()), "{cut:?}");
+        }
+    }
+}
+
+/// The jobs are worth playing: heads get in each other's way in every manner there is.
+#[test]
+fn jobs_contend() {
+    let (mut halvings, mut links, mut raises, mut linked, mut moved) = (0, 0, 0, 0, 0);
+    for seed in 0..2_000 {
+        let job = gen::contended(&mut Random::new(seed));
+        let (outcome, trace) = Outcome::traced(&job.file().expect("accepted"), AMPLE);
+        for access in trace.iter().filter(|access| access.failed()) {
+            links += u32::from(access.tries_link());
+            raises += u32::from(access.tries_raise());
+            halvings += u32::from(!access.tries_link() && !access.tries_raise());
+        }
+        let entered = outcome.lineup.chunks(2).take(outcome.played.entries as usize);
+        for entry in entered.clone() {
+            let [told, _, last, _] = outcome.report[4 * entry[1] as usize..][..4] else { panic!() };
+            linked += u32::from(told == answer::UNFINISHED);
+            let overtakes = |later: &[u32]| entry[0] < later[0] && later[0] < last;
+            moved += u32::from(told == answer::NO && entered.clone().any(overtakes));
+        }
+    }
+    let least = [halvings, links, raises, linked, moved].into_iter().min();
+    assert!(least >= Some(100), "{halvings} {links} {raises} {linked} {moved}");
+}
+
+#[test]
+fn a_listing_shows_the_outcome() {
+    for seed in 0..500 {
+        let job = gen::contended(&mut Random::new(seed));
+        let file = job.file().expect("accepted");
+        let Outcome { played, table, report, lineup } = by_plain(&file, AMPLE);
+        let text = listing::text(&played, &table, &report, &lineup);
+        for player in PLAYERS {
+            assert_eq!((player.list)(&file), text, "{}", player.name);
+        }
+        let lines = 2 + played.nodes + played.requests + played.entries;
+        assert_eq!(text.lines().count(), lines as usize);
+    }
+}

@@ -1,0 +1,85 @@
+//! The known wrong turns: the jobs tell each of them from the rules, and the demands catch those
+//! that leave a wrong result.
+
+use peer::demand;
+use peer::gen::{self, Random};
+use peer::head::Access;
+use peer::job::{Job, Request};
+use peer::play;
+use peer::player::{Outcome, AMPLE};
+
+use crate::plain::{self, Turn, WRONG_TURNS};
+
+fn taking(turn: Turn, file: &[u8]) -> (Outcome, Vec<Access>) {
+    let trace = std::cell::RefCell::new(Vec::new());
+    let play = |file: &[u8], table: &mut [u32], report: &mut [u32], lineup: &mut [u32]| {
+        plain::play(turn, file, table, report, lineup, &mut trace.borrow_mut())
+    };
+    let outcome = Outcome::of(play, file, AMPLE);
+    (outcome, trace.into_inner())
+}
+
+fn jobs() -> impl Iterator<Item = Job> {
+    let seeded = (0..2_000).map(|seed| gen::contended(&mut Random::new(seed)));
+    gen::built().into_iter().chain(seeded)
+}
+
+#[test]
+fn jobs_tell_every_wrong_turn() {
+    for turn in WRONG_TURNS {
+        let told = |job: &Job| {
+            let file = job.file().expect("accepted");
+            taking(turn, &file).0 != Outcome::of(play::play, &file, AMPLE)
+        };
+        assert!(jobs().filter(told).count() >= 5, "{turn:?}");
+    }
+}
+
+#[test]
+fn demands_catch_wrong_results() {
+    let caught = |turn| {
+        jobs().any(|job| {
+            let (outcome, trace) = taking(turn, &job.file().expect("accepted"));
+            demand::check(&job, &trace, &outcome).is_err()
+        })
+    };
+    // The others cost grants or move words, and are right about every request.
+    let harmless = [
+        Turn::ParentReadBeforeSwap,
+        Turn::RetryUnexchanged,
+        Turn::HalvingSkippedAtRoot,
+        Turn::RaiseTriedAgain,
+    ];
+    for turn in WRONG_TURNS {
+        assert_eq!(caught(turn), !harmless.contains(&turn), "{turn:?}");
+    }
+}
+
+type Change = fn(&mut Outcome);
+
+/// A result with one number changed breaks a sentence.
+#[test]
+fn demands_name_what_is_wrong() {
+    let requests = [Request::union(0, 2, 3), Request::same_set(1, 0, 1)];
+    let job = Job::new(4, 2, &requests, &[(1, 2), (0, 6), (1, 1)]);
+    let (right, trace) = Outcome::traced(&job.file().expect("accepted"), AMPLE);
+    let sentence = |change: Change| {
+        let mut wrong = right.clone();
+        change(&mut wrong);
+        demand::check(&job, &trace, &wrong).expect_err("something is wrong")
+    };
+    let cases: [(Change, &str); 9] = [
+        (|o| o.table[2] = 2, "the table is what the writes left"),
+        (|o| o.table[4] = 0, "numbers past the used parts stay"),
+        (|o| o.report[3] = 7, "the grants used are the request's"),
+        (|o| o.report[6] = 8, "the last grant ends it, or 0"),
+        (|o| o.report[4] = 3, "a point is where the rules put it"),
+        (|o| o.lineup[0] = 9, "points rise"),
+        (|o| o.lineup[2] = 8, "a point is where the rules put it"),
+        (|o| o.lineup[3] = 1, "a finished request is entered once"),
+        (|o| o.played.tally.links = 2, "links are counted"),
+    ];
+    for (change, broken) in cases {
+        assert_eq!(sentence(change), broken);
+    }
+}
