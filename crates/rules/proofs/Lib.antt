@@ -7,3 +7,5 @@ pub mod Stages
 pub mod Outcomes
 pub mod Steps
 pub mod Invariant
+pub mod Serving
+pub mod Effects
