@@ -39,12 +39,13 @@ use Rattle.rules.specs.Step.{advanced, served}
 use Rattle.rules.specs.Run.{Happening}
 use Rattle.rules.specs.History.{rowOf, linkOf, pointOf}
 use Rattle.rules.specs.Linearized.{operationAt, promised}
-use Rattle.rules.proofs.History.{Other, other-served, row-other, served-answer, served-last, served-first, served-settled, row-first-bound, row-last-bound, link-other, link-served, link-unserved, find-served, find-unserved, point-other, point-linked, point-unlinked, point-same-set, point-union, usedFor, used-now, used-kept}
+use Rattle.rules.proofs.History.{Other, other-served, row-other, served-answer, served-last, served-first, served-settled, row-first-bound, row-last-bound, link-other, link-served, link-unserved, find-served, find-unserved, point-linked, point-unlinked, point-same-set, point-union, usedFor, used-now, used-kept}
 use Rattle.rules.proofs.Stages.{isRaising, pendingOf, Raising, Knows}
 use Rattle.rules.proofs.Outcomes.{Kept, Going, Closing, Linked, Joining, Ending, Denying, Outcome}
 use Rattle.rules.proofs.Outcomes.Linked.{finished, raises}
 use Rattle.rules.proofs.Outcomes.Outcome.{going, closing, joining, ending, denying}
 use Rattle.rules.proofs.Invariant.{labels, ApartAt, claim, Candidate, Timed, Over, Current, Placed, Invariant}
+use Rattle.rules.proofs.Others.{placed-other}
 use Rattle.rules.proofs.Serving.{Serving, serving-of, more, After, Effect}
 use Rattle.rules.proofs.Serving.After.{continues, finishes}
 
@@ -113,23 +114,11 @@ module _ (qs : List Request) (n : ℕ) (B : Labels) (roots₀ : ℕ) (S : State)
   other : (p : ℕ) → p ≢ q → Other p (serving-of S head)
   other p d = other-served p q (a .event) (λ e. d (sym e))
 
-  placed-other : (e : Entry) → e .request ≢ q → Placed qs past e → Placed qs past′ e
-  placed-other e d p =
-      let row = row-other (e .request) (serving-of S head) past (other (e .request) d) in
-      record {
-        known = p .known;
-        since = omega (arith, ap (λ r. r .first) row, p .since);
-        until = omega (arith, p .until);
-        ended = λ z. rw row (p .ended (λ y. z (ap (λ r. r .last) row ∙ y)));
-        point = p .point ∙ sym (point-other (e .request) (serving-of S head) past (other (e .request) d) (requestAt qs (e .request) .kind));
-        used = used-kept (serving-of S head) past (e .point) (p .until) ∙ p .used;
-      }
-
   -- a request that is not listed leaves every entry as it stands
   entries-stand : occurrences q (S .entries) ≡ 0 → Replayed (operationAt qs) (Placed qs past′) (claim past′) B 0 (S .entries)
   entries-stand none =
       replayed-map (inv .entries)
-        (λ e m p. placed-other e (occurrences-absent q none m) p)
+        (λ e m p. placed-other (serving-of S head) (other (e .request) (occurrences-absent q none m)) p)
         (λ e m. ap (λ r. promised (r .answer)) (sym (row-other (e .request) (serving-of S head) past (other (e .request) (occurrences-absent q none m)))))
 
   entries-below : Below (suc (S .now)) (S .entries)
@@ -354,7 +343,7 @@ module _ (qs : List Request) (n : ℕ) (B : Labels) (roots₀ : ℕ) (S : State)
 
     placed-either : (e : Entry) → Dec (e .request ≡ q) → Placed qs past e → Placed qs past′ e
     placed-either e (yes is) p = placed-own e is p
-    placed-either e (no not-is) p = placed-other e not-is p
+    placed-either e (no not-is) p = placed-other (serving-of S head) (other (e .request) not-is) p
 
     claim-either : (p : ℕ) → Dec (p ≡ q) → claim past p ≡ claim past′ p
     claim-either p (yes is) =

@@ -39,12 +39,13 @@ use Rattle.rules.specs.Run.{Happening}
 use Rattle.rules.specs.Run.Happening.{serving}
 use Rattle.rules.specs.History.{rowOf, linkOf}
 use Rattle.rules.specs.Linearized.{operationAt}
-use Rattle.rules.proofs.History.{Other, other-served, row-other, row-served, link-other, find-other, used-kept}
+use Rattle.rules.proofs.History.{Other, other-served, row-other, row-served}
 use Rattle.rules.proofs.Table.{length-touched}
 use Rattle.rules.proofs.Requests.{seek-from, seek-own, seek-least}
 use Rattle.rules.proofs.Stages.{isRaising, pendingOf, Inside, Knows, pending-until, knows-later}
 use Rattle.rules.proofs.Steps.{advance-keeps}
-use Rattle.rules.proofs.Invariant.{labels, ApartAt, claim, Candidate, Timed, Over, Current, Waiting, Busy, Phase, Placed, Invariant}
+use Rattle.rules.proofs.Others.{timed-other, over-other, waiting-other, phase-other}
+use Rattle.rules.proofs.Invariant.{labels, ApartAt, claim, Timed, Over, Current, Waiting, Busy, Phase, Placed, Invariant}
 use Rattle.rules.proofs.Invariant.Phase.{over, current, waiting}
 
 pub record Serving (qs : List Request) (n : ℕ) (B : Labels) (S : State) (past : List Happening) (h : ℕ) (head : Head) : Type 0 where
@@ -86,63 +87,6 @@ pub record Effect (qs : List Request) (n : ℕ) (B : Labels) (roots₀ : ℕ) (S
   pub entries : Replayed (operationAt qs) (Placed qs past′) (claim past′) B 0 (S′ .entries)
   pub others : (p : ℕ) → p ≢ q → occurrences p (S′ .entries) ≡ occurrences p (S .entries)
   pub after : After qs n B S′ past′ q a
-
--- ---- what a grant for another request leaves alone
-
-timed-other : {q : ℕ} {past : List Happening} {st : Stage} (a : Happening) → Other q a → pendingOf st ≤ length past → Timed q past st → Timed q (a ∷ past) st
-timed-other {q} {past} {st} a o until timed =
-    record {
-      unlinked = λ e. link-other q a past o ∙ timed .unlinked e;
-      linked = λ e z. timed .linked e (sym (link-other q a past o) ∙ z);
-      candidate = λ d. candidate (timed .candidate d);
-    }
-  where
-    first : rowOf q (a ∷ past) .first ≡ rowOf q past .first
-    first = ap (λ r. r .first) (row-other q a past o)
-
-    candidate : Candidate q past (pendingOf st) → Candidate q (a ∷ past) (pendingOf st)
-    candidate c =
-        record {
-          begun = λ z. c .begun (sym first ∙ z);
-          since = omega (arith, first, c .since);
-          last = find-other q a past o ∙ c .last;
-          used = used-kept a past (pendingOf st) until ∙ c .used;
-        }
-
-module _ (q : ℕ) (past : List Happening) {times times′ : ℕ} (a : Happening) (o : Other q a) (same : times′ ≡ times) where
-  row : rowOf q (a ∷ past) ≡ rowOf q past
-  row = row-other q a past o
-
-  over-other : Over q past times → Over q (a ∷ past) times′
-  over-other p =
-      record {
-        finished = λ z. p .finished (sym (ap (λ r. r .answer) row) ∙ z);
-        begun = λ z. p .begun (sym (ap (λ r. r .first) row) ∙ z);
-        ended = omega (arith, ap (λ r. r .last) row, p .ended);
-        listed = same ∙ p .listed;
-      }
-
-  current-other : Current q past times → Current q (a ∷ past) times′
-  current-other p =
-      record {
-        unfinished = ap (λ r. r .answer) row ∙ p .unfinished;
-        begun = λ z. p .begun (sym (ap (λ r. r .first) row) ∙ z);
-        listed = same ∙ p .listed ∙ ap (λ l. cond (eqb l 0) 0 1) (sym (link-other q a past o));
-      }
-
-  waiting-other : Waiting q past times → Waiting q (a ∷ past) times′
-  waiting-other p =
-      record {
-        unfinished = ap (λ r. r .answer) row ∙ p .unfinished;
-        fresh = ap (λ r. r .first) row ∙ p .fresh;
-        unlinked = link-other q a past o ∙ p .unlinked;
-        unlisted = same ∙ p .unlisted;
-      }
-
-  pub phase-other : {head : Head} → Phase head q past times → Phase head q (a ∷ past) times′
-  phase-other (over l p) = over l (over-other p)
-  phase-other (current e b p) = current e b (current-other p)
-  phase-other (waiting l r p) = waiting l r (waiting-other p)
 
 -- ---- the head that was served
 
