@@ -21,30 +21,31 @@ use Rattle.job.specs.declared.Answer.{Answer}
 use Rattle.job.specs.declared.Answer.the-variants.{Unfinished, Joined, Together, Yes, No}
 use Rattle.job.specs.Job.{answerNumber}
 use Rattle.process.specs.declared.Event.{Event}
+use Rattle.linearization.proofs.Tests.{split}
 use Rattle.rules.specs.Report.{isFinal, charge}
 use Rattle.rules.specs.Run.{Happening}
-use Rattle.rules.specs.Run.Happening.{idle, served}
+use Rattle.rules.specs.Run.Happening.{idle, serving}
 use Rattle.rules.specs.History.{firstWhere, lastWhere, countWhere, isOf, endsFindOf, linksFor, answerOf, rowOf, linkOf, pointOf}
 
 -- A grant that was not used for q.
 abbrev pub Other : ℕ → Happening → Type 0
 Other q a = isOf q a ≡ false
 
-pub other-served : (q r : ℕ) (e : Event) → r ≢ q → Other q (served r e)
+pub other-served : (q r : ℕ) (e : Event) → r ≢ q → Other q (serving r e)
 other-served q r e d = ne-eqb r q d
 
 -- it ended no find of q, linked nothing for it and left its answer
 other-find : (q : ℕ) (a : Happening) → Other q a → endsFindOf q a ≡ false
 other-find q idle o = refl
-other-find q (served r e) o = rw o
+other-find q (serving r e) o = rw o
 
 other-link : (q : ℕ) (a : Happening) → Other q a → linksFor q a ≡ false
 other-link q idle o = refl
-other-link q (served r e) o = rw o
+other-link q (serving r e) o = rw o
 
 other-answer : (q : ℕ) (a : Happening) (past : List Happening) → Other q a → answerOf q (a ∷ past) ≡ answerOf q past
 other-answer q idle past o = refl
-other-answer q (served r e) past o = rw o
+other-answer q (serving r e) past o = rw o
 
 module _ (f : Happening → Bool) (a : Happening) (past : List Happening) where
   pub last-new : f a ≡ true → lastWhere f (a ∷ past) ≡ suc (length past)
@@ -111,7 +112,7 @@ last-answer No now = refl
 
 -- The row of the request that a grant was used for: charged with that grant.
 pub row-served : (q : ℕ) (e : Event) (past : List Happening)
-    → charge (rowOf q past) (suc (length past)) (e .answer) ≡ rowOf q (served q e ∷ past)
+    → charge (rowOf q past) (suc (length past)) (e .answer) ≡ rowOf q (serving q e ∷ past)
 unfolding rowOf charge
 row-served q e past =
     let t : eqb q q ≡ true = eq-eqb q q refl in
@@ -120,31 +121,34 @@ row-served q e past =
 
 -- what the row of a served request says
 module _ (q : ℕ) (e : Event) (past : List Happening) where
-  of-itself : isOf q (served q e) ≡ true
+  of-itself : isOf q (serving q e) ≡ true
   of-itself = eq-eqb q q refl
 
-  pub served-answer : rowOf q (served q e ∷ past) .answer ≡ answerNumber (e .answer)
+  pub served-answer : rowOf q (serving q e ∷ past) .answer ≡ answerNumber (e .answer)
   unfolding rowOf
   served-answer = rw of-itself
 
-  pub served-last : e .answer ≢ Unfinished → rowOf q (served q e ∷ past) .last ≡ suc (length past)
+  pub served-last : rowOf q (serving q e ∷ past) .last ≢ 0 → rowOf q (serving q e ∷ past) .last ≡ suc (length past)
   unfolding rowOf
-  served-last d = go (e .answer) refl
-    where
-      go : (a : Answer) → e .answer ≡ a → rowOf q (served q e ∷ past) .last ≡ suc (length past)
-      go Unfinished k = absurd (d k)
-      go Joined k = rw (of-itself, k)
-      go Together k = rw (of-itself, k)
-      go Yes k = rw (of-itself, k)
-      go No k = rw (of-itself, k)
+  served-last d = split (eqb (answerOf q (serving q e ∷ past)) 0) (λ t. absurd (d (rw t))) (λ t. rw (t, of-itself))
 
-  pub served-first : rowOf q (served q e ∷ past) .first ≢ 0
+  pub served-first : rowOf q (serving q e ∷ past) .first ≢ 0
   unfolding rowOf
-  served-first = first-positive (isOf q) (served q e) past of-itself
+  served-first = first-positive (isOf q) (serving q e) past of-itself
 
-  pub served-settled : rowOf q past .first ≢ 0 → rowOf q (served q e ∷ past) .first ≡ rowOf q past .first
+  pub served-settled : rowOf q past .first ≢ 0 → rowOf q (serving q e ∷ past) .first ≡ rowOf q past .first
   unfolding rowOf
-  served-settled = first-settled (isOf q) (served q e) past
+  served-settled = first-settled (isOf q) (serving q e) past
+
+-- no grant of a row is beyond the present one
+last-bound : (f : Happening → Bool) (past : List Happening) → lastWhere f past ≤ length past
+last-bound f [] = omega arith
+last-bound f (a ∷ past) = split (f a) (λ t. rw t (omega arith)) (λ t. rw t (omega (arith, last-bound f past)))
+
+pub row-last-bound : (q : ℕ) (past : List Happening) → rowOf q past .last ≤ length past
+unfolding rowOf
+row-last-bound q past =
+    split (eqb (answerOf q past) 0) (λ t. rw t (omega arith)) (λ t. rw t (last-bound (isOf q) past))
 
 pub row-first-bound : (q : ℕ) (past : List Happening) → rowOf q past .first ≤ length past
 unfolding rowOf
@@ -166,29 +170,29 @@ module _ (q : ℕ) (a : Happening) (past : List Happening) (other : Other q a) w
   point-other SameSet = find-other
 
 module _ (q : ℕ) (e : Event) (past : List Happening) where
-  pub link-served : e .linked ≡ true → linkOf q (served q e ∷ past) ≡ suc (length past)
+  pub link-served : e .linked ≡ true → linkOf q (serving q e ∷ past) ≡ suc (length past)
   unfolding linkOf
   link-served t = rw (of-itself q e past, t)
 
-  pub link-unserved : e .linked ≡ false → linkOf q (served q e ∷ past) ≡ linkOf q past
+  pub link-unserved : e .linked ≡ false → linkOf q (serving q e ∷ past) ≡ linkOf q past
   unfolding linkOf
   link-unserved t = rw (of-itself q e past, t)
 
-  pub find-served : e .found ≡ true → lastWhere (endsFindOf q) (served q e ∷ past) ≡ suc (length past)
+  pub find-served : e .found ≡ true → lastWhere (endsFindOf q) (serving q e ∷ past) ≡ suc (length past)
   find-served t = rw (of-itself q e past, t)
 
-  pub find-unserved : e .found ≡ false → lastWhere (endsFindOf q) (served q e ∷ past) ≡ lastWhere (endsFindOf q) past
+  pub find-unserved : e .found ≡ false → lastWhere (endsFindOf q) (serving q e ∷ past) ≡ lastWhere (endsFindOf q) past
   find-unserved t = rw (of-itself q e past, t)
 
   -- a union that has linked has its point there
-  pub point-linked : linkOf q (served q e ∷ past) ≢ 0 → pointOf Union q (served q e ∷ past) ≡ linkOf q (served q e ∷ past)
+  pub point-linked : linkOf q (serving q e ∷ past) ≢ 0 → pointOf Union q (serving q e ∷ past) ≡ linkOf q (serving q e ∷ past)
   unfolding pointOf
-  point-linked d = rw (ne-eqb (linkOf q (served q e ∷ past)) 0 d)
+  point-linked d = rw (ne-eqb (linkOf q (serving q e ∷ past)) 0 d)
 
   -- one that has not, at its last grant
-  pub point-unlinked : linkOf q (served q e ∷ past) ≡ 0 → pointOf Union q (served q e ∷ past) ≡ suc (length past)
+  pub point-unlinked : linkOf q (serving q e ∷ past) ≡ 0 → pointOf Union q (serving q e ∷ past) ≡ suc (length past)
   unfolding pointOf
-  point-unlinked z = rw (eq-eqb (linkOf q (served q e ∷ past)) 0 z, of-itself q e past)
+  point-unlinked z = rw (eq-eqb (linkOf q (serving q e ∷ past)) 0 z, of-itself q e past)
 
 pub point-same-set : (q : ℕ) (past : List Happening) → pointOf SameSet q past ≡ lastWhere (endsFindOf q) past
 unfolding pointOf
@@ -202,13 +206,13 @@ point-union q past d = rw (ne-eqb (linkOf q past) 0 d)
 
 abbrev userOf : Happening → ℕ
 userOf idle = 0
-userOf (served q e) = suc q
+userOf (serving q e) = suc q
 
 unfoldable pub usedFor : List Happening → ℕ → ℕ
 usedFor [] p = 0
 usedFor (a ∷ past) p = cond (eqb p (suc (length past))) (userOf a) (usedFor past p)
 
-pub used-now : (q : ℕ) (e : Event) (past : List Happening) → usedFor (served q e ∷ past) (suc (length past)) ≡ suc q
+pub used-now : (q : ℕ) (e : Event) (past : List Happening) → usedFor (serving q e ∷ past) (suc (length past)) ≡ suc q
 unfolding usedFor
 used-now q e past = rw (eq-eqb (suc (length past)) (suc (length past)) refl)
 

@@ -6,6 +6,7 @@
 --   Candidate q past p      what the history says of a pending point
 --   Timed q past st         what the history says of a request whose head is at stage st
 --   Over, Current, Waiting  what holds of a finished request, of one being served, and of one not begun
+--   Busy qs h q             q is a request of head h
 --   Phase                   which of the three a request is, by its head
 --   Placed qs past e        an entry stands at its request's point, within the request
 --   Invariant               all of it
@@ -76,6 +77,11 @@ pub record Waiting (q : ℕ) (past : List Happening) (times : ℕ) : Type 0 wher
   pub unlinked : linkOf q past ≡ 0
   pub unlisted : times ≡ 0
 
+-- A head that is not at rest serves a request of its own.
+pub record Busy (qs : List Request) (h q : ℕ) : Type 0 where
+  pub within : q < length qs
+  pub own : requestAt qs q .head ≡ h
+
 -- A head serves its requests in file order, so that its own position tells which it is.
 pub data Phase (head : Head) (q : ℕ) (past : List Happening) (times : ℕ) : Type 0 where
   over : q < head .request → Over q past times → Phase head q past times
@@ -102,7 +108,7 @@ pub record Invariant (qs : List Request) (n : ℕ) (B : Labels) (roots₀ : ℕ)
   pub roots : rootCount (parent (S .table)) n + S .links ≡ roots₀
   -- a head serves its own requests, and knows what its stage says
   pub own : (h : ℕ) → h < length (S .heads) → headAt S h .request < length qs → requestAt qs (headAt S h .request) .head ≡ h
-  pub busy : (h : ℕ) → isResting (headAt S h) ≡ false → headAt S h .request < length qs
+  pub busy : (h : ℕ) → isResting (headAt S h) ≡ false → Busy qs h (headAt S h .request)
   pub knows : (h : ℕ) → isResting (headAt S h) ≡ false
       → Knows n (parent (S .table)) (rank (S .table)) (labels qs B S) (ApartAt qs B (S .entries) (headAt S h .request)) (S .now)
         (requestAt qs (headAt S h .request)) (headAt S h) (headAt S h .stage)

@@ -7,3 +7,8 @@ pub mod Stages
 pub mod Outcomes
 pub mod Steps
 pub mod Invariant
+pub mod Others
+pub mod Serving
+pub mod Effects
+pub mod Grant
+pub mod Theorem

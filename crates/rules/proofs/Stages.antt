@@ -140,6 +140,20 @@ pub side-node : {n : ℕ} {B : ℕ → ℕ} {q : Request} {k : Kind} (h : Head) 
 side-node h f X = f .left
 side-node h f Y = f .right
 
+-- a pending point is not beyond the present grant
+module _ (n : ℕ) (p r B : ℕ → ℕ) (Apart : ℕ → Type 0) (now : ℕ) (q : Request) (h : Head) where
+  pub pending-until : (st : Stage) → Knows n p r B Apart now q h st → pendingOf st ≤ now
+  pending-until Resting a = omega arith
+  pending-until (ReadNode k s) a = omega arith
+  pending-until (ReadParent k s rank t) a = omega arith
+  pending-until (Halve k s rank t u) a = omega arith
+  pending-until (ReadAgain k s t) a = omega arith
+  pending-until (RereadX point) a = a .until
+  pending-until ReadRankX a = omega arith
+  pending-until (ReadRankY rank) a = omega arith
+  pending-until (Link rank e) a = omega arith
+  pending-until (Raise rank) a = omega arith
+
 -- ---- what survives a later state
 
 module _ {n : ℕ} {p r B p′ r′ B′ : ℕ → ℕ} (later : Later n p r B p′ r′ B′) where

@@ -46,6 +46,36 @@ use Rattle.rules.proofs.Outcomes.{Kept, Going, Closing, Linked, Joining
 use Rattle.rules.proofs.Outcomes.Linked.{finished, raises}
 use Rattle.rules.proofs.Outcomes.Outcome.{going, closing, joining, ending, denying}
 
+-- ---- a head keeps its request
+
+cond-both : {A : Type 0} (P : A → Type 0) (b : Bool) {x y : A} → P x → P y → P (cond b x y)
+cond-both P true p q = p
+cond-both P false p q = q
+
+module _ (h : Head) where
+  abbrev Keeps : Advanced → Type 0
+  Keeps a = a .head .request ≡ h .request
+
+  ended-keeps : (k : Kind) (s : Side) (now : ℕ) → Keeps (ended h k s now)
+  ended-keeps k X now = refl
+  ended-keeps k Y now = cond-both Keeps (eqb (h .x) (h .y)) refl refl
+
+  moved-keeps : (k : Kind) (s : Side) (v : ℕ) → Keeps (moveUp h k s v)
+  moved-keeps k X v = refl
+  moved-keeps k Y v = refl
+
+  pub advance-keeps : (w : Node) (now : ℕ) (st : Stage) → advanceAt h w now st .head .request ≡ h .request
+  advance-keeps w now Resting = refl
+  advance-keeps w now (ReadNode k s) = cond-both Keeps (eqb (w .parent) (nodeAt h s)) (ended-keeps k s now) refl
+  advance-keeps w now (ReadParent k s r t) = refl
+  advance-keeps w now (Halve k s r t u) = refl
+  advance-keeps w now (ReadAgain k s t) = moved-keeps k s (w .parent)
+  advance-keeps w now (RereadX p) = cond-both Keeps (eqb (w .parent) (h .x)) refl refl
+  advance-keeps w now ReadRankX = refl
+  advance-keeps w now (ReadRankY r) = cond-both Keeps (before (w .rank) (h .y) r (h .x)) refl refl
+  advance-keeps w now (Link r e) = cond-both Keeps (same w (record { rank = r; parent = h .x })) (cond-both Keeps e refl refl) refl
+  advance-keeps w now (Raise r) = refl
+
 -- ---- what x and y say of the request's nodes
 
 ends-one : {B : ℕ → ℕ} {a b x y : ℕ} → Ends B a b x y → x ≡ y → B a ≡ B b

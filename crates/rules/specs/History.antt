@@ -16,7 +16,7 @@ use Rattle.job.specs.declared.Kind.the-variants.{Union, SameSet}
 use Rattle.job.specs.Job.{answerNumber}
 use Rattle.rules.specs.declared.Row.{Row}
 use Rattle.rules.specs.Run.{Happening}
-use Rattle.rules.specs.Run.Happening.{idle, served}
+use Rattle.rules.specs.Run.Happening.{idle, serving}
 
 abbrev pub firstWhere : (Happening → Bool) → List Happening → ℕ
 firstWhere f [] = 0
@@ -32,36 +32,36 @@ countWhere f (a ∷ past) = cond (f a) (suc (countWhere f past)) (countWhere f p
 
 abbrev pub isIdle : Happening → Bool
 isIdle idle = true
-isIdle (served q e) = false
+isIdle (serving q e) = false
 
 abbrev pub hasFailed : Happening → Bool
 hasFailed idle = false
-hasFailed (served q e) = e .failed
+hasFailed (serving q e) = e .failed
 
 abbrev pub hasLink : Happening → Bool
 hasLink idle = false
-hasLink (served q e) = e .linked
+hasLink (serving q e) = e .linked
 
 -- The grant was used for request q.
 abbrev pub isOf : ℕ → Happening → Bool
 isOf q idle = false
-isOf q (served r e) = eqb r q
+isOf q (serving r e) = eqb r q
 
 -- It ended a find from y of request q.
 abbrev pub endsFindOf : ℕ → Happening → Bool
 endsFindOf q idle = false
-endsFindOf q (served r e) = cond (eqb r q) (e .found) false
+endsFindOf q (serving r e) = cond (eqb r q) (e .found) false
 
 -- It was the link swap of request q, and wrote.
 abbrev pub linksFor : ℕ → Happening → Bool
 linksFor q idle = false
-linksFor q (served r e) = cond (eqb r q) (e .linked) false
+linksFor q (serving r e) = cond (eqb r q) (e .linked) false
 
 -- The answer of request q is what its last grant gave: unfinished, or the answer that finished it.
 abbrev pub answerOf : ℕ → List Happening → ℕ
 answerOf q [] = 0
 answerOf q (idle ∷ past) = answerOf q past
-answerOf q (served r e ∷ past) = cond (eqb r q) (answerNumber (e .answer)) (answerOf q past)
+answerOf q (serving r e ∷ past) = cond (eqb r q) (answerNumber (e .answer)) (answerOf q past)
 
 -- A request's first grant is the first that its head uses for it; its last grant is 0 while it is unfinished.
 unfoldable pub rowOf : ℕ → List Happening → Row

@@ -17,11 +17,11 @@ run qs S (h ∷ gs) = run qs (step qs S h) gs
 
 pub data Happening : Type 0 where
   idle : Happening
-  served : ℕ → Event → Happening
+  serving : ℕ → Event → Happening
 
 abbrev pub happenedBy : State → Turn → Happening
 happenedBy S idled = idle
-happenedBy S (serves head) = served (head .request) (advanced S head .event)
+happenedBy S (serves head) = serving (head .request) (advanced S head .event)
 
 unfoldable pub happened : List Request → State → ℕ → Happening
 happened qs S h = happenedBy S (turn qs S h)

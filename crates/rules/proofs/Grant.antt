@@ -1,0 +1,150 @@
+-- One grant keeps the invariant: idle, or serving a head that goes on with its request or begins its next one.
+--
+-- Main law: step-invariant.
+use mathlib.Core.Path.{_≡_, refl, sym, ap, _∙_, subst}
+use mathlib.Core.Logic.{_≢_}
+use mathlib.Core.Bool.{Bool, true, false, cond, true≢false}
+use mathlib.Core.List.{List, _∷_}
+use Prim.Native.Nat.{ℕ, suc, _≤_, _<_}
+use native.Mathlib.Omega.{arith}
+use lib.Dec.{eqb, ltb}
+use lib.ListN.{length}
+use borrow.Author.Tests.{ltb-true, eq-eqb}
+use Rattle.job.specs.declared.Request.{Request}
+use Rattle.process.specs.declared.Head.{Head}
+use Rattle.process.specs.Process.{isResting, begin}
+use Rattle.process.specs.Access.{accessOf}
+use Rattle.process.specs.Advance.{advanceOf}
+use Rattle.forest.proofs.Merge.{Merged, relabelled-merged}
+use Rattle.forest.proofs.Later.{later-refl}
+use Rattle.linearization.specs.Partition.{Labels, join}
+use Rattle.linearization.specs.Entry.{occurrences}
+use Rattle.linearization.proofs.Tests.{split}
+use Rattle.linearization.proofs.Replay.{labelsTo-all, replayed-fact, replayed-map}
+use Rattle.rules.specs.Table.{parent, rank, touched}
+use Rattle.rules.specs.State.{State, requestAt, hasWork}
+use Rattle.rules.specs.Step.{ready, headAt, advanced, served, passed, step}
+use Rattle.rules.specs.Run.{Happening, happened}
+use Rattle.rules.specs.Run.Happening.{idle}
+use Rattle.rules.specs.History.{rowOf, linkOf}
+use Rattle.rules.specs.Linearized.{promised}
+use Rattle.rules.proofs.History.{row-other}
+use Rattle.rules.proofs.Stages.{pendingOf, Inside, finding-begin, knows-later, pending-until}
+use Rattle.rules.proofs.Outcomes.{Outcome}
+use Rattle.rules.proofs.Steps.{step-outcome}
+use Rattle.rules.proofs.Invariant.{labels, ApartAt, claim, Timed, Current, Waiting, Phase, Placed, Invariant}
+use Rattle.rules.proofs.Invariant.Phase.{over, current, waiting}
+use Rattle.rules.proofs.Others.{timed-other, phase-other, placed-other}
+use Rattle.rules.proofs.Serving.{Serving, more, effect-invariant}
+use Rattle.rules.proofs.Effects.{outcome-effect}
+
+-- The request of a head with work left is being served, if the head is not at rest, or waits for it.
+module _ {head : Head} {past : List Happening} {times : ℕ} where
+  phase-current : Phase head (head .request) past times → isResting head ≡ false → Current (head .request) past times
+  phase-current (over l o) b = absurd (omega arith)
+  phase-current (current e r c) b = c
+  phase-current (waiting l r w) b = absurd (true≢false (sym (r refl) ∙ b))
+
+  phase-waiting : Phase head (head .request) past times → isResting head ≡ true → Waiting (head .request) past times
+  phase-waiting (over l o) b = absurd (omega arith)
+  phase-waiting (current e r c) b = absurd (true≢false (sym b ∙ r))
+  phase-waiting (waiting l r w) b = w
+
+module _ {qs : List Request} {n : ℕ} {B : Labels} {roots₀ : ℕ} {S : State} {past : List Happening}
+         (inside : (q : ℕ) → q < length qs → Inside n (requestAt qs q)) (inv : Invariant qs n B roots₀ S past) where
+  -- ---- an idle grant
+
+  idle-invariant : Invariant qs n B roots₀ (passed S) (idle ∷ past)
+  idle-invariant =
+      record {
+        nodes = inv .nodes;
+        clock = ap suc (inv .clock);
+        reports = inv .reports;
+        rows = λ q l. inv .rows q l ∙ sym (row-other q idle past refl);
+        sound = inv .sound;
+        roots = inv .roots;
+        own = inv .own;
+        busy = inv .busy;
+        knows = λ h b. knows-later (later-refl n (parent (S .table)) (rank (S .table)) (labels qs B S)) (inside (headAt S h .request) (inv .busy h b .within))
+          {Apart = ApartAt qs B (S .entries) (headAt S h .request)} {Apart′ = ApartAt qs B (S .entries) (headAt S h .request)}
+          {now = S .now} {now′ = suc (S .now)} (omega arith) (λ point l apart. apart) (headAt S h) (headAt S h .stage) (inv .knows h b);
+        timed = λ h b. timed-other idle refl (omega (arith, inv .clock, until h b)) (inv .timed h b);
+        entries = replayed-map (inv .entries) (λ e m p. placed-other idle refl p) (λ e m. ap (λ r. promised (r .answer)) (sym (row-other (e .request) idle past refl)));
+        phases = λ q l. phase-other q past idle refl refl (inv .phases q l);
+      }
+    where
+      until : (h : ℕ) (b : isResting (headAt S h) ≡ false) → pendingOf (headAt S h .stage) ≤ S .now
+      until h b = pending-until n (parent (S .table)) (rank (S .table)) (labels qs B S) (ApartAt qs B (S .entries) (headAt S h .request)) (S .now)
+        (requestAt qs (headAt S h .request)) (headAt S h) (headAt S h .stage) (inv .knows h b)
+
+  -- ---- a grant that serves a head
+
+  module _ (h : ℕ) (present : h < length (S .heads)) where
+    module _ (within : headAt S h .request < length qs) where
+      own-head : requestAt qs (headAt S h .request) .head ≡ h
+      own-head = inv .own h present within
+
+      own-phase : Phase (headAt S h) (headAt S h .request) past (occurrences (headAt S h .request) (S .entries))
+      own-phase = subst (λ k. Phase (headAt S k) (headAt S h .request) past (occurrences (headAt S h .request) (S .entries))) own-head (inv .phases (headAt S h .request) within)
+
+      -- the head goes on
+      serving-busy : isResting (headAt S h) ≡ false → Serving qs n B S past h (headAt S h)
+      serving-busy busy =
+          let c = phase-current own-phase busy in
+          record {
+            within = within; own = own-head; position = refl; busy = busy; knows = inv .knows h busy; timed = inv .timed h busy;
+            begun = λ r. c .begun; unfinished = c .unfinished; listed = c .listed }
+
+      -- it begins its next request
+      serving-begun : isResting (headAt S h) ≡ true → Serving qs n B S past h (begin (requestAt qs (headAt S h .request)) (headAt S h .request))
+      serving-begun rests =
+          let w = phase-waiting own-phase rests in
+          record {
+            within = within; own = own-head; position = refl; busy = refl;
+            knows = finding-begin (requestAt qs (headAt S h .request)) (inside (headAt S h .request) within);
+            timed = record { unlinked = λ e. w .unlinked; linked = λ e. absurd (true≢false (sym e)); candidate = λ d. absurd (d refl) };
+            begun = λ e. absurd (true≢false (sym e)); unfinished = w .unfinished;
+            listed = w .unlisted ∙ sym (rw (eq-eqb (linkOf (headAt S h .request) past) 0 (w .unlinked))) }
+
+      serving-ready : Serving qs n B S past h (ready qs (headAt S h))
+      serving-ready =
+          split (isResting (headAt S h))
+          (λ t. subst (Serving qs n B S past h) (sym (chosen t)) (serving-begun t))
+          (λ t. subst (Serving qs n B S past h) (sym (chosen t)) (serving-busy t))
+        where
+          chosen : {b : Bool} → isResting (headAt S h) ≡ b
+              → ready qs (headAt S h) ≡ cond b (begin (requestAt qs (headAt S h .request)) (headAt S h .request)) (headAt S h)
+          chosen t = ap (λ b. cond b (begin (requestAt qs (headAt S h .request)) (headAt S h .request)) (headAt S h)) t
+
+    -- what the request's union would make of the sets
+    union-merged : (q : ℕ) → Merged (labels qs B S) (join (labels qs B S) (requestAt qs q .x) (requestAt qs q .y)) (requestAt qs q .x) (requestAt qs q .y)
+    unfolding join
+    union-merged q =
+        relabelled-merged (labels qs B S) (join (labels qs B S) (requestAt qs q .x) (requestAt qs q .y)) (requestAt qs q .x) (requestAt qs q .y) (λ i. refl)
+
+    -- no entry is beyond this grant
+    apart-now : (q : ℕ) → labels qs B S (requestAt qs q .x) ≢ labels qs B S (requestAt qs q .y) → ApartAt qs B (S .entries) q (suc (S .now))
+    apart-now q =
+        subst (λ C. C (requestAt qs q .x) ≢ C (requestAt qs q .y))
+        (sym (labelsTo-all _ (suc (S .now)) B (S .entries) (λ e m. omega (arith, replayed-fact (inv .entries) e m .until, inv .clock))))
+
+    served-outcome : (head : Head) → Serving qs n B S past h head
+        → Outcome n (S .now) (S .table) (touched (S .table) (accessOf head)) (labels qs B S)
+          (join (labels qs B S) (requestAt qs (head .request) .x) (requestAt qs (head .request) .y))
+          (ApartAt qs B (S .entries) (head .request)) (requestAt qs (head .request)) (head .stage) (advanced S head)
+    unfolding accessOf advanceOf
+    served-outcome head srv =
+        step-outcome (S .table) (labels qs B S) (join (labels qs B S) (requestAt qs (head .request) .x) (requestAt qs (head .request) .y)) (S .now)
+          (ApartAt qs B (S .entries) (head .request)) (requestAt qs (head .request)) (inv .nodes) (inside (head .request) (srv .within)) (inv .sound)
+          (union-merged (head .request)) (apart-now (head .request)) head (head .stage) (srv .busy) (srv .knows)
+
+    served-invariant : (head : Head) → Serving qs n B S past h head → Invariant qs n B roots₀ (served qs S h head) (more S head past)
+    served-invariant head srv =
+        effect-invariant present inside inv srv (outcome-effect qs n B roots₀ S past h head inv srv (served-outcome head srv))
+
+    pub step-invariant : Invariant qs n B roots₀ (step qs S h) (happened qs S h ∷ past)
+    unfolding step happened
+    step-invariant =
+        split (hasWork qs (headAt S h))
+        (λ t. rw t (served-invariant (ready qs (headAt S h)) (serving-ready (ltb-true (headAt S h .request) (length qs) t))))
+        (λ t. rw t idle-invariant)
