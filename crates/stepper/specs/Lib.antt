@@ -1,0 +1,2 @@
+-- The lent buffers, and how they show a state of the rules.
+pub mod Buffers
