@@ -1,0 +1,21 @@
+-- Document 01, "One grant, one word": flags kept as a bit mask, and their count.
+--
+--   bitOf b     a flag as a binary digit
+--   maskOf bs   the flags bs as one number: bit h is the h-th flag, the first flag the lowest bit
+--   countOf bs  how many of the flags bs are set
+use mathlib.Core.Bool.{Bool, cond}
+use mathlib.Core.List.{List, [], _∷_}
+use Prim.Native.Nat.{ℕ, _+_, _*_}
+
+abbrev pub bitOf : Bool → ℕ
+bitOf b = cond b 1 0
+
+-- The heads with work left are kept as a bit mask: one flag a head.
+abbrev pub maskOf : List Bool → ℕ
+maskOf [] = 0
+maskOf (b ∷ bs) = 2 * maskOf bs + bitOf b
+
+-- Their number is its count of ones: the flags that are set.
+abbrev pub countOf : List Bool → ℕ
+countOf [] = 0
+countOf (b ∷ bs) = bitOf b + countOf bs
