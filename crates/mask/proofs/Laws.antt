@@ -27,12 +27,23 @@ bit-test false = refl
 
 -- ---- lists of flags
 
+-- a mask is built from its last flag down
+pub mask-none : maskOf [] ≡ 0
+unfolding maskOf
+mask-none = refl
+
+pub mask-more : (b : Bool) (bs : List Bool) → maskOf (b ∷ bs) ≡ 2 * maskOf bs + bitOf b
+unfolding maskOf
+mask-more b bs = refl
+
 pub mask-bound : (bs : List Bool) → maskOf bs < 2 ^ length bs
+unfolding maskOf
 mask-bound [] = omega arith
 mask-bound (true ∷ bs) = omega (arith, mask-bound bs, pow-succ' 2 (length bs))
 mask-bound (false ∷ bs) = omega (arith, mask-bound bs, pow-succ' 2 (length bs))
 
 mask-digit : (bs : List Bool) (h : ℕ) → h < length bs → maskOf bs / 2 ^ h % 2 ≡ bitOf (getD bs h false)
+unfolding maskOf
 mask-digit [] h within = absurd (omega arith)
 mask-digit (b ∷ bs) zero within = rw div-one (low-digit b (maskOf bs))
 mask-digit (b ∷ bs) (suc h) within =
@@ -45,6 +56,7 @@ mask-flag bs h within = rw (mask-digit bs h within) (bit-test (getD bs h false))
 -- clearing the h-th flag takes 2 ^ h away
 mask-taken :
     (bs : List Bool) (h : ℕ) → h < length bs → getD bs h false ≡ true → maskOf bs ≡ maskOf (set bs h false) + 2 ^ h
+unfolding maskOf
 mask-taken [] h within on = absurd (omega arith)
 mask-taken (b ∷ bs) zero within on = rw on (omega arith)
 mask-taken (b ∷ bs) (suc h) within on = omega (arith, mask-taken bs h (omega arith) on, pow-succ' 2 h)
@@ -58,10 +70,14 @@ module _ (bs : List Bool) (h : ℕ) (within : h < length bs) (on : getD bs h fal
 
 -- the ones of a mask are the flags that are set
 pub mask-count : (bs : List Bool) → ones (maskOf bs) ≡ countOf bs
-unfolding ones
+unfolding ones maskOf countOf
 mask-count [] = refl
 mask-count (b ∷ bs) =
-    ones-step (maskOf (b ∷ bs)) ∙ rw (low-digit b (maskOf bs), rest b (maskOf bs)) (ap (λ n. bitOf b + n) (mask-count bs))
+    ones-step (maskOf (b ∷ bs)) ∙ rw (low-digit b (maskOf bs), rest b (maskOf bs), mask-count bs) (one-more b)
+  where
+    one-more : (b : Bool) → bitOf b + countOf bs ≡ countOf (b ∷ bs)
+    one-more true = omega arith
+    one-more false = omega arith
 
 -- ---- lists under a test: the h-th flag says whether the h-th item passes
 
@@ -82,6 +98,7 @@ module _ {A : Type 0} (f : A → Bool) (d : A) where
 
   -- an item that changes without changing its test keeps the mask
   pub mask-kept : (l : List A) (h : ℕ) (v : A) → f v ≡ f (getD l h d) → maskOf (map f (set l h v)) ≡ maskOf (map f l)
+  unfolding maskOf
   mask-kept [] h v same = refl
   mask-kept (a ∷ l) zero v same = rw same
   mask-kept (a ∷ l) (suc h) v same = ap (λ m. 2 * m + bitOf (f a)) (mask-kept l h v same)

@@ -5,17 +5,18 @@
 --   countOf bs  how many of the flags bs are set
 use mathlib.Core.Bool.{Bool, cond}
 use mathlib.Core.List.{List, [], _∷_}
-use Prim.Native.Nat.{ℕ, _+_, _*_}
+use Prim.Native.Nat.{ℕ, suc, _+_, _*_}
 
+-- 1 for a flag that is set, 0 for one that is not.
 abbrev pub bitOf : Bool → ℕ
 bitOf b = cond b 1 0
 
 -- The heads with work left are kept as a bit mask: one flag a head.
-abbrev pub maskOf : List Bool → ℕ
+unfoldable pub maskOf : List Bool → ℕ
 maskOf [] = 0
 maskOf (b ∷ bs) = 2 * maskOf bs + bitOf b
 
--- Their number is its count of ones: the flags that are set.
-abbrev pub countOf : List Bool → ℕ
+-- Their number: the flags that are set.
+unfoldable pub countOf : List Bool → ℕ
 countOf [] = 0
-countOf (b ∷ bs) = bitOf b + countOf bs
+countOf (b ∷ bs) = cond b (suc (countOf bs)) (countOf bs)
