@@ -13,7 +13,7 @@ pub fn is_set(mask: u32, bit: u32) -> bool
     (mask >> bit) % 2 == 1
 }
 
-// The mask without a flag that is set in it.
+// The mask less the digit of one flag: the mask without that flag, where the flag was set.
 pub fn cleared(mask: u32, bit: u32) -> u32
     requires { ⌜ bit < 32 ⌝ }
     requires { ⌜ 2 ^ bit ≤ mask ⌝ }
