@@ -1,0 +1,2 @@
+-- The laws of masks that other crates cite.
+pub mod Laws
