@@ -1,7 +1,10 @@
--- `stepper::buffers::swap`: written where the word is the expected one, else left.
+use mathlib.Core.Path.{sym, ap, _∙_}
+use Rattle.word.specs.Word.{same}
 use borrow.Author.Needs.{needs}
 use Rattle.stepper.proofs.buffers.swap.Statement.{statement}
 use Rattle.stepper.proofs.buffers.swap.Tie as tie
+
+-- `stepper::buffers::swap`: written where the word is the expected one, else left.
 
 mul-decoded : tie.Need-mul-decoded
 mul-decoded c = search needs
@@ -28,10 +31,16 @@ same-length : tie.Need-same-length
 same-length c = search needs
 
 returns : tie.Need-returns
-returns c = let d = c .before .before .before .decoded .ensures in (d, simp (← d, ← c .before .before .is-same .ensures, c .before .if1 .taken, c .encoded .ensures))
+returns c =
+    let b = c .before .before in let d = b .before .decoded .ensures in
+    let s = ap (λ n. same n (b .before .before .before .before .args .expected)) (sym d) ∙ sym (b .is-same .ensures) ∙ c .before .if1 .taken in
+    (d, simp (s, c .encoded .ensures))
 
 returns-2 : tie.Need-returns-2
-returns-2 c = let d = c .before .before .decoded .ensures in (d, simp (← d, ← c .before .is-same .ensures, c .if1 .left))
+returns-2 c =
+    let b = c .before in let d = b .before .decoded .ensures in
+    let s = ap (λ n. same n (b .before .before .before .before .args .expected)) (sym d) ∙ sym (b .is-same .ensures) ∙ c .if1 .left in
+    (d, simp s)
 
 pub swap-spec : {M : Type 1} → statement M
 swap-spec =

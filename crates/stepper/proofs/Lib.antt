@@ -1,0 +1,5 @@
+-- Laws of the lent buffers: what each access, row and entry does to what they show.
+pub mod Lists
+pub mod Shown
+pub mod Access
+pub mod Room

@@ -1,0 +1,55 @@
+-- How the lent buffers show a state of the rules: the table as words, four numbers a request, two an entry, one bit a head.
+--
+--   Buffers           heads, table, report, linearization, the number of entries and the work mask
+--   shown qs S lent   what the buffers hold in state S; numbers past the entries are as lent
+--   Done, doneOf a    what a grant adds to the tally
+--   Standing          the buffers show a state that a run has reached
+use mathlib.Core.Path.{_≡_}
+use mathlib.Core.Bool.{Bool, true, false}
+use mathlib.Core.List.{List, _++_, map}
+use Prim.Native.Nat.{ℕ, suc, _*_, _≤_}
+use lib.ListN.{length, drop}
+use Rattle.job.specs.declared.Request.{Request}
+use Rattle.word.specs.Word.{encode}
+use Rattle.process.specs.declared.Head.{Head}
+use Rattle.linearization.specs.Partition.{apart}
+use Rattle.linearization.specs.Entry.{flat}
+use Rattle.mask.specs.Mask.{maskOf}
+use Rattle.rules.specs.State.{State, hasWork}
+use Rattle.rules.specs.Run.{Happening}
+use Rattle.rules.specs.Run.Happening.{idle, serving}
+use Rattle.rules.proofs.Invariant.{Invariant}
+use Rattle.stepper.specs.declared.Done.{Done}
+use Rattle.stepper.specs.Buffers.{flatRows}
+
+pub record Buffers : Type 0 where
+  pub heads : List Head
+  pub table : List ℕ
+  pub report : List ℕ
+  pub linearization : List ℕ
+  pub entries : ℕ
+  pub mask : ℕ
+
+abbrev pub shown : List Request → State → List ℕ → Buffers
+shown qs S lent =
+    record {
+      heads = S .heads;
+      table = map encode (S .table);
+      report = flatRows (S .report);
+      linearization = flat (S .entries) ++ drop (2 * length (S .entries)) lent;
+      entries = length (S .entries);
+      mask = maskOf (map (hasWork qs) (S .heads));
+    }
+
+abbrev pub doneOf : Happening → Done
+doneOf idle = record { idle = true; failed = false; linked = false }
+doneOf (serving q e) = record { idle = false; failed = e .failed; linked = e .linked }
+
+-- The buffers b show the state S, reached with the history `past`, and the next grant is the one of that number.
+pub record Standing (qs : List Request) (n count : ℕ) (b : Buffers) (number : ℕ) (S : State) (past : List Happening) (lent : List ℕ) : Type 0 where
+  pub invariant : Invariant qs n apart n S past
+  pub heads : length (S .heads) ≡ count
+  pub shows : b ≡ shown qs S lent
+  pub next : number ≡ suc (S .now)
+  -- there is room for an entry a request
+  pub room : 2 * length qs ≤ length lent
