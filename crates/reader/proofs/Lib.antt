@@ -1,0 +1,4 @@
+-- The laws behind the reader: words and their sum, the loops over sections, and the checks in their order.
+mod Words
+mod Loops
+mod Checks
