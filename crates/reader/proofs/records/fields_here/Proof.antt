@@ -1,3 +1,5 @@
+use denote.Ref.{now}
+use Rattle.reader.proofs.Fields.{fields-read}
 use borrow.Author.Needs.{needs}
 use Rattle.reader.proofs.records.fields_here.Statement.{statement}
 use Rattle.reader.proofs.records.fields_here.Tie as tie
@@ -56,7 +58,7 @@ cast-t11 c = search needs
 
 -- src/records.rt:46:1
 returns : tie.Need-returns
-returns c = ?
+returns c = let a = c .before .before .before .before .before .args in fields-read (now (a .file)) (a .at) _ _ _ _ (c .before .before .before .byte-at .ensures) (c .before .before .byte-at2 .ensures) (c .before .word-at .ensures) (c .word-at2 .ensures)
 
 pub fields-here-spec : {M : Type 1} → statement M
 fields-here-spec =

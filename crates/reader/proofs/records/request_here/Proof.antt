@@ -1,3 +1,5 @@
+use denote.Ref.{now}
+use Rattle.reader.proofs.Fields.{request-read}
 use borrow.Author.Needs.{needs}
 use Rattle.reader.proofs.records.request_here.Statement.{statement}
 use Rattle.reader.proofs.records.request_here.Tie as tie
@@ -45,7 +47,7 @@ word-at-requires-2 c κs = search needs
 
 -- src/records.rt:29:1
 returns : tie.Need-returns
-returns c = ?
+returns c = let a = c .before .before .before .before .before .before .args in request-read (now (a .file)) (a .at) _ _ (c .before .before .before .byte-at2 .result) _ _ (c .before .before .before .before .byte-at .ensures) (c .before .before .kind-of .ensures) (c .before .before .before .byte-at2 .ensures) (c .before .word-at .ensures) (c .word-at2 .ensures)
 
 pub request-here-spec : {M : Type 1} → statement M
 request-here-spec =

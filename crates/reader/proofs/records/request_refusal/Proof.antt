@@ -1,3 +1,6 @@
+use lib.ListN.{length-drop}
+use borrow.Author.Tests.{lt-ltb, le-ltb, le-leb, lt-leb}
+use Rattle.jobfile.specs.Meaning.{requestRefusal}
 use borrow.Author.Needs.{needs}
 use Rattle.reader.proofs.records.request_refusal.Statement.{statement}
 use Rattle.reader.proofs.records.request_refusal.Tie as tie
@@ -12,11 +15,13 @@ sub-if1 c = search needs
 
 -- src/records.rt:69:9
 returns : tie.Need-returns
-returns c = ?
+unfolding requestRefusal
+returns c = simp (length-drop, lt-ltb _ _ (c .if1 .taken))
 
 -- src/records.rt:72:9
 returns-2 : tie.Need-returns-2
-returns-2 c = ?
+unfolding requestRefusal
+returns-2 c = simp (length-drop, le-ltb _ _ (c .before .if1 .left), le-leb _ _ (c .if2 .taken))
 
 -- src/records.rt:74:34
 fields-here-requires : tie.Need-fields-here-requires
@@ -28,7 +33,8 @@ fields-refusal-requires c κs = search needs
 
 -- src/records.rt:63:1
 returns-3 : tie.Need-returns-3
-returns-3 c = ?
+unfolding requestRefusal
+returns-3 c = simp (length-drop, le-ltb _ _ (c .before .before .before .if1 .left), lt-leb _ _ (c .before .before .if2 .left), c .fields-refusal .ensures, c .before .fields-here .ensures)
 
 pub request-refusal-spec : {M : Type 1} → statement M
 request-refusal-spec =

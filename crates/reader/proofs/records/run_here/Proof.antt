@@ -1,3 +1,5 @@
+use denote.Ref.{now}
+use Rattle.reader.proofs.Fields.{run-read}
 use borrow.Author.Needs.{needs}
 use Rattle.reader.proofs.records.run_here.Statement.{statement}
 use Rattle.reader.proofs.records.run_here.Tie as tie
@@ -23,7 +25,7 @@ byte-at-requires-2 c κs = search needs
 
 -- src/records.rt:78:1
 returns : tie.Need-returns
-returns c = ?
+returns c = let a = c .before .before .before .args in run-read (now (a .file)) (a .at) _ _ (c .before .byte-at .ensures) (c .byte-at2 .ensures)
 
 pub run-here-spec : {M : Type 1} → statement M
 run-here-spec =

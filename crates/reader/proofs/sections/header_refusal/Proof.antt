@@ -1,3 +1,6 @@
+use mathlib.Core.Path.{_∙_, sym}
+use borrow.Author.Tests.{lt-ltb, le-ltb, eq-eqb, ne-eqb}
+use Rattle.jobfile.specs.Meaning.{headerRefusal}
 use borrow.Author.Needs.{needs}
 use Rattle.reader.proofs.sections.header_refusal.Statement.{statement}
 use Rattle.reader.proofs.sections.header_refusal.Tie as tie
@@ -8,7 +11,8 @@ use Rattle.reader.proofs.bytes.word_at.Reads as word-at-reads
 
 -- src/sections.rt:38:9
 returns : tie.Need-returns
-returns c = ?
+unfolding headerRefusal
+returns c = simp (lt-ltb _ _ (c .if1 .taken))
 
 -- src/sections.rt:40:8
 word-at-requires : tie.Need-word-at-requires
@@ -16,11 +20,13 @@ word-at-requires c κs = search needs
 
 -- src/sections.rt:41:9
 returns-2 : tie.Need-returns-2
-returns-2 c = ?
+unfolding headerRefusal
+returns-2 c = simp (le-ltb _ _ (c .before .before .if1 .left), ne-eqb _ _ (c .if2 .taken), ← c .before .word-at .ensures)
 
 -- src/sections.rt:44:9
 returns-3 : tie.Need-returns-3
-returns-3 c = ?
+unfolding headerRefusal
+returns-3 c = simp (le-ltb _ _ (c .before .before .before .if1 .left), eq-eqb _ _ (sym (c .before .before .word-at .ensures) ∙ c .before .if2 .left), lt-ltb _ _ (c .if3 .taken))
 
 -- src/sections.rt:46:19
 word-at-requires-2 : tie.Need-word-at-requires-2
@@ -44,7 +50,8 @@ sizes-refusal-requires c κs = search needs
 
 -- src/sections.rt:34:1
 returns-4 : tie.Need-returns-4
-returns-4 c = ?
+unfolding headerRefusal
+returns-4 c = simp (le-ltb _ _ (c .before .before .before .before .before .before .if1 .left), eq-eqb _ _ (sym (c .before .before .before .before .before .word-at .ensures) ∙ c .before .before .before .before .if2 .left), le-ltb _ _ (c .before .before .before .if3 .left), c .sizes-refusal .ensures, c .before .before .word-at2 .ensures, c .before .word-at3 .ensures)
 
 pub header-refusal-spec : {M : Type 1} → statement M
 header-refusal-spec =
