@@ -76,7 +76,7 @@ pub fn request_refusal(file: &[u8], at: usize, nodes: u32, heads: u32, number: u
 
 // The run at a place.
 pub fn run_here(file: &[u8], at: usize) -> Run
-    requires { ⌜ at + 4 ≤ mostBytes ⌝ }
+    requires { ⌜ at ≤ mostBytes ⌝ }
     ensures { λ r. ⌜ r ≡ runAt (drop at (now (file .entry))) ⌝ }
 {
     let head = byte_at(file, at + 2);

@@ -1,0 +1,85 @@
+use borrow.Author.Needs.{needs}
+use Rattle.reader.proofs.check_records.Statement.{statement}
+use Rattle.reader.proofs.check_records.Tie as tie
+use Rattle.reader.proofs.check_records.Reads as reads
+use Rattle.reader.proofs.check_records.Lts as lts
+use Rattle.reader.proofs.bytes.word_at.Reads as word-at-reads
+use Rattle.reader.proofs.refuse.Reads as refuse-reads
+use Rattle.reader.proofs.sections.close_refusal.Reads as close-refusal-reads
+use Rattle.reader.proofs.sections.read_requests.Reads as read-requests-reads
+use Rattle.reader.proofs.sections.read_runs.Reads as read-runs-reads
+
+-- src/lib.rt:55:17
+word-at-requires : tie.Need-word-at-requires
+word-at-requires c κs = search needs
+
+-- src/lib.rt:55:17
+cast-nodes : tie.Need-cast-nodes
+cast-nodes c = search needs
+
+-- src/lib.rt:56:17
+word-at-requires-2 : tie.Need-word-at-requires-2
+word-at-requires-2 c κs = search needs
+
+-- src/lib.rt:56:17
+cast-heads : tie.Need-cast-heads
+cast-heads c = search needs
+
+-- src/lib.rt:57:9
+read-requests-requires : tie.Need-read-requests-requires
+read-requests-requires c κs = ?
+
+-- src/lib.rt:59:9
+refuse-requires : tie.Need-refuse-requires
+refuse-requires c κs = search needs
+
+-- src/lib.rt:59:9
+returns : tie.Need-returns
+returns c = ?
+
+-- src/lib.rt:61:9
+read-runs-requires : tie.Need-read-runs-requires
+read-runs-requires c κs = ?
+
+-- src/lib.rt:63:9
+refuse-requires-2 : tie.Need-refuse-requires-2
+refuse-requires-2 c κs = search needs
+
+-- src/lib.rt:63:9
+returns-2 : tie.Need-returns-2
+returns-2 c = ?
+
+-- src/lib.rt:65:9
+close-refusal-requires : tie.Need-close-refusal-requires
+close-refusal-requires c κs = ?
+
+-- src/lib.rt:67:9
+refuse-requires-3 : tie.Need-refuse-requires-3
+refuse-requires-3 c κs = search needs
+
+-- src/lib.rt:67:9
+returns-3 : tie.Need-returns-3
+returns-3 c = ?
+
+-- src/lib.rt:50:1
+returns-4 : tie.Need-returns-4
+returns-4 c = ?
+
+pub check-records-spec : {M : Type 1} → statement M
+check-records-spec =
+    tie.close
+    (tie.spec
+    word-at-requires
+    cast-nodes
+    word-at-requires-2
+    cast-heads
+    read-requests-requires
+    refuse-requires
+    returns
+    read-runs-requires
+    refuse-requires-2
+    returns-2
+    close-refusal-requires
+    refuse-requires-3
+    returns-3
+    returns-4)
