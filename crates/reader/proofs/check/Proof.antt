@@ -1,3 +1,6 @@
+use mathlib.Core.Path.{_∙_}
+use denote.Ref.{now}
+use Rattle.reader.proofs.Checks.{length-answers, header-answers}
 use borrow.Author.Needs.{needs}
 use Rattle.reader.proofs.check.Statement.{statement}
 use Rattle.reader.proofs.check.Tie as tie
@@ -13,7 +16,7 @@ refuse-requires c κs = search needs
 
 -- src/lib.rt:84:9
 returns : tie.Need-returns
-returns c = ?
+returns c = c .refuse .ensures ∙ length-answers (now (c .before .before .before .args .file)) (c .before .if1 .taken)
 
 -- src/lib.rt:86:9
 header-refusal-requires : tie.Need-header-refusal-requires
@@ -25,7 +28,7 @@ refuse-requires-2 c κs = search needs
 
 -- src/lib.rt:88:9
 returns-2 : tie.Need-returns-2
-returns-2 c = ?
+returns-2 c = c .refuse2 .ensures ∙ header-answers (now (c .before .before .before .before .before .args .file)) _ (c .before .before .before .if1 .left) (c .before .before .header-refusal .ensures) (c .before .if2 .taken)
 
 -- src/lib.rt:90:5
 check-records-requires : tie.Need-check-records-requires
