@@ -5,7 +5,7 @@
 --   job-drafted         the draft of a job stands for that job
 use mathlib.Core.Path.{_≡_, refl, _∙_, sym, ap}
 use mathlib.Core.List.{List, [], _∷_, map}
-use Prim.Native.Nat.{ℕ, zero, suc, _≤_, _<_}
+use Prim.Native.Nat.{ℕ, zero, suc, _<_}
 use native.Mathlib.Omega.{arith}
 use lib.Dec.{ltb, leb}
 use lib.ListN.{length, getD, length-map}
@@ -13,11 +13,11 @@ use borrow.Author.Tests.{ltb-false, leb-false, le-ltb, lt-leb}
 use Rattle.job.specs.declared.Request.{Request}
 use Rattle.job.specs.Job.{Job, kindNumber}
 use Rattle.jobfile.specs.declared.Fields.{Fields}
-use Rattle.jobfile.specs.Format.{mostBytes, mostRequests, _then_, fieldsRefusal, requestOf, lengthRefusal}
+use Rattle.jobfile.specs.Format.{mostBytes, mostRequests, fieldsRefusal, requestOf, lengthRefusal}
 use Rattle.jobfile.specs.Written.{written}
 use Rattle.jobfile.specs.Draft.{Draft, fieldsOf, jobOf, countRefusal, eachRefusal, grantsRefusal, draftRefusal, numbersOf, draftOf}
 use Rattle.jobfile.specs.Admitted.{Serves, Admitted}
-use Rattle.jobfile.proofs.Tests.{passed, through, Sized, sized, sized-passes, Fit, fit, fit-passes}
+use Rattle.jobfile.proofs.Tests.{passed, through, sized, sized-passes, fit, fit-passes}
 use Rattle.jobfile.proofs.Runs.{Below, below-tail}
 use Rattle.jobfile.proofs.Forward.{kind-back, some-kind, few-kinds}
 

@@ -4,25 +4,23 @@
 --   wordSum-file             the words of a file add up to those of the file with balance 0, and its balance
 --   meaning-written          the meaning of the written file is the job
 use mathlib.Core.Path.{_≡_, refl, _∙_, sym, ap}
-use mathlib.Core.Bool.{Bool, true, false, cond, not}
 use mathlib.Core.List.{List, [], _∷_, _++_, map}
-use Prim.Native.Nat.{ℕ, zero, suc, _+_, _*_, _-_, _%_, _/_, _≤_, _<_}
+use Prim.Native.Nat.{ℕ, suc, _+_, _*_, _%_, _/_, _≤_, _<_}
 use native.Mathlib.Omega.{arith}
-use native.Mathlib.Nat.{mul-zero, mul-suc, add-comm}
-use lib.Dec.{eqb, ltb, leb}
+use native.Mathlib.Nat.{mul-suc, add-comm}
 use lib.ListN.{length, getD, drop, length-map}
 use lib.Seq.{drop-drop}
-use borrow.Author.Tests.{eq-eqb, ne-eqb, le-ltb, lt-leb}
+use borrow.Author.Tests.{ne-eqb, le-ltb, lt-leb}
 use Rattle.job.specs.declared.Kind.{Kind}
 use Rattle.job.specs.declared.Kind.the-variants.{Union, SameSet}
 use Rattle.job.specs.declared.Request.{Request}
 use Rattle.job.specs.Job.{Job, kindOf, kindNumber}
 use Rattle.jobfile.specs.declared.Run.{Run}
-use Rattle.jobfile.specs.Format.{requestMark, runMark, closeMark, mostBytes, mostRequests, word, wordBytes, wordSum, _then_, lengthRefusal}
-use Rattle.jobfile.specs.Meaning.{records, nodesIn, headsIn, headerRefusal, fieldsAt, requestAt, requestRefusal, requestsRefusal, runAt, runRefusal, runsRefusal, fullRun, granted, closeRefusal, balanceRefusal, requestRecords, runsStart, runRecords, closeStart, fileRefusal, runsIn, jobIn, accepted, meaning}
+use Rattle.jobfile.specs.Format.{requestMark, runMark, closeMark, mostBytes, mostRequests, word, wordBytes, wordSum, lengthRefusal}
+use Rattle.jobfile.specs.Meaning.{records, nodesIn, headsIn, headerRefusal, fieldsAt, requestAt, requestRefusal, requestsRefusal, runAt, runRefusal, runsRefusal, fullRun, granted, closeRefusal, balanceRefusal, requestRecords, runsStart, runRecords, closeStart, fileRefusal, jobIn, accepted, meaning}
 use Rattle.jobfile.specs.Written.{requestBytes, requestsBytes, runBytes, runsBytes, longestRuns, fileWith, balance, written}
 use Rattle.jobfile.specs.Admitted.{Serves, Admitted}
-use Rattle.jobfile.proofs.Tests.{Sized, sized-passes, Fit, fit-passes}
+use Rattle.jobfile.proofs.Tests.{sized-passes, Fit, fit-passes}
 use Rattle.jobfile.proofs.Records.{records-next, records-end}
 use Rattle.jobfile.proofs.Runs.{Following, Follows, granted-longest, longest-follow}
 

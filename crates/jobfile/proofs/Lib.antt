@@ -2,6 +2,7 @@
 pub mod Tests
 pub mod Records
 pub mod Runs
+pub mod Passed
 pub mod Forward
 pub mod Backward
 pub mod Drafts

@@ -1,28 +1,30 @@
 -- Where the parts of an accepted file stand, so that they can be read in place, and how many there can be.
 --
+--   file-short          an accepted file is at most 32,768 bytes
 --   file-length         an accepted file is its header, 8 bytes a request, 4 a run, and the close
 --   request-stands      request q of an accepted file stands at byte 6 + 8 q
 --   run-stands          run i of an accepted file stands 4 i bytes behind the requests
 --   runs-meant          the runs of an accepted file are the longest of its schedule
 --   granted-next, granted-end   the schedule of the runs from run i on
 --   few-grants          an admitted job has at most 2,088,195 grants
-use mathlib.Core.Path.{_≡_, refl, _∙_, sym, ap}
-use mathlib.Core.List.{List, [], _∷_, _++_, map}
-use Prim.Native.Nat.{ℕ, zero, suc, _+_, _*_, _≤_, _<_}
+use mathlib.Core.Path.{_≡_, _∙_, sym, ap}
+use mathlib.Core.List.{List, [], _∷_, _++_}
+use Prim.Native.Nat.{ℕ, _+_, _*_, _≤_, _<_}
 use native.Mathlib.Omega.{arith}
 use native.Mathlib.Numerals.{add-one}
-use lib.ListN.{length, getD, drop, replicate, length-drop, length-map, drop-of-length-le, List·getD-map}
+use lib.ListN.{length, getD, drop, replicate, length-map, drop-of-length-le}
 use lib.Seq.{drop-drop, drop-cons}
 use Rattle.job.specs.declared.Request.{Request}
 use Rattle.job.specs.Job.{Job}
 use Rattle.jobfile.specs.declared.Run.{Run}
-use Rattle.jobfile.specs.Format.{mostGrants}
+use Rattle.jobfile.specs.Format.{mostBytes}
 use Rattle.jobfile.specs.Meaning.{headsIn, requestAt, runAt, fullRun, granted, requestRecords, runsStart, runRecords, runsIn, jobIn, meaning}
 use Rattle.jobfile.specs.Written.{requestsBytes, runsBytes, longestRuns, fileWith, written}
 use Rattle.jobfile.specs.Admitted.{Admitted, Bytes}
-use Rattle.jobfile.proofs.Records.{Section, section-at}
+use Rattle.jobfile.proofs.Records.{section-at}
 use Rattle.jobfile.proofs.Runs.{longest-follow, longest-granted, granted-longest, granted-few}
-use Rattle.jobfile.proofs.Backward.{file-passed, request-section, run-section, runs-rule}
+use Rattle.jobfile.proofs.Passed.{file-passed}
+use Rattle.jobfile.proofs.Backward.{request-section, run-section, runs-rule}
 use Rattle.jobfile.proofs.RoundTrip.{accepts-all, job-meant, written-meaning}
 
 length-requests : (qs : List Request) (t : List ℕ) → length (requestsBytes qs ++ t) ≡ 8 * length qs + length t
@@ -61,6 +63,9 @@ module _ (s : List ℕ) (bytes : Bytes s) (accepts : meaning s .number ≡ 0) wh
   pub run-stands : (i : ℕ) (none : Run) → i < length (longestRuns (meaning s .job .schedule))
       → getD (longestRuns (meaning s .job .schedule)) i none ≡ runAt (drop (6 + 8 * length (meaning s .job .requests) + 4 * i) s)
   run-stands i none l = rw (runs-meant, requests-counted) (section-at (run-section s) runAt i none (omega (arith, runs-counted)) ∙ ap runAt (drop-drop (4 * i) (runsStart s) s))
+
+  pub file-short : length s ≤ mostBytes
+  file-short = file-passed s (accepts-all s bytes accepts) .short
 
   pub file-length : length s ≡ 10 + 8 * length (meaning s .job .requests) + 4 * length (longestRuns (meaning s .job .schedule))
   file-length = ap length (sym (written-meaning s bytes accepts)) ∙ length-written (meaning s .job)

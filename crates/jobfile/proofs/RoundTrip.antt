@@ -6,7 +6,7 @@
 --   written-meaning     the meaning of an accepted file is written as that file, byte for byte
 --   admitted-meaning    the meaning of an accepted file is an admitted job
 --   meaning-drafted     so the writer refuses no meaning of an accepted file
-use mathlib.Core.Path.{_≡_, refl, _∙_, sym, ap}
+use mathlib.Core.Path.{_≡_, _∙_, sym, ap}
 use mathlib.Core.List.{List}
 use Prim.Native.Nat.{ℕ}
 use lib.Dec.{eqb}
@@ -17,7 +17,8 @@ use Rattle.jobfile.specs.Draft.{Draft, jobOf, draftRefusal, draftOf}
 use Rattle.jobfile.specs.Admitted.{Admitted, Bytes}
 use Rattle.jobfile.proofs.Tests.{split}
 use Rattle.jobfile.proofs.Forward.{meaning-written}
-use Rattle.jobfile.proofs.Backward.{file-passed, written-job, admitted-job}
+use Rattle.jobfile.proofs.Passed.{file-passed}
+use Rattle.jobfile.proofs.Backward.{written-job, admitted-job}
 use Rattle.jobfile.proofs.Drafts.{admitted-draft, draft-passes}
 
 pub meaning-number : (s : List ℕ) → meaning s .number ≡ fileRefusal s

@@ -6,20 +6,19 @@
 --   granted-few         runs grant at most 255 each
 --   granted-below       every head that is granted is below h
 --   longest-granted     runs that follow the rules are the longest of what they grant
-use mathlib.Core.Path.{_≡_, refl, _∙_, sym, ap}
-use mathlib.Core.Bool.{Bool, true, false, cond}
+use mathlib.Core.Path.{_≡_, refl, _∙_, ap}
+use mathlib.Core.Bool.{true, false}
 use mathlib.Core.List.{List, [], _∷_, _++_}
 use Prim.Native.Nat.{ℕ, zero, suc, _+_, _*_, _≤_, _<_}
 use native.Mathlib.Omega.{arith}
 use native.Mathlib.Nat.{add-zero}
-use native.Mathlib.Numerals.{add-one}
 use lib.Dec.{eqb, ltb}
 use lib.ListN.{length, getD, replicate, length-append, length-replicate, getD-replicate}
 use borrow.Author.Tests.{eqb-true, eq-eqb, lt-ltb, ltb-true}
 use Rattle.jobfile.specs.declared.Run.{Run}
 use Rattle.jobfile.specs.Format.{mostGrants, extends}
 use Rattle.jobfile.specs.Meaning.{granted}
-use Rattle.jobfile.specs.Written.{nextRun, runsFrom, longestRuns}
+use Rattle.jobfile.specs.Written.{runsFrom, longestRuns}
 use Rattle.jobfile.proofs.Tests.{split}
 
 -- A run of n grants for the head h.

@@ -2,6 +2,15 @@
 ghost use mathlib.Core.Path.{_≡_};
 ghost use Rattle.jobfile.specs.Format.{sizesRefusal, fieldsRefusal, extends};
 
+// The marks of the four records, as 16-bit words, low byte first.
+pub const JOB_MARK: u16 = 0x4B44;
+
+pub const REQUEST_MARK: u16 = 0x5152;
+
+pub const RUN_MARK: u16 = 0x5247;
+
+pub const CLOSE_MARK: u16 = 0x4C43;
+
 // The four numbers of a request, before they are known to fit.
 pub struct Fields {
     pub head: u32,

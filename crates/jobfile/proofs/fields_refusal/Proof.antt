@@ -1,4 +1,5 @@
 -- `jobfile::fields_refusal`: one test a line of the definition.
+use native.Mathlib.Omega.{arith}
 use borrow.Author.Tests.{eq-eqb, ne-eqb, lt-ltb, le-ltb, le-leb, lt-leb}
 use Rattle.jobfile.specs.Format.{fieldsRefusal}
 use Rattle.jobfile.proofs.fields_refusal.Statement.{statement}
@@ -22,11 +23,15 @@ returns-4 c = simp (lt-leb _ _ (c .before .before .before .before .before .befor
 
 returns-5 : tie.Need-returns-5
 unfolding fieldsRefusal
-returns-5 c = simp (lt-leb _ _ (c .before .before .before .before .before .before .before .before .if1 .left), ne-eqb _ _ (c .before .before .before .before .before .before .if2 .left), le-ltb _ _ (c .before .before .before .before .if3 .left), lt-leb _ _ (c .before .before .if4 .left), le-leb _ _ (c .if5 .taken))
+returns-5 c =
+    let a = c .before .before .before .before .before .before .before .before .before .before .args in
+    simp (lt-leb _ _ (c .before .before .before .before .before .before .before .before .if1 .left), ne-eqb _ _ (c .before .before .before .before .before .before .if2 .left), le-ltb _ _ (c .before .before .before .before .if3 .left), lt-leb _ _ (c .before .before .if4 .left), le-leb (a .nodes) (a .fields .y) (omega arith))
 
 returns-6 : tie.Need-returns-6
 unfolding fieldsRefusal
-returns-6 c = simp (lt-leb _ _ (c .before .before .before .before .before .before .before .before .if1 .left), ne-eqb _ _ (c .before .before .before .before .before .before .if2 .left), le-ltb _ _ (c .before .before .before .before .if3 .left), lt-leb _ _ (c .before .before .if4 .left), lt-leb _ _ (c .if5 .left))
+returns-6 c =
+    let a = c .before .before .before .before .before .before .before .before .before .before .args in
+    simp (lt-leb _ _ (c .before .before .before .before .before .before .before .before .if1 .left), ne-eqb _ _ (c .before .before .before .before .before .before .if2 .left), le-ltb _ _ (c .before .before .before .before .if3 .left), lt-leb _ _ (c .before .before .if4 .left), lt-leb (a .nodes) (a .fields .y) (omega arith))
 
 pub fields-refusal-spec : {M : Type 1} → statement M
 fields-refusal-spec = tie.close (tie.spec returns returns-2 returns-3 returns-4 returns-5 returns-6)

@@ -1,0 +1,40 @@
+-- What the reader answers: the counts of a meaning, and those of a section of the file. A refusal has zero for every count.
+--
+--   countsOf m                  the number of a meaning and the counts of its job
+--   requestSectionOf n h ts     the refusal or the count of the requests at the places ts
+--   runSectionOf h ts           the refusal, or the count and the grants, of the runs at the places ts
+use mathlib.Core.Bool.{cond}
+use mathlib.Core.List.{List, map}
+use Prim.Native.Nat.{ℕ}
+use lib.Dec.{eqb}
+use lib.ListN.{length}
+use Rattle.jobfile.specs.Meaning.{Meaning, requestsRefusal, runsRefusal, runAt, fullRun, granted}
+use Rattle.jobfile.specs.Written.{longestRuns}
+use Rattle.reader.specs.declared.Checked.{Checked}
+use Rattle.reader.specs.declared.sections.RequestSection.{RequestSection}
+use Rattle.reader.specs.declared.sections.RunSection.{RunSection}
+
+abbrev pub countsOf : Meaning → Checked
+countsOf m =
+    record {
+      number = m .number;
+      nodes = m .job .nodes;
+      heads = m .job .heads;
+      requests = length (m .job .requests);
+      grants = length (m .job .schedule);
+      runs = length (longestRuns (m .job .schedule));
+    }
+
+unfoldable pub requestSectionOf : ℕ → ℕ → List (List ℕ) → RequestSection
+requestSectionOf nodes heads ts =
+    let number = requestsRefusal nodes heads 0 ts in
+    record { number = number; count = cond (eqb number 0) (length ts) 0 }
+
+unfoldable pub runSectionOf : ℕ → List (List ℕ) → RunSection
+runSectionOf heads ts =
+    let number = runsRefusal heads fullRun ts in
+    record {
+      number = number;
+      count = cond (eqb number 0) (length ts) 0;
+      grants = cond (eqb number 0) (length (granted (map runAt ts))) 0;
+    }

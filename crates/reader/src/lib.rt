@@ -1,0 +1,110 @@
+// The reader of job files: it checks a file, and reads the requests and the runs of an accepted one where they stand.
+mod bytes;
+mod records;
+mod sections;
+
+use crate::bytes::word_at;
+use crate::records::request_here;
+use crate::records::run_here;
+use crate::sections::close_refusal;
+use crate::sections::header_refusal;
+use crate::sections::read_requests;
+use crate::sections::read_runs;
+use job::Request;
+use jobfile::Run;
+ghost use mathlib.Core.Path.{_≡_};
+ghost use Prim.Native.Nat.{_<_, _≤_};
+ghost use lib.ListN.{length, getD};
+ghost use Rattle.job.specs.declared.Request.{Request};
+ghost use Rattle.jobfile.specs.declared.Run.{Run};
+ghost use Rattle.jobfile.specs.Format.{mostBytes};
+ghost use Rattle.jobfile.specs.Meaning.{headerRefusal, refused, meaning};
+ghost use Rattle.jobfile.specs.Written.{longestRuns};
+ghost use Rattle.reader.specs.Reader.{countsOf};
+
+// What a check answers: 0 and the counts of the file's job, or a refusal's number and zero for every count.
+pub struct Checked {
+    pub number: u32,
+    pub nodes: u32,
+    pub heads: u32,
+    pub requests: u32,
+    pub grants: u32,
+    pub runs: u32,
+}
+
+// The answer of a refusal.
+fn refuse(number: u32) -> Checked
+    ensures { λ r. ⌜ r ≡ countsOf (refused number) ⌝ }
+{
+    Checked {
+        number: number,
+        nodes: 0,
+        heads: 0,
+        requests: 0,
+        grants: 0,
+        runs: 0,
+    }
+}
+
+// Checks a file whose length and header are accepted, record by record to its end.
+fn check_records(file: &[u8]) -> Checked
+    requires { ⌜ length (now file) ≤ mostBytes ⌝ }
+    requires { ⌜ headerRefusal (now file) ≡ 0 ⌝ }
+    ensures { λ r. ⌜ r ≡ countsOf (meaning (now (file .entry))) ⌝ }
+{
+    let nodes = word_at(file, 2) as u32;
+    let heads = word_at(file, 4) as u32;
+    let requests = read_requests(file, nodes, heads);
+    if requests.number != 0 {
+        return refuse(requests.number);
+    }
+    let runs = read_runs(file, heads, requests.count);
+    if runs.number != 0 {
+        return refuse(runs.number);
+    }
+    let number = close_refusal(file, requests.count, runs.count);
+    if number != 0 {
+        return refuse(number);
+    }
+    Checked {
+        number: 0,
+        nodes: nodes,
+        heads: heads,
+        requests: requests.count,
+        grants: runs.grants,
+        runs: runs.count,
+    }
+}
+
+// Checks a file: any bytes.
+pub fn check(file: &[u8]) -> Checked
+    ensures { λ r. ⌜ r ≡ countsOf (meaning (now (file .entry))) ⌝ }
+{
+    if 32768 < file.len() {
+        return refuse(1);
+    }
+    let number = header_refusal(file);
+    if number != 0 {
+        return refuse(number);
+    }
+    check_records(file)
+}
+
+// Request q of an accepted file.
+pub fn request_at(file: &[u8], q: u32) -> Request
+    requires { ⌜ meaning (now file) .number ≡ 0 ⌝ }
+    requires { ⌜ q < length (meaning (now file) .job .requests) ⌝ }
+    ensures { λ r. ⌜ ((none : Request) → r ≡ getD (meaning (now (file .entry)) .job .requests) q none) ⌝ }
+{
+    request_here(file, 6 + 8 * (q as usize))
+}
+
+// Run number `index` of an accepted file, which has that many requests.
+pub fn run_at(file: &[u8], requests: u32, index: u32) -> Run
+    requires { ⌜ meaning (now file) .number ≡ 0 ⌝ }
+    requires { ⌜ requests ≡ length (meaning (now file) .job .requests) ⌝ }
+    requires { ⌜ index < length (longestRuns (meaning (now file) .job .schedule)) ⌝ }
+    ensures { λ r. ⌜ ((none : Run) → r ≡ getD (longestRuns (meaning (now (file .entry)) .job .schedule)) index none) ⌝ }
+{
+    run_here(file, 6 + 8 * (requests as usize) + 4 * (index as usize))
+}

@@ -1,0 +1,110 @@
+// One record: the request or the run at a place of the file, and its refusal, 0 for none.
+use crate::bytes::byte_at;
+use crate::bytes::word_at;
+use job::Kind;
+use job::Request;
+use jobfile::Fields;
+use jobfile::Run;
+use jobfile::does_extend;
+use jobfile::fields_refusal;
+ghost use mathlib.Core.Path.{_≡_};
+ghost use Prim.Native.Nat.{_+_, _≤_};
+ghost use lib.ListN.{length, drop};
+ghost use Rattle.job.specs.Job.{kindOf};
+ghost use Rattle.jobfile.specs.Format.{mostBytes};
+ghost use Rattle.jobfile.specs.Meaning.{fieldsAt, requestAt, runAt, requestRefusal, runRefusal};
+
+// The kind of an admitted number.
+fn kind_of(number: u8) -> Kind
+    ensures { λ r. ⌜ r ≡ kindOf number ⌝ }
+{
+    if number == 1 {
+        Kind::Union
+    } else {
+        Kind::SameSet
+    }
+}
+
+// The request at a place.
+pub fn request_here(file: &[u8], at: usize) -> Request
+    requires { ⌜ at + 8 ≤ mostBytes ⌝ }
+    ensures { λ r. ⌜ r ≡ requestAt (drop at (now (file .entry))) ⌝ }
+{
+    let head = byte_at(file, at + 2);
+    let kind = kind_of(byte_at(file, at + 3));
+    let x = word_at(file, at + 4);
+    let y = word_at(file, at + 6);
+    Request {
+        head: head,
+        kind: kind,
+        x: x,
+        y: y,
+    }
+}
+
+// The numbers of the request at a place.
+fn fields_here(file: &[u8], at: usize) -> Fields
+    requires { ⌜ at + 8 ≤ mostBytes ⌝ }
+    ensures { λ r. ⌜ r ≡ fieldsAt (drop at (now (file .entry))) ⌝ }
+{
+    let head = byte_at(file, at + 2);
+    let kind = byte_at(file, at + 3);
+    let x = word_at(file, at + 4);
+    let y = word_at(file, at + 6);
+    Fields {
+        head: head as u32,
+        kind: kind as u32,
+        x: x as u32,
+        y: y as u32,
+    }
+}
+
+// The refusal of request number `number` at a place: the whole record, the count, the fields.
+pub fn request_refusal(file: &[u8], at: usize, nodes: u32, heads: u32, number: u32) -> u32
+    requires { ⌜ at ≤ length (now file) ⌝ }
+    requires { ⌜ length (now file) ≤ mostBytes ⌝ }
+    ensures { λ r. ⌜ r ≡ requestRefusal nodes heads number (drop at (now (file .entry))) ⌝ }
+{
+    if file.len() - at < 8 {
+        return 2;
+    }
+    if 512 <= number {
+        return 9;
+    }
+    fields_refusal(nodes, heads, fields_here(file, at))
+}
+
+// The run at a place.
+pub fn run_here(file: &[u8], at: usize) -> Run
+    requires { ⌜ at ≤ mostBytes ⌝ }
+    ensures { λ r. ⌜ r ≡ runAt (drop at (now (file .entry))) ⌝ }
+{
+    let head = byte_at(file, at + 2);
+    let count = byte_at(file, at + 3);
+    Run {
+        head: head,
+        count: count,
+    }
+}
+
+// The refusal of the run at a place, behind the run before it: the whole record, the head, the count, the run before.
+pub fn run_refusal(file: &[u8], at: usize, heads: u32, before: Run) -> u32
+    requires { ⌜ at ≤ length (now file) ⌝ }
+    requires { ⌜ length (now file) ≤ mostBytes ⌝ }
+    ensures { λ r. ⌜ r ≡ runRefusal heads before (drop at (now (file .entry))) ⌝ }
+{
+    if file.len() - at < 4 {
+        return 2;
+    }
+    let run = run_here(file, at);
+    if heads <= run.head as u32 {
+        return 10;
+    }
+    if run.count == 0 {
+        return 10;
+    }
+    if does_extend(before, run.head) {
+        return 11;
+    }
+    0
+}

@@ -1,0 +1,132 @@
+// The sections of a file in order: the header, the requests, the runs, the close. A number of 0 is no refusal.
+use crate::bytes::sum_words;
+use crate::bytes::word_at;
+use crate::records::request_refusal;
+use crate::records::run_here;
+use crate::records::run_refusal;
+use jobfile::CLOSE_MARK;
+use jobfile::JOB_MARK;
+use jobfile::REQUEST_MARK;
+use jobfile::RUN_MARK;
+use jobfile::Run;
+use jobfile::sizes_refusal;
+ghost use mathlib.Core.Path.{_≡_};
+ghost use Prim.Native.Nat.{_+_, _*_, _≤_};
+ghost use lib.ListN.{length, drop};
+ghost use Rattle.jobfile.specs.Format.{mostBytes, requestMark, runMark, _then_};
+ghost use Rattle.jobfile.specs.Meaning.{records, headerRefusal, requestsRefusal, runsRefusal, fullRun, closeRefusal, balanceRefusal};
+ghost use Rattle.reader.specs.Reader.{requestSectionOf, runSectionOf};
+
+// The requests of a file: how many there are, or their refusal.
+pub struct RequestSection {
+    pub number: u32,
+    pub count: u32,
+}
+
+// The runs of a file: how many there are and what they grant, or their refusal.
+pub struct RunSection {
+    pub number: u32,
+    pub count: u32,
+    pub grants: u32,
+}
+
+// The refusal of the header.
+pub fn header_refusal(file: &[u8]) -> u32
+    ensures { λ r. ⌜ r ≡ headerRefusal (now (file .entry)) ⌝ }
+{
+    if file.len() < 2 {
+        return 2;
+    }
+    if word_at(file, 0) != JOB_MARK {
+        return 3;
+    }
+    if file.len() < 6 {
+        return 2;
+    }
+    sizes_refusal(word_at(file, 2) as u32, word_at(file, 4) as u32)
+}
+
+// Reads the requests behind the header.
+pub fn read_requests(file: &[u8], nodes: u32, heads: u32) -> RequestSection
+    requires { ⌜ 6 ≤ length (now file) ⌝ }
+    requires { ⌜ length (now file) ≤ mostBytes ⌝ }
+    ensures { λ r. ⌜ r ≡ requestSectionOf nodes heads (records 8 requestMark (drop 6 (now (file .entry)))) ⌝ }
+{
+    let mut at: usize = 6;
+    let mut count: u32 = 0;
+    while word_at(file, at) == REQUEST_MARK {
+        let number = request_refusal(file, at, nodes, heads, count);
+        if number != 0 {
+            return RequestSection {
+                number: number,
+                count: 0,
+            };
+        }
+        at += 8;
+        count += 1;
+    }
+    RequestSection {
+        number: 0,
+        count: count,
+    }
+}
+
+// Reads the runs behind that many requests.
+pub fn read_runs(file: &[u8], heads: u32, requests: u32) -> RunSection
+    requires { ⌜ 6 + 8 * requests ≤ length (now file) ⌝ }
+    requires { ⌜ length (now file) ≤ mostBytes ⌝ }
+    ensures { λ r. ⌜ r ≡ runSectionOf heads (records 4 runMark (drop (6 + 8 * requests) (now (file .entry)))) ⌝ }
+{
+    let mut at: usize = 6 + 8 * (requests as usize);
+    let mut before = Run {
+        head: 0,
+        count: 255,
+    };
+    let mut count: u32 = 0;
+    let mut grants: u32 = 0;
+    while word_at(file, at) == RUN_MARK {
+        let number = run_refusal(file, at, heads, before);
+        if number != 0 {
+            return RunSection {
+                number: number,
+                count: 0,
+                grants: 0,
+            };
+        }
+        before = run_here(file, at);
+        at += 4;
+        count += 1;
+        grants += before.count as u32;
+    }
+    RunSection {
+        number: 0,
+        count: count,
+        grants: grants,
+    }
+}
+
+// The refusal of what stands behind the requests and the runs: the close, then the balance of the whole file.
+pub fn close_refusal(file: &[u8], requests: u32, runs: u32) -> u32
+    requires { ⌜ 6 + 8 * requests + 4 * runs ≤ length (now file) ⌝ }
+    requires { ⌜ length (now file) ≤ mostBytes ⌝ }
+    ensures { λ r. ⌜ r ≡ (closeRefusal (drop (6 + 8 * requests + 4 * runs) (now (file .entry))) then balanceRefusal (now (file .entry))) ⌝ }
+{
+    let at = 6 + 8 * (requests as usize) + 4 * (runs as usize);
+    let left = file.len() - at;
+    if left < 2 {
+        return 2;
+    }
+    if word_at(file, at) != CLOSE_MARK {
+        return 3;
+    }
+    if left < 4 {
+        return 2;
+    }
+    if 4 < left {
+        return 12;
+    }
+    if sum_words(file) != 0 {
+        return 13;
+    }
+    0
+}
