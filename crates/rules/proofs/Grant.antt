@@ -106,7 +106,7 @@ module _ {qs : List Request} {n : ℕ} {B : Labels} {roots₀ : ℕ} {S : State}
             begun = λ e. absurd (true≢false (sym e)); unfinished = w .unfinished;
             listed = w .unlisted ∙ sym (rw (eq-eqb (linkOf (headAt S h .request) past) 0 (w .unlinked))) }
 
-      serving-ready : Serving qs n B S past h (ready qs (headAt S h))
+      pub serving-ready : Serving qs n B S past h (ready qs (headAt S h))
       serving-ready =
           split (isResting (headAt S h))
           (λ t. subst (Serving qs n B S past h) (sym (chosen t)) (serving-begun t))

@@ -3,3 +3,5 @@ pub mod Lists
 pub mod Shown
 pub mod Access
 pub mod Room
+pub mod Seek
+pub mod Served

@@ -3,17 +3,22 @@
 --   Buffers           heads, table, report, linearization, the number of entries and the work mask
 --   shown qs S lent   what the buffers hold in state S; numbers past the entries are as lent
 --   Done, doneOf a    what a grant adds to the tally
+--   requestsIn file   the requests of a file
+--   Playing           an accepted file, with the number of its requests
 --   Standing          the buffers show a state that a run has reached
+--   Ready             they do, for the next grant to head h
 use mathlib.Core.Path.{_≡_}
 use mathlib.Core.Bool.{Bool, true, false}
 use mathlib.Core.List.{List, _++_, map}
-use Prim.Native.Nat.{ℕ, suc, _*_, _≤_}
+use Prim.Native.Nat.{ℕ, suc, _*_, _≤_, _<_}
 use lib.ListN.{length, drop}
 use Rattle.job.specs.declared.Request.{Request}
 use Rattle.word.specs.Word.{encode}
 use Rattle.process.specs.declared.Head.{Head}
 use Rattle.linearization.specs.Partition.{apart}
 use Rattle.linearization.specs.Entry.{flat}
+use Rattle.jobfile.specs.Meaning.{meaning}
+use Rattle.jobfile.specs.Admitted.{Bytes}
 use Rattle.mask.specs.Mask.{maskOf}
 use Rattle.rules.specs.State.{State, hasWork}
 use Rattle.rules.specs.Run.{Happening}
@@ -53,3 +58,21 @@ pub record Standing (qs : List Request) (n count : ℕ) (b : Buffers) (number : 
   pub next : number ≡ suc (S .now)
   -- there is room for an entry a request
   pub room : 2 * length qs ≤ length lent
+
+-- "Played record by record and stored nowhere else": the requests are read from the file itself.
+abbrev pub requestsIn : List ℕ → List Request
+requestsIn file = meaning file .job .requests
+
+pub record Playing (file : List ℕ) (requests : ℕ) : Type 0 where
+  pub accepted : meaning file .number ≡ 0
+  pub bytes : Bytes file
+  pub count : requests ≡ length (requestsIn file)
+
+pub record Ready (file : List ℕ) (requests h number : ℕ) (b : Buffers) : Type 0 where
+  pub playing : Playing file requests
+  pub nodes : length (b .table) ≡ meaning file .job .nodes
+  pub head : h < 16
+  pub state : State
+  pub past : List Happening
+  pub lent : List ℕ
+  pub standing : Standing (requestsIn file) (length (b .table)) 16 b number state past lent

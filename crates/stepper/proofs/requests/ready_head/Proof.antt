@@ -1,0 +1,37 @@
+-- `stepper::requests::ready_head`: a resting head begins its next request.
+use mathlib.Core.Path.{sym, _∙_}
+use Rattle.rules.specs.State.{noRequest}
+use borrow.Author.Needs.{needs}
+use Rattle.stepper.proofs.requests.ready_head.Statement.{statement}
+use Rattle.stepper.proofs.requests.ready_head.Tie as tie
+
+is-resting-requires : tie.Need-is-resting-requires
+is-resting-requires c κs = search needs
+
+cast-request-at : tie.Need-cast-request-at
+cast-request-at c = search needs
+
+request-at-requires : tie.Need-request-at-requires
+request-at-requires c κs = search needs
+
+begun-requires : tie.Need-begun-requires
+begun-requires c κs = search needs
+
+returns : tie.Need-returns
+returns c =
+    let t = sym (c .before .before .before .before .is-resting .ensures) ∙ c .before .before .before .if1 .taken in
+    c .begun .ensures ∙ simp (t, c .before .request-at .ensures noRequest)
+
+returns-2 : tie.Need-returns-2
+returns-2 c = search needs
+
+pub ready-head-spec : {M : Type 1} → statement M
+ready-head-spec =
+    tie.close
+    (tie.spec
+    is-resting-requires
+    cast-request-at
+    request-at-requires
+    begun-requires
+    returns
+    returns-2)
