@@ -12,3 +12,5 @@ pub mod Serving
 pub mod Effects
 pub mod Grant
 pub mod Theorem
+pub mod Layer
+pub mod Laws

@@ -7,3 +7,4 @@ pub mod Run
 pub mod History
 pub mod Cases
 pub mod Linearized
+pub mod Laws
