@@ -32,12 +32,12 @@ use Rattle.rules.specs.Run.Happening.{idle, serving}
 use Rattle.rules.specs.History.{countWhere, isIdle, hasFailed, hasLink, isOf, rowOf}
 use Rattle.rules.proofs.History.{Other, other-served, first-new, row-other, served-settled, row-last-bound}
 use Rattle.rules.proofs.Stages.{Inside}
-use Rattle.rules.proofs.Invariant.{labels, Phase, Invariant}
-use Rattle.rules.proofs.Invariant.Phase.{over, current, waiting}
+use Rattle.rules.proofs.Invariant.{labels, Invariant}
 use Rattle.rules.proofs.Serving.{Serving, serving-of, more, Effect}
 use Rattle.rules.proofs.Effects.{outcome-effect}
 use Rattle.rules.proofs.Grant.{serving-ready, served-outcome, step-invariant}
 use Rattle.rules.proofs.Theorem.{step-heads}
+use Rattle.rules.proofs.Positions.{phase-begun}
 
 pub record Layer (qs : List Request) (n : ℕ) (B : Labels) (roots₀ : ℕ) (P : State → List Happening → Type 0) : Type 0 where
   pub idles : {S : State} {past : List Happening} → Invariant qs n B roots₀ S past → P S past → P (passed S) (idle ∷ past)
@@ -46,18 +46,18 @@ pub record Layer (qs : List Request) (n : ℕ) (B : Labels) (roots₀ : ℕ) (P 
       → P S past → P (served qs S h head) (more S head past)
 
 module _ {qs : List Request} {n : ℕ} {B : Labels} {roots₀ : ℕ} (inside : (q : ℕ) → q < length qs → Inside n (requestAt qs q))
-         {P : State → List Happening → Type 0} (layer : Layer qs n B roots₀ P) where
-  step-layer : {S : State} {past : List Happening} → Invariant qs n B roots₀ S past → (h : ℕ) → h < length (S .heads)
-      → P S past → P (step qs S h) (happened qs S h ∷ past)
-  unfolding step happened
-  step-layer {S} {past} inv h present holds =
-      split (hasWork qs (headAt S h))
-      (λ t.
-        let srv = serving-ready inside inv h present (ltb-true (headAt S h .request) (length qs) t) in
-        let effect = outcome-effect qs n B roots₀ S past h (ready qs (headAt S h)) inv srv
-          (served-outcome inside inv h present (ready qs (headAt S h)) srv) in
-        rw t (layer .serves inv srv effect holds))
-      (λ t. rw t (layer .idles inv holds))
+    {P : State → List Happening → Type 0} (layer : Layer qs n B roots₀ P) where
+  module _ {S : State} {past : List Happening} (inv : Invariant qs n B roots₀ S past) (h : ℕ) (present : h < length (S .heads)) where
+    serving-layer : {head : Head} → Serving qs n B S past h head → P S past → P (served qs S h head) (more S head past)
+    serving-layer {head} srv =
+        layer .serves inv srv (outcome-effect qs n B roots₀ S past h head inv srv (served-outcome inside inv h present head srv))
+
+    step-layer : P S past → P (step qs S h) (happened qs S h ∷ past)
+    unfolding step happened
+    step-layer holds =
+        split (hasWork qs (headAt S h))
+        (λ t. rw t (serving-layer (serving-ready inside inv h present (ltb-true (headAt S h .request) (length qs) t)) holds))
+        (λ t. rw t (layer .idles inv holds))
 
   pub run-layer : (S : State) (past : List Happening) (gs : List ℕ) → ((h : ℕ) → List·Memᴰ h gs → h < length (S .heads))
       → Invariant qs n B roots₀ S past → P S past → P (run qs S gs) (history qs S past gs)
@@ -65,9 +65,9 @@ module _ {qs : List Request} {n : ℕ} {B : Labels} {roots₀ : ℕ} (inside : (
   run-layer S past (h ∷ gs) granted inv holds =
       let present = granted h (List·Memᴰ·head refl) in
       run-layer (step qs S h) (happened qs S h ∷ past) gs
-        (λ k m. rw (step-heads qs S h) (granted k (List·Memᴰ·tail m)))
-        (step-invariant inside inv h present)
-        (step-layer inv h present holds)
+      (λ k m. rw (step-heads qs S h) (granted k (List·Memᴰ·tail m)))
+      (step-invariant inside inv h present)
+      (step-layer inv h present holds)
 
 -- ---- the counters
 
@@ -84,13 +84,6 @@ Before r s = s .first ≢ 0 → r .last < s .first
 abbrev pub InTurn : List Request → List Happening → Type 0
 InTurn qs past =
     (p q : ℕ) → p < q → q < length qs → requestAt qs p .head ≡ requestAt qs q .head → Before (rowOf p past) (rowOf q past)
-
--- a request that has begun is not beyond its head's position
-pub phase-begun : {head : Head} {q : ℕ} {past : List Happening} {times : ℕ} → Phase head q past times
-    → rowOf q past .first ≢ 0 → q ≤ head .request
-phase-begun (over l o) begun = omega arith
-phase-begun (current e b c) begun = omega arith
-phase-begun (waiting l r w) begun = absurd (begun (w .fresh))
 
 -- a grant for neither leaves both rows
 before-other : (p q : ℕ) (a : Happening) (past : List Happening) → Other p a → Other q a
@@ -121,16 +114,16 @@ module _ {qs : List Request} {n : ℕ} {B : Labels} {roots₀ : ℕ} where
       record {
         idles = λ inv c. record { idle = ap suc (c .idle); failed = c .failed; links = c .links };
         serves = λ {S} {past} {h} {head} inv srv effect c.
-          record {
-            idle = c .idle;
-            failed = ap (plus (advanced S head .event .failed)) (c .failed);
-            links = ap (plus (advanced S head .event .linked)) (c .links);
-          };
+            record {
+              idle = c .idle;
+              failed = ap (plus (advanced S head .event .failed)) (c .failed);
+              links = ap (plus (advanced S head .event .linked)) (c .links);
+            };
       }
 
   module _ {S : State} {past : List Happening} {h : ℕ} {head : Head} (inv : Invariant qs n B roots₀ S past) (srv : Serving qs n B S past h head)
-           (p q : ℕ) (earlier : p < q) (within : q < length qs) (one : requestAt qs p .head ≡ requestAt qs q .head)
-           (holds : Before (rowOf p past) (rowOf q past)) where
+      (p q : ℕ) (earlier : p < q) (within : q < length qs) (one : requestAt qs p .head ≡ requestAt qs q .head)
+      (holds : Before (rowOf p past) (rowOf q past)) where
     apart : (r : ℕ) → r ≢ head .request → Other r (serving-of S head)
     apart r d = other-served r (head .request) (advanced S head .event) (λ e. d (sym e))
 
@@ -146,7 +139,7 @@ module _ {qs : List Request} {n : ℕ} {B : Labels} {roots₀ : ℕ} where
         λ begun. absurd (not-begun is (λ z. begun (ap (λ r. r .first) row ∙ z)))
     before-step (no d) (yes is) =
         subst (λ k. Before (rowOf p past) (rowOf k past) → Before (rowOf p (more S head past)) (rowOf k (more S head past))) (sym is)
-          (before-served p (head .request) (advanced S head .event) past (apart p d)) holds
+        (before-served p (head .request) (advanced S head .event) past (apart p d)) holds
     before-step (no d) (no c) = before-other p q (serving-of S head) past (apart p d) (apart q c) holds
 
   pub in-turn-layer : Layer qs n B roots₀ (λ S past. InTurn qs past)
@@ -154,7 +147,7 @@ module _ {qs : List Request} {n : ℕ} {B : Labels} {roots₀ : ℕ} where
       record {
         idles = λ {S} {past} inv turn p q l w one. before-other p q idle past refl refl (turn p q l w one);
         serves = λ {S} {past} {h} {head} inv srv effect turn p q l w one.
-          before-step inv srv p q l w one (turn p q l w one) (ℕ-discrete p (head .request)) (ℕ-discrete q (head .request));
+            before-step inv srv p q l w one (turn p q l w one) (ℕ-discrete p (head .request)) (ℕ-discrete q (head .request));
       }
 
   -- ---- what every grant leaves alone

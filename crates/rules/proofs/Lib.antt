@@ -12,5 +12,6 @@ pub mod Serving
 pub mod Effects
 pub mod Grant
 pub mod Theorem
+pub mod Positions
 pub mod Layer
 pub mod Laws

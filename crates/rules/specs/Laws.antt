@@ -1,10 +1,10 @@
 -- What holds at every moment of every run, and what holds between two moments of it: the statements.
 --
---   some test n                some number below n passes the test
---   isLeft qs report h q       request q is of head h and unfinished
---   unfinished qs report m     how many heads below m have an unfinished request
---   Lawful nodes qs S past     what holds of the state S after the history past
---   Follows nodes t t′         what holds of the table t′ at a later moment than the table t
+--   some test n                  some number below n passes the test
+--   isUnfinished qs report h q   request q is of head h and unfinished
+--   headsLeft qs report m        how many heads below m have an unfinished request
+--   Lawful nodes qs S past       what holds of the state S after the history past
+--   Follows nodes t t′           what holds of the table t′ at a later moment than that of the table t
 use mathlib.Core.Path.{_≡_}
 use mathlib.Core.Logic.{_≢_}
 use mathlib.Core.Bool.{Bool, true, false, cond}
@@ -28,12 +28,12 @@ abbrev pub some : (ℕ → Bool) → ℕ → Bool
 some test zero = false
 some test (suc n) = cond (test n) true (some test n)
 
-abbrev pub isLeft : List Request → List Row → ℕ → ℕ → Bool
-isLeft qs report h q = cond (eqb (requestAt qs q .head) h) (eqb (rowAt report q .answer) 0) false
+abbrev pub isUnfinished : List Request → List Row → ℕ → ℕ → Bool
+isUnfinished qs report h q = cond (eqb (requestAt qs q .head) h) (eqb (rowAt report q .answer) 0) false
 
 -- The heads with work left, told by the requests and the report alone.
-abbrev pub unfinished : List Request → List Row → ℕ → ℕ
-unfinished qs report m = count (λ h. some (isLeft qs report h) (length qs)) m
+abbrev pub headsLeft : List Request → List Row → ℕ → ℕ
+headsLeft qs report m = count (λ h. some (isUnfinished qs report h) (length qs)) m
 
 pub record Lawful (nodes : ℕ) (qs : List Request) (S : State) (past : List Happening) : Type 0 where
   -- "Every parent that isn't the place itself comes after it."
@@ -55,7 +55,7 @@ pub record Lawful (nodes : ℕ) (qs : List Request) (S : State) (past : List Hap
   pub failed : S .failed ≡ countWhere hasFailed past
   pub links : S .links ≡ countWhere hasLink past
   -- "and the heads with work left now".
-  pub work : working qs (S .heads) ≡ unfinished qs (S .report) (length (S .heads))
+  pub work : working qs (S .heads) ≡ headsLeft qs (S .report) (length (S .heads))
   -- A head serves its requests in file order: of two, the later has begun only if the earlier is finished,
   pub finished : (p q : ℕ) → p < q → q < length qs → requestAt qs p .head ≡ requestAt qs q .head
       → rowAt (S .report) q .first ≢ 0 → rowAt (S .report) p .answer ≢ 0
