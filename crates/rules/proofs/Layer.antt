@@ -9,12 +9,10 @@
 -- later-layer, the three layers.
 use mathlib.Core.Path.{_≡_, refl, sym, ap, _∙_, subst, subst₂}
 use mathlib.Core.Logic.{_≢_}
-use mathlib.Core.Bool.{cond}
 use mathlib.Core.List.{List, [], _∷_, List·Memᴰ, List·Memᴰ·head, List·Memᴰ·tail}
-use Prim.Native.Nat.{ℕ, suc, _≤_, _<_}
+use Prim.Native.Nat.{ℕ, suc, _<_}
 use native.Mathlib.Omega.{arith}
 use native.Mathlib.Decide.{ℕ-discrete}
-use lib.Dec.{eqb}
 use lib.ListN.{length}
 use borrow.Author.Tests.{eq-eqb, ltb-true}
 use Rattle.job.specs.declared.Request.{Request}
@@ -26,7 +24,7 @@ use Rattle.linearization.proofs.Tests.{split}
 use Rattle.rules.specs.declared.Row.{Row}
 use Rattle.rules.specs.Table.{parent, rank}
 use Rattle.rules.specs.State.{State, requestAt, hasWork}
-use Rattle.rules.specs.Step.{ready, headAt, advanced, plus, served, passed, step}
+use Rattle.rules.specs.Step.{headAt, advanced, plus, served, passed, step}
 use Rattle.rules.specs.Run.{Happening, run, happened, history}
 use Rattle.rules.specs.Run.Happening.{idle, serving}
 use Rattle.rules.specs.History.{countWhere, isIdle, hasFailed, hasLink, isOf, rowOf}
@@ -76,6 +74,18 @@ pub record Counted (S : State) (past : List Happening) : Type 0 where
   pub failed : S .failed ≡ countWhere hasFailed past
   pub links : S .links ≡ countWhere hasLink past
 
+pub counted-layer : {qs : List Request} {n : ℕ} {B : Labels} {roots₀ : ℕ} → Layer qs n B roots₀ Counted
+counted-layer =
+    record {
+      idles = λ inv c. record { idle = ap suc (c .idle); failed = c .failed; links = c .links };
+      serves = λ {S} {past} {h} {head} inv srv effect c.
+          record {
+            idle = c .idle;
+            failed = ap (plus (advanced S head .event .failed)) (c .failed);
+            links = ap (plus (advanced S head .event .linked)) (c .links);
+          };
+    }
+
 -- ---- requests of one head
 
 abbrev pub Before : Row → Row → Type 0
@@ -109,18 +119,6 @@ before-served p q e past apart before begun = go (ℕ-discrete (rowOf q past .fi
     go (no d) = omega (arith, last, served-settled q e past d, before d)
 
 module _ {qs : List Request} {n : ℕ} {B : Labels} {roots₀ : ℕ} where
-  pub counted-layer : Layer qs n B roots₀ Counted
-  counted-layer =
-      record {
-        idles = λ inv c. record { idle = ap suc (c .idle); failed = c .failed; links = c .links };
-        serves = λ {S} {past} {h} {head} inv srv effect c.
-            record {
-              idle = c .idle;
-              failed = ap (plus (advanced S head .event .failed)) (c .failed);
-              links = ap (plus (advanced S head .event .linked)) (c .links);
-            };
-      }
-
   module _ {S : State} {past : List Happening} {h : ℕ} {head : Head} (inv : Invariant qs n B roots₀ S past) (srv : Serving qs n B S past h head)
       (p q : ℕ) (earlier : p < q) (within : q < length qs) (one : requestAt qs p .head ≡ requestAt qs q .head)
       (holds : Before (rowOf p past) (rowOf q past)) where

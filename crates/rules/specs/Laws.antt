@@ -43,7 +43,7 @@ pub record Lawful (nodes : ℕ) (qs : List Request) (S : State) (past : List Hap
   pub ranks : (i : ℕ) → i < nodes → 2 ^ rank (S .table) i ≤ nodes
   -- "Roots plus successful links equal the place count."
   pub roots : rootCount (parent (S .table)) nodes + S .links ≡ nodes
-  -- "Each request gets four numbers": those that the history gives it.
+  -- "Each request gets four 32-bit numbers": those that the history gives it.
   pub reports : length (S .report) ≡ length qs
   pub rows : (q : ℕ) → q < length qs → rowAt (S .report) q ≡ rowOf q past
   -- "All four are 0 before its first grant."
