@@ -1,4 +1,4 @@
--- The starred cases, and the laws behind the linearization theorem.
+-- The starred cases, the laws behind the linearization theorem, and the laws of every moment.
 pub mod Cases
 pub mod History
 pub mod Table
