@@ -106,7 +106,7 @@ module _ {qs : List Request} {n : ℕ} {B : Labels} {roots₀ : ℕ} {S : State}
             begun = λ e. absurd (true≢false (sym e)); unfinished = w .unfinished;
             listed = w .unlisted ∙ sym (rw (eq-eqb (linkOf (headAt S h .request) past) 0 (w .unlinked))) }
 
-      serving-ready : Serving qs n B S past h (ready qs (headAt S h))
+      pub serving-ready : Serving qs n B S past h (ready qs (headAt S h))
       serving-ready =
           split (isResting (headAt S h))
           (λ t. subst (Serving qs n B S past h) (sym (chosen t)) (serving-begun t))
@@ -128,7 +128,7 @@ module _ {qs : List Request} {n : ℕ} {B : Labels} {roots₀ : ℕ} {S : State}
         subst (λ C. C (requestAt qs q .x) ≢ C (requestAt qs q .y))
         (sym (labelsTo-all _ (suc (S .now)) B (S .entries) (λ e m. omega (arith, replayed-fact (inv .entries) e m .until, inv .clock))))
 
-    served-outcome : (head : Head) → Serving qs n B S past h head
+    pub served-outcome : (head : Head) → Serving qs n B S past h head
         → Outcome n (S .now) (S .table) (touched (S .table) (accessOf head)) (labels qs B S)
           (join (labels qs B S) (requestAt qs (head .request) .x) (requestAt qs (head .request) .y))
           (ApartAt qs B (S .entries) (head .request)) (requestAt qs (head .request)) (head .stage) (advanced S head)
