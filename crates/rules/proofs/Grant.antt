@@ -128,7 +128,7 @@ module _ {qs : List Request} {n : ℕ} {B : Labels} {roots₀ : ℕ} {S : State}
         subst (λ C. C (requestAt qs q .x) ≢ C (requestAt qs q .y))
         (sym (labelsTo-all _ (suc (S .now)) B (S .entries) (λ e m. omega (arith, replayed-fact (inv .entries) e m .until, inv .clock))))
 
-    served-outcome : (head : Head) → Serving qs n B S past h head
+    pub served-outcome : (head : Head) → Serving qs n B S past h head
         → Outcome n (S .now) (S .table) (touched (S .table) (accessOf head)) (labels qs B S)
           (join (labels qs B S) (requestAt qs (head .request) .x) (requestAt qs (head .request) .y))
           (ApartAt qs B (S .entries) (head .request)) (requestAt qs (head .request)) (head .stage) (advanced S head)

@@ -1,4 +1,4 @@
--- The starred cases, and the laws behind the linearization theorem.
+-- The starred cases, the laws behind the linearization theorem, and the laws of every moment.
 pub mod Cases
 pub mod History
 pub mod Table
@@ -12,3 +12,6 @@ pub mod Serving
 pub mod Effects
 pub mod Grant
 pub mod Theorem
+pub mod Positions
+pub mod Layer
+pub mod Laws

@@ -46,7 +46,7 @@ pub record Startable (n : ℕ) (t : List Node) (B : Labels) : Type 0 where
 
 -- ---- the start
 
-length-heads : (qs : List Request) (h m : ℕ) → length (headsFrom qs h m) ≡ m
+pub length-heads : (qs : List Request) (h m : ℕ) → length (headsFrom qs h m) ≡ m
 length-heads qs h zero = refl
 length-heads qs h (suc m) = ap suc (length-heads qs (suc h) m)
 
@@ -85,7 +85,7 @@ start-waiting : (q : ℕ) → Waiting q [] 0
 unfolding rowOf linkOf
 start-waiting q = record { unfinished = refl; fresh = refl; unlinked = refl; unlisted = refl }
 
-start-row : (q : ℕ) → noRow ≡ rowOf q []
+pub start-row : (q : ℕ) → noRow ≡ rowOf q []
 unfolding rowOf
 start-row q = refl
 
@@ -113,7 +113,7 @@ start-invariant {n} {t} {B} qs m begin =
 
 -- ---- the run
 
-step-heads : (qs : List Request) (S : State) (h : ℕ) → length (step qs S h .heads) ≡ length (S .heads)
+pub step-heads : (qs : List Request) (S : State) (h : ℕ) → length (step qs S h .heads) ≡ length (S .heads)
 unfolding step
 step-heads qs S h =
     split (hasWork qs (headAt S h))
@@ -183,7 +183,7 @@ module _ {qs : List Request} {n : ℕ} {B : Labels} {roots₀ : ℕ} {S : State}
 -- ---- the theorem
 
 module _ {n m : ℕ} {qs : List Request} {gs : List ℕ} (playable : Playable n m qs gs) where
-  playable-inside : (q : ℕ) → q < length qs → Inside n (requestAt qs q)
+  pub playable-inside : (q : ℕ) → q < length qs → Inside n (requestAt qs q)
   playable-inside q l = record { x = playable .left q l; y = playable .right q l }
 
   pub started-invariant : {t : List Node} {B : Labels} → Startable n t B

@@ -1,4 +1,4 @@
--- The rules of document 01: the table, the report, the state, one step, the run and its history.
+-- The rules of document 01: the table, the report, the state, one step, the run and its history; what is promised of it.
 pub mod Table
 pub mod Report
 pub mod State
@@ -7,3 +7,4 @@ pub mod Run
 pub mod History
 pub mod Cases
 pub mod Linearized
+pub mod Laws

@@ -1,0 +1,160 @@
+-- The laws of specs/Laws.antt hold of every run of every accepted job.
+--
+-- Main laws: run-lawful, at every moment; run-follows, between any two.
+use mathlib.Core.Path.{_≡_, refl, sym, ap, _∙_, subst}
+use mathlib.Core.Logic.{_≢_}
+use mathlib.Core.Bool.{true}
+use mathlib.Core.List.{List, [], _∷_, _++_, List·Memᴰ, Memᴰ·append-left, Memᴰ·append-right}
+use Prim.Native.Nat.{ℕ, suc, _<_}
+use native.Mathlib.Omega.{arith}
+use lib.ListN.{length}
+use borrow.Author.Tests.{lt-ltb}
+use Rattle.job.specs.declared.Request.{Request}
+use Rattle.word.specs.declared.Node.{Node}
+use Rattle.word.specs.Word.{before, key}
+use Rattle.word.proofs.Laws.{before-key}
+use Rattle.forest.proofs.Forest.{WellFormed, together-label, label-together}
+use Rattle.forest.proofs.Sound.{rank-bound}
+use Rattle.forest.proofs.Roots.{start-roots}
+use Rattle.forest.proofs.Later.{Later, later-refl}
+use Rattle.linearization.specs.Partition.{Labels, apart}
+use Rattle.linearization.proofs.Tests.{split}
+use Rattle.rules.specs.Table.{parent, rank, fresh}
+use Rattle.rules.specs.Report.{noRow}
+use Rattle.rules.specs.State.{State, requestAt, start}
+use Rattle.rules.specs.Step.{step}
+use Rattle.rules.specs.Run.{Happening, run, history}
+use Rattle.rules.specs.History.{countWhere, isOf, rowOf}
+use Rattle.rules.specs.Linearized.{rowAt, Playable}
+use Rattle.rules.specs.Laws.{Lawful, Follows}
+use Rattle.rules.proofs.History.{row-other}
+use Rattle.rules.proofs.Table.{fresh-start}
+use Rattle.rules.proofs.Invariant.{labels, Invariant}
+use Rattle.rules.proofs.Theorem.{length-heads, start-row, start-invariant, step-heads, run-invariant, run-prefix, playable-inside, started-invariant, fresh-startable}
+use Rattle.rules.proofs.Positions.{phase-begun, phase-passed, phase-of, answer-is, work-left}
+use Rattle.rules.proofs.Layer.{run-layer, Counted, counted-layer, InTurn, in-turn-layer, later-layer}
+
+-- ---- at one moment
+
+-- the order of nodes is the order of their keys
+formed-before : {n : ℕ} {p r : ℕ → ℕ} → WellFormed n p r → (i : ℕ) → i < n → p i ≢ i → before (r i) i (r (p i)) (p i) ≡ true
+formed-before {n} {p} {r} formed i l lower =
+    before-key (r i) i (r (p i)) (p i) (omega (arith, formed .limit)) (omega (arith, formed .limit, formed .inside i l))
+    ∙ lt-ltb (key (r i) i) (key (r (p i)) (p i)) (formed .rising i l lower)
+
+-- the row of a request that no grant was used for
+unused-row : (q : ℕ) (past : List Happening) → countWhere (isOf q) past ≡ 0 → rowOf q past ≡ noRow
+unused-row q [] none = sym (start-row q)
+unused-row q (a ∷ past) none =
+    split (isOf q a)
+    (λ t. let more : suc (countWhere (isOf q) past) ≡ 0 = rw t at none in absurd (omega arith))
+    (λ f. row-other q a past f ∙ unused-row q past (rw f at none))
+
+module _ {qs : List Request} {n : ℕ} {B : Labels} {roots₀ : ℕ} {S : State} {past : List Happening} (inv : Invariant qs n B roots₀ S past) where
+  module _ (p q : ℕ) (earlier : p < q) (within : q < length qs) (one : requestAt qs p .head ≡ requestAt qs q .head)
+      (begun : rowAt (S .report) q .first ≢ 0) where
+    first-is : rowAt (S .report) q .first ≡ rowOf q past .first
+    first-is = ap (λ r. r .first) (inv .rows q within)
+
+    last-is : rowAt (S .report) p .last ≡ rowOf p past .last
+    last-is = ap (λ r. r .last) (inv .rows p (omega arith))
+
+    -- the head has come to the later one, so it has passed the earlier one
+    finished-before : rowAt (S .report) p .answer ≢ 0
+    finished-before z =
+        phase-passed (phase-of inv (requestAt qs q .head) p (omega arith) one)
+        (omega (arith, phase-begun (inv .phases q within) (λ e. begun (first-is ∙ e))))
+        (sym (answer-is inv p (omega arith)) ∙ z)
+
+    ended-before : InTurn qs past → rowAt (S .report) p .last < rowAt (S .report) q .first
+    ended-before turn = omega (arith, turn p q earlier within one (λ e. begun (first-is ∙ e)), first-is, last-is)
+
+  invariant-lawful : roots₀ ≡ n → Counted S past → InTurn qs past → Lawful n qs S past
+  invariant-lawful all counted turn =
+      record {
+        parents = formed-before (inv .sound .formed);
+        ranks = rank-bound (inv .sound);
+        roots = inv .roots ∙ all;
+        reports = inv .reports;
+        rows = inv .rows;
+        fresh = λ q l none. inv .rows q l ∙ unused-row q past none;
+        clock = inv .clock;
+        idle = counted .idle;
+        failed = counted .failed;
+        links = counted .links;
+        work = work-left inv;
+        finished = finished-before;
+        ordered = λ p q l w one begun. ended-before p q l w one begun turn;
+      }
+
+  -- ---- between two moments
+
+  later-follows : {S′ : State} {past′ : List Happening} → Invariant qs n B roots₀ S′ past′
+      → Later n (parent (S .table)) (rank (S .table)) (labels qs B S) (parent (S′ .table)) (rank (S′ .table)) (labels qs B S′)
+      → Follows n (S .table) (S′ .table)
+  later-follows inv′ later =
+      record {
+        lower = λ i l lower root. lower (later .root i l root);
+        frozen = later .frozen;
+        rising = later .grows;
+        merging = λ i j li lj one.
+            let labels-one = together-label (inv .sound .formed) (inv .sound .labelled) i j li lj one in
+            label-together (inv′ .sound .formed) (inv′ .sound .labelled) i j li lj (later .merges i j li lj labels-one);
+      }
+
+-- ---- every run
+
+start-in-turn : (qs : List Request) → InTurn qs []
+unfolding rowOf
+start-in-turn qs p q earlier within one begun = absurd (begun refl)
+
+start-counted : (qs : List Request) (m : ℕ) (t : List Node) → Counted (start qs m t) []
+start-counted qs m t = record { idle = refl; failed = refl; links = refl }
+
+run-heads : (qs : List Request) (S : State) (gs : List ℕ) → length (run qs S gs .heads) ≡ length (S .heads)
+run-heads qs S [] = refl
+run-heads qs S (h ∷ gs) = run-heads qs (step qs S h) gs ∙ step-heads qs S h
+
+-- a cut of an accepted job is an accepted job
+pub playable-cut : {n m : ℕ} {qs : List Request} (gs hs : List ℕ) → Playable n m qs (gs ++ hs) → Playable n m qs gs
+playable-cut gs hs playable =
+    record {
+      few = playable .few;
+      left = playable .left;
+      right = playable .right;
+      granted = λ h k. playable .granted h (Memᴰ·append-left hs k);
+    }
+
+module _ {n m : ℕ} {qs : List Request} where
+  granted-start : {gs : List ℕ} → Playable n m qs gs → (h : ℕ) → List·Memᴰ h gs → h < length (start qs m (fresh n) .heads)
+  granted-start playable h k = omega (arith, playable .granted h k, length-heads qs 0 m)
+
+  granted-later : (gs hs : List ℕ) → Playable n m qs (gs ++ hs) → (h : ℕ) → List·Memᴰ h hs
+      → h < length (run qs (start qs m (fresh n)) gs .heads)
+  granted-later gs hs playable h k =
+      omega (arith, granted-start playable h (Memᴰ·append-right gs k), run-heads qs (start qs m (fresh n)) gs)
+
+  pub run-lawful : {gs : List ℕ} → Playable n m qs gs
+      → Lawful n qs (run qs (start qs m (fresh n)) gs) (history qs (start qs m (fresh n)) [] gs)
+  run-lawful {gs} playable =
+      let S = start qs m (fresh n) in
+      let begin = fresh-startable n (playable .few) in
+      let inside = playable-inside playable in
+      let granted = granted-start playable in
+      let inv = start-invariant qs m begin in
+      let counted = run-layer inside counted-layer S [] gs granted inv (start-counted qs m (fresh n)) in
+      let turn = run-layer inside in-turn-layer S [] gs granted inv (start-in-turn qs) in
+      invariant-lawful (started-invariant playable begin) (start-roots (fresh-start n (playable .few))) counted turn
+
+  pub run-follows : (gs hs : List ℕ) → Playable n m qs (gs ++ hs)
+      → Follows n (run qs (start qs m (fresh n)) gs .table) (run qs (start qs m (fresh n)) (gs ++ hs) .table)
+  run-follows gs hs playable =
+      let S = run qs (start qs m (fresh n)) gs in
+      let past = history qs (start qs m (fresh n)) [] gs in
+      let inside = playable-inside playable in
+      let granted = granted-later gs hs playable in
+      let inv = started-invariant (playable-cut gs hs playable) (fresh-startable n (playable .few)) in
+      let same = later-refl n (parent (S .table)) (rank (S .table)) (labels qs apart S) in
+      let later = run-layer inside (later-layer (parent (S .table)) (rank (S .table)) (labels qs apart S)) S past hs granted inv same in
+      subst (λ S′. Follows n (S .table) (S′ .table)) (sym (run-prefix qs (start qs m (fresh n)) gs hs))
+      (later-follows inv (run-invariant inside S past hs granted inv) later)

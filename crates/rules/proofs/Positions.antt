@@ -1,0 +1,124 @@
+-- What a head's position says of its requests, and so of the heads with work left.
+--
+-- Main laws: phase-begun, phase-passed and phase-left, a request by its head's position; work-left, the heads with work
+-- left are those with an unfinished request.
+use mathlib.Core.Path.{_≡_, refl, sym, ap, _∙_, subst}
+use mathlib.Core.Logic.{_≢_}
+use mathlib.Core.Bool.{Bool, true, false, true≢false}
+use mathlib.Core.List.{List, [], _∷_}
+use Prim.Native.Nat.{ℕ, zero, suc, _≤_, _<_}
+use native.Mathlib.Omega.{arith}
+use lib.Dec.{eqb}
+use lib.ListN.{length, getD}
+use borrow.Author.Tests.{eqb-true, eq-eqb, ne-eqb, ltb-true, ltb-false}
+use Rattle.job.specs.declared.Request.{Request}
+use Rattle.process.specs.declared.Head.{Head}
+use Rattle.forest.specs.Forest.{count}
+use Rattle.forest.proofs.Count.{count-same}
+use Rattle.linearization.specs.Partition.{Labels}
+use Rattle.linearization.specs.Entry.{occurrences}
+use Rattle.linearization.proofs.Tests.{split}
+use Rattle.rules.specs.State.{State, requestAt, resting, hasWork, working}
+use Rattle.rules.specs.Step.{headAt, plus}
+use Rattle.rules.specs.Run.{Happening}
+use Rattle.rules.specs.History.{rowOf}
+use Rattle.rules.specs.Linearized.{rowAt}
+use Rattle.rules.specs.Laws.{some, isUnfinished, headsLeft}
+use Rattle.rules.proofs.Invariant.{Phase, Invariant}
+use Rattle.rules.proofs.Invariant.Phase.{over, current, waiting}
+
+-- ---- one request
+
+module _ {head : Head} {q : ℕ} {past : List Happening} {times : ℕ} where
+  -- one that has begun is not beyond its head's position
+  pub phase-begun : Phase head q past times → rowOf q past .first ≢ 0 → q ≤ head .request
+  phase-begun (over l o) begun = omega arith
+  phase-begun (current e b c) begun = omega arith
+  phase-begun (waiting l r w) begun = absurd (begun (w .fresh))
+
+  -- one that the head has passed is finished
+  pub phase-passed : Phase head q past times → q < head .request → rowOf q past .answer ≢ 0
+  phase-passed (over l o) passed = o .finished
+  phase-passed (current e b c) passed = absurd (omega arith)
+  phase-passed (waiting l r w) passed = absurd (omega arith)
+
+  -- and no other is
+  pub phase-left : Phase head q past times → head .request ≤ q → rowOf q past .answer ≡ 0
+  phase-left (over l o) left = absurd (omega arith)
+  phase-left (current e b c) left = c .unfinished
+  phase-left (waiting l r w) left = w .unfinished
+
+-- ---- counting
+
+some-true : (test : ℕ → Bool) (n i : ℕ) → i < n → test i ≡ true → some test n ≡ true
+some-true test zero i l e = absurd (omega arith)
+some-true test (suc n) i l e =
+    split (test n) (λ t. rw t refl)
+    (λ f. let d : i ≢ n = λ is. true≢false (sym e ∙ ap test is ∙ f) in rw f (some-true test n i (omega (arith, d)) e))
+
+some-false : (test : ℕ → Bool) (n : ℕ) → ((i : ℕ) → i < n → test i ≡ false) → some test n ≡ false
+some-false test zero fails = refl
+some-false test (suc n) fails = rw (fails n (omega arith)) (some-false test n (λ i l. fails i (omega arith)))
+
+plus-plus : (a b : Bool) (n : ℕ) → plus a (plus b n) ≡ plus b (plus a n)
+plus-plus true true n = refl
+plus-plus true false n = refl
+plus-plus false true n = refl
+plus-plus false false n = refl
+
+-- counting may begin with the first number instead of the last
+count-first : (test : ℕ → Bool) (n : ℕ) → count test (suc n) ≡ plus (test 0) (count (λ i. test (suc i)) n)
+count-first test zero = refl
+count-first test (suc n) =
+    ap (plus (test (suc n))) (count-first test n) ∙ plus-plus (test (suc n)) (test 0) (count (λ i. test (suc i)) n)
+
+working-count : (qs : List Request) (heads : List Head) → working qs heads ≡ count (λ h. hasWork qs (getD heads h (resting 0))) (length heads)
+working-count qs [] = refl
+working-count qs (head ∷ heads) =
+    ap (plus (hasWork qs head)) (working-count qs heads)
+    ∙ sym (count-first (λ h. hasWork qs (getD (head ∷ heads) h (resting 0))) (length heads))
+
+-- ---- all requests of a head
+
+module _ {qs : List Request} {n : ℕ} {B : Labels} {roots₀ : ℕ} {S : State} {past : List Happening} (inv : Invariant qs n B roots₀ S past) where
+  pub phase-of : (h q : ℕ) → q < length qs → requestAt qs q .head ≡ h → Phase (headAt S h) q past (occurrences q (S .entries))
+  phase-of h q l own = subst (λ k. Phase (headAt S k) q past (occurrences q (S .entries))) own (inv .phases q l)
+
+  pub answer-is : (q : ℕ) → q < length qs → rowAt (S .report) q .answer ≡ rowOf q past .answer
+  answer-is q l = ap (λ r. r .answer) (inv .rows q l)
+
+  module _ (h : ℕ) where
+    unfinished-yes : (q : ℕ) → requestAt qs q .head ≡ h → rowAt (S .report) q .answer ≡ 0 → isUnfinished qs (S .report) h q ≡ true
+    unfinished-yes q own none = rw (eq-eqb (requestAt qs q .head) h own) (eq-eqb (rowAt (S .report) q .answer) 0 none)
+
+    unfinished-no : (q : ℕ) → (requestAt qs q .head ≡ h → rowAt (S .report) q .answer ≢ 0) → isUnfinished qs (S .report) h q ≡ false
+    unfinished-no q finished =
+        split (eqb (requestAt qs q .head) h)
+        (λ t. rw t (ne-eqb (rowAt (S .report) q .answer) 0 (finished (eqb-true (requestAt qs q .head) h t))))
+        (λ f. rw f refl)
+
+    -- a head's position is an unfinished request of its own
+    work-here : h < length (S .heads) → headAt S h .request < length qs → isUnfinished qs (S .report) h (headAt S h .request) ≡ true
+    work-here present within =
+        let q = headAt S h .request in
+        let own = inv .own h present within in
+        unfinished-yes q own (answer-is q within ∙ phase-left (phase-of h q within own) (omega arith))
+
+    -- and a head beyond the requests has finished all of its own
+    no-work : length qs ≤ headAt S h .request → (q : ℕ) → q < length qs → isUnfinished qs (S .report) h q ≡ false
+    no-work beyond q l =
+        unfinished-no q (λ own z. phase-passed (phase-of h q l own) (omega arith) (sym (answer-is q l) ∙ z))
+
+    has-work : h < length (S .heads) → hasWork qs (headAt S h) ≡ some (isUnfinished qs (S .report) h) (length qs)
+    has-work present =
+        split (hasWork qs (headAt S h))
+        (λ t. t ∙ sym (any (ltb-true (headAt S h .request) (length qs) t)))
+        (λ f. f ∙ sym (some-false (isUnfinished qs (S .report) h) (length qs) (no-work (ltb-false (headAt S h .request) (length qs) f))))
+      where
+        any : headAt S h .request < length qs → some (isUnfinished qs (S .report) h) (length qs) ≡ true
+        any within = some-true (isUnfinished qs (S .report) h) (length qs) (headAt S h .request) within (work-here present within)
+
+  pub work-left : working qs (S .heads) ≡ headsLeft qs (S .report) (length (S .heads))
+  work-left =
+      working-count qs (S .heads)
+      ∙ count-same (λ h. hasWork qs (headAt S h)) (λ h. some (isUnfinished qs (S .report) h) (length qs)) (length (S .heads)) has-work

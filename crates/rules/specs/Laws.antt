@@ -1,0 +1,74 @@
+-- What holds at every moment of every run, and what holds between two moments of it: the statements.
+--
+--   some test n                  some number below n passes the test
+--   isUnfinished qs report h q   request q is of head h and unfinished
+--   headsLeft qs report m        how many heads below m have an unfinished request
+--   Lawful nodes qs S past       what holds of the state S after the history past
+--   Follows nodes t t′           what holds of the table t′ at a later moment than that of the table t
+use mathlib.Core.Path.{_≡_}
+use mathlib.Core.Logic.{_≢_}
+use mathlib.Core.Bool.{Bool, true, false, cond}
+use mathlib.Core.List.{List}
+use Prim.Native.Nat.{ℕ, zero, suc, _+_, _^_, _≤_, _<_}
+use lib.Dec.{eqb}
+use lib.ListN.{length}
+use Rattle.job.specs.declared.Request.{Request}
+use Rattle.word.specs.declared.Node.{Node}
+use Rattle.word.specs.Word.{before}
+use Rattle.forest.specs.Forest.{count, rootCount, Together}
+use Rattle.rules.specs.declared.Row.{Row}
+use Rattle.rules.specs.Table.{parent, rank}
+use Rattle.rules.specs.Report.{noRow}
+use Rattle.rules.specs.State.{State, requestAt, working}
+use Rattle.rules.specs.Run.{Happening}
+use Rattle.rules.specs.History.{countWhere, isIdle, hasFailed, hasLink, isOf, rowOf}
+use Rattle.rules.specs.Linearized.{rowAt}
+
+abbrev pub some : (ℕ → Bool) → ℕ → Bool
+some test zero = false
+some test (suc n) = cond (test n) true (some test n)
+
+abbrev pub isUnfinished : List Request → List Row → ℕ → ℕ → Bool
+isUnfinished qs report h q = cond (eqb (requestAt qs q .head) h) (eqb (rowAt report q .answer) 0) false
+
+-- The heads with work left, told by the requests and the report alone.
+abbrev pub headsLeft : List Request → List Row → ℕ → ℕ
+headsLeft qs report m = count (λ h. some (isUnfinished qs report h) (length qs)) m
+
+pub record Lawful (nodes : ℕ) (qs : List Request) (S : State) (past : List Happening) : Type 0 where
+  -- "Every parent that isn't the place itself comes after it."
+  pub parents : (i : ℕ) → i < nodes → parent (S .table) i ≢ i
+      → before (rank (S .table) i) i (rank (S .table) (parent (S .table) i)) (parent (S .table) i) ≡ true
+  -- "Ranks never exceed the whole part of the base-2 logarithm of the place count."
+  pub ranks : (i : ℕ) → i < nodes → 2 ^ rank (S .table) i ≤ nodes
+  -- "Roots plus successful links equal the place count."
+  pub roots : rootCount (parent (S .table)) nodes + S .links ≡ nodes
+  -- "Each request gets four 32-bit numbers": those that the history gives it.
+  pub reports : length (S .report) ≡ length qs
+  pub rows : (q : ℕ) → q < length qs → rowAt (S .report) q ≡ rowOf q past
+  -- "All four are 0 before its first grant."
+  pub fresh : (q : ℕ) → q < length qs → countWhere (isOf q) past ≡ 0 → rowAt (S .report) q ≡ noRow
+  -- "Grants count from 1": the number of the last one is how many there were, idle ones included.
+  pub clock : S .now ≡ length past
+  -- "The tally holds idle grants, failed swaps and links": as many as the history has of each,
+  pub idle : S .idle ≡ countWhere isIdle past
+  pub failed : S .failed ≡ countWhere hasFailed past
+  pub links : S .links ≡ countWhere hasLink past
+  -- "and the heads with work left now".
+  pub work : working qs (S .heads) ≡ headsLeft qs (S .report) (length (S .heads))
+  -- A head serves its requests in file order: of two, the later has begun only if the earlier is finished,
+  pub finished : (p q : ℕ) → p < q → q < length qs → requestAt qs p .head ≡ requestAt qs q .head
+      → rowAt (S .report) q .first ≢ 0 → rowAt (S .report) p .answer ≢ 0
+  -- and one after the other: the earlier's last grant comes before the later's first.
+  pub ordered : (p q : ℕ) → p < q → q < length qs → requestAt qs p .head ≡ requestAt qs q .head
+      → rowAt (S .report) q .first ≢ 0 → rowAt (S .report) p .last < rowAt (S .report) q .first
+
+pub record Follows (nodes : ℕ) (t t′ : List Node) : Type 0 where
+  -- A place that is no root stays none,
+  pub lower : (i : ℕ) → i < nodes → parent t i ≢ i → parent t′ i ≢ i
+  -- and its rank is frozen.
+  pub frozen : (i : ℕ) → i < nodes → parent t i ≢ i → rank t′ i ≡ rank t i
+  -- Ranks never fall.
+  pub rising : (i : ℕ) → i < nodes → rank t i ≤ rank t′ i
+  -- Groups only merge.
+  pub merging : (i j : ℕ) → i < nodes → j < nodes → Together (parent t) i j → Together (parent t′) i j
