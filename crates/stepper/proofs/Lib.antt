@@ -5,3 +5,4 @@ pub mod Access
 pub mod Room
 pub mod Seek
 pub mod Served
+pub mod Needs

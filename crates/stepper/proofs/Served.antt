@@ -66,7 +66,7 @@ module _ {qs : List Request} {n : ℕ} {b : Buffers} {number : ℕ} {S : State} 
       (access-within n (parent (S .table)) (rank (S .table)) (labels qs apart S) (ApartAt qs apart (S .entries) (head .request)) (S .now) _ head (head .stage) (srv .knows))
 
   -- the head is as the rules have it
-  head-shown : ready qs (getD (b .heads) h (resting 0)) ≡ head
+  pub head-shown : ready qs (getD (b .heads) h (resting 0)) ≡ head
   head-shown = ap (λ c. ready qs (getD (c .heads) h (resting 0))) (st .shows)
 
   pub head-touchable : Touchable (b .table) (accessOf head)
@@ -80,10 +80,10 @@ module _ {qs : List Request} {n : ℕ} {b : Buffers} {number : ℕ} {S : State} 
   seen-here : seenWords (b .table) (accessOf head) ≡ seen (S .table) (accessOf head)
   seen-here = ap (λ c. seenWords (c .table) (accessOf head)) (st .shows) ∙ seen-shown (S .table) (invariant-worded (st .invariant)) (accessOf head) access-here
 
-  moved-here : advanceOf head (seenWords (b .table) (accessOf head)) number ≡ advanced S head
+  pub moved-here : advanceOf head (seenWords (b .table) (accessOf head)) number ≡ advanced S head
   moved-here = ap₂ (λ w g. advanceOf head w g) seen-here (st .next)
 
-  row-here : rowIn (b .report) (4 * head .request) ≡ getD (S .report) (head .request) noRow
+  pub row-here : rowIn (b .report) (4 * head .request) ≡ getD (S .report) (head .request) noRow
   row-here = ap (λ c. rowIn (c .report) (4 * head .request)) (st .shows) ∙ row-shown (S .report) (head .request) (omega (arith, srv .within, st .invariant .reports))
 
   -- what each part of the grant left

@@ -1,38 +1,33 @@
+-- `stepper::grant`: idle where the mask has no bit, else served.
+use mathlib.Core.Path.{sym, _∙_}
+use native.Mathlib.Omega.{arith}
+use Rattle.stepper.proofs.Needs.{idle-shown, idle-done}
 use borrow.Author.Needs.{needs}
 use Rattle.stepper.proofs.grant.Statement.{statement}
 use Rattle.stepper.proofs.grant.Tie as tie
-use Rattle.stepper.proofs.grant.Reads as reads
-use Rattle.stepper.proofs.grant.Lts as lts
-use Rattle.mask.proofs.is_set.Reads as is-set-reads
-use Rattle.stepper.proofs.serve.Reads as serve-reads
 
--- src/lib.rt:108:8
 is-set-requires : tie.Need-is-set-requires
-is-set-requires c κs = search needs
+is-set-requires c κs = omega (arith, c .before .before .before .before .pre .head)
 
--- src/lib.rt:109:9
 serve-requires : tie.Need-serve-requires
-serve-requires c κs = ?
+serve-requires c κs = (c .before .before .before .before .before .before .before .before .before .pre, sym (c .before .before .before .before .is-set .ensures) ∙ c .before .before .before .if1 .taken)
 
--- src/lib.rt:109:9
 same-length : tie.Need-same-length
 same-length c = search needs
 
--- src/lib.rt:109:9
 same-length-2 : tie.Need-same-length-2
 same-length-2 c = search needs
 
--- src/lib.rt:109:9
 same-length-3 : tie.Need-same-length-3
 same-length-3 c = search needs
 
--- src/lib.rt:109:9
 returns : tie.Need-returns
-returns c = search needs
+returns c = λ S past lent st. c .before .before .before .before .before .before .serve .ensures S past lent st
 
--- src/lib.rt:93:1
 returns-2 : tie.Need-returns-2
-returns-2 c = ?
+returns-2 c =
+    λ S past lent st. let p = c .before .before .before .before .before .before .pre in let t = sym (c .before .is-set .ensures) ∙ c .if1 .left in
+    (idle-shown (p .playing) (p .nodes) (p .head) st t, idle-done (p .playing) (p .nodes) (p .head) st t)
 
 pub grant-spec : {M : Type 1} → statement M
 grant-spec =

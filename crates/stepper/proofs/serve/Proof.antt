@@ -1,84 +1,69 @@
+use mathlib.Core.Path.{refl}
+use native.Mathlib.Omega.{arith}
+use Rattle.stepper.proofs.Needs.{ready-next, ready-mask, ready-small, ready-raisable, ready-touchable, ready-room, ready-used, ready-insertable, ready-moved, serve-shown, serve-done}
 use borrow.Author.Needs.{needs}
 use Rattle.stepper.proofs.serve.Statement.{statement}
 use Rattle.stepper.proofs.serve.Tie as tie
-use Rattle.stepper.proofs.serve.Reads as reads
-use Rattle.stepper.proofs.serve.Lts as lts
-use Rattle.process.proofs.advance.Reads as advance-reads
-use Rattle.process.proofs.next_access.Reads as next-access-reads
-use Rattle.stepper.proofs.buffers.charge_row.Reads as charge-row-reads
-use Rattle.stepper.proofs.buffers.enter.Reads as enter-reads
-use Rattle.stepper.proofs.buffers.touch.Reads as touch-reads
-use Rattle.stepper.proofs.requests.ready_head.Reads as ready-head-reads
-use Rattle.stepper.proofs.requests.settled_head.Reads as settled-head-reads
-use Rattle.stepper.proofs.work_left.Reads as work-left-reads
 
--- src/lib.rt:70:43
+-- `stepper::serve`: each part asks what the state shown grants it, and the parts together make the rules' step.
+
 mul-ready-head : tie.Need-mul-ready-head
 mul-ready-head c = search needs
 
--- src/lib.rt:70:43
 array-copy-out-ready-head : tie.Need-array-copy-out-ready-head
 array-copy-out-ready-head c = search needs
 
--- src/lib.rt:70:9
 ready-head-requires : tie.Need-ready-head-requires
-ready-head-requires c κs = ?
+ready-head-requires c κs = let p = c .before .before .before .before .before .pre in (p .0 .playing, ready-next (p .0) (p .1))
 
--- src/lib.rt:71:29
 next-access-requires : tie.Need-next-access-requires
-next-access-requires c κs = ?
+next-access-requires c κs = let p = c .before .before .before .before .before .before .before .pre in ready-raisable (p .0) (p .1) (c .before .ready-head .result) (c .before .ready-head .ensures)
 
--- src/lib.rt:71:9
 touch-requires : tie.Need-touch-requires
-touch-requires c κs = ?
+touch-requires c κs = let p = c .before .before .before .before .before .before .before .before .pre in let k = c .before .before .ready-head in ready-touchable (p .0) (p .1) (k .result) (k .ensures) (c .next-access .result) (c .next-access .ensures)
 
--- src/lib.rt:72:9
 advance-requires : tie.Need-advance-requires
 advance-requires c κs = search needs
 
--- src/lib.rt:75:5
 charge-row-requires : tie.Need-charge-row-requires
-charge-row-requires c κs = ?
+charge-row-requires c κs = let p = c .before .before .before .before .before .before .before .before .before .before .before .before .before .before .pre in let k = c .before .before .before .before .before .before .before .before .ready-head in (ready-room (p .0) (p .1) (k .result) (k .ensures), ready-used (p .0) (p .1) (k .result) (k .ensures) (omega (arith, c .before .before .before .before .before .before .before .before .before .before .before .before .before .before .fits .number)))
 
--- src/lib.rt:76:61
 cast-enter : tie.Need-cast-enter
 cast-enter c = search needs
 
--- src/lib.rt:76:9
 enter-requires : tie.Need-enter-requires
-enter-requires c κs = ?
+enter-requires c κs =
+    let p = c .before .before .before .before .before .before .before .before .before .before .before .before .before .before .before .before .before .before .before .pre in let k = c .before .before .before .before .before .before .before .before .before .before .before .before .before .ready-head in
+    (ready-insertable (p .0) (p .1) (k .result) (k .ensures) (c .before .before .before .before .before .before .before .before .before .before .before .next-access .result) (c .before .before .before .before .before .before .before .before .before .before .before .next-access .ensures) (c .before .before .before .before .before .before .before .before .before .before .touch .result) (c .before .before .before .before .before .before .before .before .before .before .touch .ensures .0) (c .before .before .before .before .before .before .before .advance .result) (c .before .before .before .before .before .before .before .advance .ensures), ready-small (p .0) (p .1))
 
--- src/lib.rt:77:9
 settled-head-requires : tie.Need-settled-head-requires
-settled-head-requires c κs = ?
+settled-head-requires c κs =
+    let p = c .before .before .before .before .before .before .before .before .before .before .before .before .before .before .before .before .before .before .before .before .before .before .pre in let k = c .before .before .before .before .before .before .before .before .before .before .before .before .before .before .before .before .ready-head in
+    (p .0 .playing, ready-moved (p .0) (p .1) (k .result) (k .ensures) (c .before .before .before .before .before .before .before .before .before .before .before .before .before .before .next-access .result) (c .before .before .before .before .before .before .before .before .before .before .before .before .before .before .next-access .ensures) (c .before .before .before .before .before .before .before .before .before .before .before .before .before .touch .result) (c .before .before .before .before .before .before .before .before .before .before .before .before .before .touch .ensures .0) (c .before .before .before .before .before .before .before .before .before .before .advance .result) (c .before .before .before .before .before .before .before .before .before .before .advance .ensures))
 
--- src/lib.rt:78:5
 mul-heads : tie.Need-mul-heads
-mul-heads c = ?
+mul-heads c = omega (arith, c .before .before .before .before .before .before .before .before .before .before .before .before .before .before .before .before .before .before .before .before .before .before .before .pre .0 .head)
 
--- src/lib.rt:78:5
 array-set-from-heads : tie.Need-array-set-from-heads
-array-set-from-heads c = ?
+array-set-from-heads c = omega (arith, c .before .before .before .before .before .before .before .before .before .before .before .before .before .before .before .before .before .before .before .before .before .before .before .pre .0 .head)
 
--- src/lib.rt:82:15
 work-left-requires : tie.Need-work-left-requires
-work-left-requires c κs = ?
+work-left-requires c κs = let p = c .before .before .before .before .before .before .before .before .before .before .before .before .before .before .before .before .before .before .before .before .before .before .before .pre in (omega (arith, p .0 .head), ready-mask (p .0) (p .1))
 
--- src/lib.rt:53:1
 same-length : tie.Need-same-length
 same-length c = search needs
 
--- src/lib.rt:53:1
 same-length-2 : tie.Need-same-length-2
 same-length-2 c = search needs
 
--- src/lib.rt:53:1
 same-length-3 : tie.Need-same-length-3
 same-length-3 c = search needs
 
--- src/lib.rt:53:1
 returns : tie.Need-returns
-returns c = ?
+returns c =
+    λ S past lent st. let p = c .before .before .before .before .before .before .before .before .before .before .before .before .before .before .before .before .before .before .before .before .before .before .before .before .pre in let k = c .before .before .before .before .before .before .before .before .before .before .before .before .before .before .before .before .before .before .ready-head in
+    (serve-shown (p .0 .playing) (p .0 .nodes) (p .0 .head) st (p .1) (k .result) (k .ensures) (c .before .before .before .before .before .before .before .before .before .before .before .before .before .before .before .before .next-access .result) (c .before .before .before .before .before .before .before .before .before .before .before .before .before .before .before .before .next-access .ensures) (c .before .before .before .before .before .before .before .before .before .before .before .before .before .before .before .touch .result) (c .before .before .before .before .before .before .before .before .before .before .before .before .before .before .before .touch .ensures .0) (c .before .before .before .before .before .before .before .before .before .before .before .before .advance .result) (c .before .before .before .before .before .before .before .before .before .before .before .before .advance .ensures) _ _ _ (c .before .before .before .before .enter .result) (c .work-left .result) (c .before .settled-head .result) (c .before .before .before .before .before .before .before .before .before .before .before .before .before .before .before .touch .ensures .1) (c .before .before .before .before .before .before .before .before .before .charge-row .ensures) (c .before .before .before .before .enter .ensures .1) (c .before .before .before .before .enter .ensures .0) (c .before .settled-head .ensures) (c .work-left .ensures),
+    serve-done (p .0 .playing) (p .0 .nodes) (p .0 .head) st (p .1) (k .result) (k .ensures) (c .before .before .before .before .before .before .before .before .before .before .before .before .before .before .before .before .next-access .result) (c .before .before .before .before .before .before .before .before .before .before .before .before .before .before .before .before .next-access .ensures) (c .before .before .before .before .before .before .before .before .before .before .before .before .before .before .before .touch .result) (c .before .before .before .before .before .before .before .before .before .before .before .before .before .before .before .touch .ensures .0) (c .before .before .before .before .before .before .before .before .before .before .before .before .advance .result) (c .before .before .before .before .before .before .before .before .before .before .before .before .advance .ensures) _ refl)
 
 pub serve-spec : {M : Type 1} → statement M
 serve-spec =

@@ -1,36 +1,36 @@
+use Prim.Native.Nat.{_+_}
+use Rattle.stepper.specs.Shown.{requestsIn}
+use Rattle.stepper.proofs.Needs.{next-small, settled-final}
+use mathlib.Core.Path.{sym, ap, _∙_}
+use native.Mathlib.Omega.{arith}
 use borrow.Author.Needs.{needs}
 use Rattle.stepper.proofs.requests.settled_head.Statement.{statement}
 use Rattle.stepper.proofs.requests.settled_head.Tie as tie
-use Rattle.stepper.proofs.requests.settled_head.Reads as reads
-use Rattle.stepper.proofs.requests.settled_head.Lts as lts
-use Rattle.rules.proofs.is_final.Reads as is-final-reads
-use Rattle.stepper.proofs.requests.next_request.Reads as next-request-reads
 
--- src/requests.rt:49:8
+-- `stepper::requests::settled_head`: a finished request's head rests before its next one.
+
 is-final-requires : tie.Need-is-final-requires
 is-final-requires c κs = search needs
 
--- src/requests.rt:50:52
 cast-next-request : tie.Need-cast-next-request
 cast-next-request c = search needs
 
--- src/requests.rt:50:52
 add-next-request : tie.Need-add-next-request
 add-next-request c = search needs
 
--- src/requests.rt:50:13
 next-request-requires : tie.Need-next-request-requires
 next-request-requires c κs = search needs
 
--- src/requests.rt:56:22
 cast-t13 : tie.Need-cast-t13
-cast-t13 c = ?
+cast-t13 c =
+    let k = c .before .before .before .before .before .before .before in
+    omega (arith, c .next-request .ensures, next-small (k .pre .0) (k .args .h) (k .args .moved .head .request + 1) (omega (arith, k .pre .1)))
 
--- src/requests.rt:52:9
 returns : tie.Need-returns
-returns c = ?
+returns c =
+    let k = c .before .before .before .before .before .before .before in
+    settled-final (requestsIn (k .args .file .now)) (k .args .h) (k .args .moved) (c .next-request .result) (sym (c .before .before .before .is-final .ensures) ∙ c .before .before .if1 .taken) (c .next-request .ensures)
 
--- src/requests.rt:41:1
 returns-2 : tie.Need-returns-2
 returns-2 c = search needs
 
