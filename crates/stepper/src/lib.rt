@@ -1,6 +1,6 @@
 // One grant on the lent buffers: the head's access to the table, and what it leaves in report and linearization.
 mod buffers;
-mod requests;
+pub mod requests;
 
 use crate::buffers::charge_row;
 use crate::buffers::enter;
@@ -18,9 +18,6 @@ ghost use Rattle.rules.specs.State.{State};
 ghost use Rattle.rules.specs.Step.{step};
 ghost use Rattle.rules.specs.Run.{Happening, happened};
 ghost use Rattle.stepper.specs.Shown.{Buffers, shown, doneOf, requestsIn, Standing, Ready};
-
-// The heads of every job; those that a job does not have get no request and no grant.
-pub const HEADS: usize = 16;
 
 // What a grant adds to the tally: an idle grant, a swap that did not write, a link.
 pub struct Done {
