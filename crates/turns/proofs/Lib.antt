@@ -1,0 +1,3 @@
+-- Laws of the cursor, of the tally and of one turn, and the invariant of the loop.
+pub mod Runs
+pub mod Counters

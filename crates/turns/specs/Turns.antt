@@ -1,0 +1,129 @@
+-- The loop over the grants of a file: its cursor, one turn, and what the whole schedule leaves.
+--
+--   Roomy t               a tally that can be added to
+--   countedOf t d mask    the tally t after a grant that was d; the fourth number is the mask's count of ones
+--   runsIn file           the runs of a file
+--   openedOf rs c         the cursor c at a grant
+--   remaining rs c        the grants from the cursor c on
+--   buffersOf p t r l     the buffers t, r, l with what the play carries
+--   Turnable, Turned      what a turn asks and what it leaves
+--   runOf j               the rules' run of the job j
+--   End, endOf j lent     what the play of the job j leaves
+use mathlib.Core.Path.{_≡_}
+use mathlib.Core.Bool.{cond}
+use mathlib.Core.List.{List, [], _++_, map}
+use Prim.Native.Nat.{ℕ, _+_, _*_, _<_, _≤_}
+use lib.Count.{ones}
+use lib.Dec.{eqb}
+use lib.ListN.{length, getD, drop, replicate}
+use Rattle.job.specs.declared.Tally.{Tally}
+use Rattle.job.specs.Job.{Job}
+use Rattle.word.specs.Word.{encode}
+use Rattle.process.specs.declared.Head.{Head}
+use Rattle.linearization.specs.Entry.{flat}
+use Rattle.jobfile.specs.declared.Run.{Run}
+use Rattle.jobfile.specs.Meaning.{meaning, granted}
+use Rattle.jobfile.specs.Written.{longestRuns}
+use Rattle.rules.specs.Table.{fresh}
+use Rattle.rules.specs.State.{State, start, tallyOf}
+use Rattle.rules.specs.Step.{plus, step}
+use Rattle.rules.specs.Run.{Happening, run, happened}
+use Rattle.stepper.specs.declared.Done.{Done}
+use Rattle.stepper.specs.Buffers.{flatRows}
+use Rattle.stepper.specs.Shown.{Buffers, shown, doneOf, requestsIn, Playing, Standing}
+use Rattle.turns.specs.declared.Cursor.{Cursor}
+use Rattle.turns.specs.declared.Progress.{Progress}
+use Rattle.turns.specs.declared.Ended.{Ended}
+
+pub record Roomy (tally : Tally) : Type 0 where
+  pub idle : tally .idle < 4294967295
+  pub failed : tally .failed < 4294967295
+  pub links : tally .links < 4294967295
+
+abbrev pub countedOf : Tally → Done → ℕ → Tally
+countedOf tally done mask =
+    record {
+      idle = plus (done .idle) (tally .idle);
+      failed = plus (done .failed) (tally .failed);
+      links = plus (done .linked) (tally .links);
+      working = ones mask;
+    }
+
+-- ---- the cursor
+
+abbrev pub runsIn : List ℕ → List Run
+runsIn file = longestRuns (meaning file .job .schedule)
+
+abbrev pub noRun : Run
+noRun = record { head = 0; count = 0 }
+
+abbrev pub openedOf : List Run → Cursor → Cursor
+openedOf rs c =
+    cond (eqb (c .left) 0)
+    (record { next = c .next + 1; head = getD rs (c .next) noRun .head; left = getD rs (c .next) noRun .count })
+    c
+
+abbrev pub remaining : List Run → Cursor → List ℕ
+remaining rs c = replicate (c .left) (c .head) ++ granted (drop (c .next) rs)
+
+-- A run is there where the one under way has no grant left.
+pub record Openable (rs : List Run) (c : Cursor) : Type 0 where
+  pub there : c .left ≡ 0 → c .next < length rs
+
+-- ---- one turn
+
+abbrev pub buffersOf : Progress → List ℕ → List ℕ → List ℕ → Buffers
+buffersOf p table report linearization =
+    record { heads = p .heads; table = table; report = report; linearization = linearization; entries = p .entries; mask = p .mask }
+
+pub record Turnable (file : List ℕ) (requests : ℕ) (p : Progress) (table report linearization : List ℕ) : Type 0 where
+  pub playing : Playing file requests
+  pub nodes : length table ≡ meaning file .job .nodes
+  pub more : p .number < length (meaning file .job .schedule)
+  pub left : remaining (runsIn file) (p .cursor) ≡ drop (p .number) (meaning file .job .schedule)
+  pub state : State
+  pub past : List Happening
+  pub lent : List ℕ
+  pub standing : Standing (requestsIn file) (length table) 16 (buffersOf p table report linearization) (p .number + 1) state past lent
+
+-- From the state S the turn makes the rules' step for the schedule's next head.
+pub record Turned (file : List ℕ) (p p′ : Progress) (b′ : Buffers) (S : State) (lent : List ℕ) : Type 0 where
+  pub number : p′ .number ≡ p .number + 1
+  pub left : remaining (runsIn file) (p′ .cursor) ≡ drop (p .number + 1) (meaning file .job .schedule)
+  pub buffers : b′ ≡ shown (requestsIn file) (step (requestsIn file) S (getD (meaning file .job .schedule) (p .number) 0)) lent
+  pub done : p′ .done ≡ doneOf (happened (requestsIn file) S (getD (meaning file .job .schedule) (p .number) 0))
+
+-- ---- the whole schedule
+
+-- Every job is played with sixteen heads; those that it does not have get no request and no grant.
+abbrev pub startOf : Job → State
+startOf j = start (j .requests) 16 (fresh (j .nodes))
+
+abbrev pub runOf : Job → State
+runOf j = run (j .requests) (startOf j) (j .schedule)
+
+pub record End : Type 0 where
+  pub table : List ℕ
+  pub report : List ℕ
+  pub linearization : List ℕ
+  pub ended : Ended
+
+-- What a state shows at the end; numbers past the entries are as lent.
+abbrev pub endAt : Job → State → List ℕ → End
+endAt j S lent =
+    record {
+      table = map encode (S .table);
+      report = flatRows (S .report);
+      linearization = flat (S .entries) ++ drop (2 * length (S .entries)) lent;
+      ended = record { entries = length (S .entries); tally = tallyOf (j .requests) S };
+    }
+
+abbrev pub endOf : Job → List ℕ → End
+endOf j lent = endAt j (runOf j) lent
+
+pub record Startable (file : List ℕ) (requests count : ℕ) (heads : List Head) (mask : ℕ) (table report linearization : List ℕ) : Type 0 where
+  pub playing : Playing file requests
+  pub nodes : length table ≡ meaning file .job .nodes
+  pub grants : count ≡ length (meaning file .job .schedule)
+  pub standing : Standing (requestsIn file) (length table) 16
+    (record { heads = heads; table = table; report = report; linearization = linearization; entries = 0; mask = mask }) 1 (startOf (meaning file .job)) [] linearization

@@ -1,0 +1,157 @@
+// The grants of an accepted file, one after the other: a cursor over its runs, one grant a turn, and the tally.
+use job::Tally;
+use process::Head;
+use stepper::Done;
+use stepper::grant;
+ghost use mathlib.Core.Path.{_≡_};
+ghost use mathlib.Core.List.{List};
+ghost use Prim.Native.Nat.{ℕ, _+_, _<_};
+ghost use lib.ListN.{length, getD};
+ghost use Rattle.jobfile.specs.Meaning.{meaning};
+ghost use Rattle.rules.specs.State.{State};
+ghost use Rattle.rules.specs.Step.{plus};
+ghost use Rattle.rules.specs.Run.{Happening};
+ghost use Rattle.stepper.specs.Shown.{requestsIn, Standing, Playing};
+ghost use Rattle.turns.specs.Turns.{Roomy, countedOf, runsIn, openedOf, Openable, buffersOf, Turnable, Turned, Startable, endOf};
+
+// Where a play stands among the runs of the file: the next run, and the head and the grants left of the one under way.
+pub struct Cursor {
+    pub next: u32,
+    pub head: u32,
+    pub left: u32,
+}
+
+// What a play carries from grant to grant beside the lent buffers; `done` is what the last grant was.
+pub struct Progress {
+    pub heads: [Head; 16],
+    pub entries: u32,
+    pub mask: u32,
+    pub number: u32,
+    pub cursor: Cursor,
+    pub done: Done,
+}
+
+// What a play ends with beside the lent buffers.
+pub struct Ended {
+    pub entries: u32,
+    pub tally: Tally,
+}
+
+// One more where the flag is set.
+fn more(number: u32, flag: bool) -> u32
+    requires { ⌜ number < 4294967295 ⌝ }
+    ensures { λ r. ⌜ r ≡ plus flag number ⌝ }
+{
+    if flag {
+        return number + 1;
+    }
+    number
+}
+
+// The tally after one more grant; its fourth number is the mask's count of ones.
+pub fn counted(tally: Tally, done: Done, mask: u32) -> Tally
+    requires { ⌜ Roomy tally ⌝ }
+    ensures { λ r. ⌜ r ≡ countedOf tally done mask ⌝ }
+{
+    Tally {
+        idle: more(tally.idle, done.idle),
+        failed: more(tally.failed, done.failed),
+        links: more(tally.links, done.linked),
+        working: mask::count(mask),
+    }
+}
+
+// The cursor with a grant left: at the next run where the one under way has none.
+fn open_run(file: &[u8], requests: u32, cursor: Cursor) -> Cursor
+    requires { ⌜ Playing (now file) requests ⌝ }
+    requires { ⌜ Openable (runsIn (now file)) cursor ⌝ }
+    ensures { λ r. ⌜ r ≡ openedOf (runsIn (now (file .entry))) cursor ⌝ }
+{
+    if cursor.left == 0 {
+        let run = reader::run_at(file, requests, cursor.next);
+        return Cursor {
+            next: cursor.next + 1,
+            head: run.head as u32,
+            left: run.count as u32,
+        };
+    }
+    cursor
+}
+
+// One grant: the next of the schedule.
+fn turn(
+    file: &[u8],
+    requests: u32,
+    progress: Progress,
+    table: &mut [u32],
+    report: &mut [u32],
+    linearization: &mut [u32],
+) -> Progress
+    requires { ⌜ Turnable (now file) requests progress (now table) (now report) (now linearization) ⌝ }
+    ensures { λ r. ⌜ ((S : State) (past : List Happening) (lent : List ℕ) → Standing (requestsIn (now (file .entry))) (length (now (table .entry))) 16 (buffersOf progress (now (table .entry)) (now (report .entry)) (now (linearization .entry))) (progress .number + 1) S past lent → Turned (now (file .entry)) progress r (buffersOf r (now (table .exit)) (now (report .exit)) (now (linearization .exit))) S lent) ⌝ }
+{
+    let cursor = open_run(file, requests, progress.cursor);
+    let number = progress.number + 1;
+    let heads = progress.heads;
+    let granted = grant(file, requests, heads, cursor.head, number, table, report, linearization, progress.entries, progress.mask);
+    let next = granted.heads;
+    let done = granted.done;
+    Progress {
+        heads: next,
+        entries: granted.entries,
+        mask: granted.mask,
+        number,
+        cursor: Cursor {
+            next: cursor.next,
+            head: cursor.head,
+            left: cursor.left - 1,
+        },
+        done,
+    }
+}
+
+// Plays all grants of an accepted file, from buffers that show the start.
+pub fn play_grants(
+    file: &[u8],
+    requests: u32,
+    grants: u32,
+    heads: [Head; 16],
+    mask: u32,
+    table: &mut [u32],
+    report: &mut [u32],
+    linearization: &mut [u32],
+) -> Ended
+    requires { ⌜ Startable (now file) requests grants heads mask (now table) (now report) (now linearization) ⌝ }
+    ensures { λ r. ⌜ record { table = now (table .exit); report = now (report .exit); linearization = now (linearization .exit); ended = r } ≡ endOf (meaning (now (file .entry)) .job) (now (linearization .entry)) ⌝ }
+{
+    let mut progress = Progress {
+        heads,
+        entries: 0,
+        mask,
+        number: 0,
+        cursor: Cursor {
+            next: 0,
+            head: 0,
+            left: 0,
+        },
+        done: Done {
+            idle: false,
+            failed: false,
+            linked: false,
+        },
+    };
+    let mut tally = Tally {
+        idle: 0,
+        failed: 0,
+        links: 0,
+        working: mask::count(mask),
+    };
+    while progress.number < grants {
+        progress = turn(file, requests, progress, table, report, linearization);
+        tally = counted(tally, progress.done, progress.mask);
+    }
+    Ended {
+        entries: progress.entries,
+        tally,
+    }
+}
