@@ -1,58 +1,54 @@
+use mathlib.Core.Path.{refl, sym, _∙_}
+use Prim.Native.Nat.{_-_}
+use native.Mathlib.Omega.{arith}
+use borrow.Author.Needs.{needs}
+use Rattle.turns.proofs.Runs.{grants-few}
+use Rattle.turns.proofs.Counters.{small-roomy}
+use Rattle.turns.proofs.Going.{Going, standing-report, standing-linearization, going-start, going-turnable, going-next, going-end}
 use Rattle.turns.proofs.play_grants.Statement.{statement}
 use Rattle.turns.proofs.play_grants.Tie as tie
-use Rattle.turns.proofs.play_grants.Reads as reads
-use Rattle.turns.proofs.play_grants.Lts as lts
-use Rattle.mask.proofs.count.Reads as count-reads
-use Rattle.turns.proofs.counted.Reads as counted-reads
-use Rattle.turns.proofs.turn.Reads as turn-reads
+
+-- `turns::play_grants`: the buffers show the state after the grants so far.
 
 abbrev Inv-loop : tie.InvT-loop
 Inv-loop file requests grants mask table₀ report₀ linearization₀ progress₀ tally₀ table report linearization progress tally =
-    ?
+    Going file requests linearization₀ progress tally table report linearization
 
 abbrev μ-loop : tie.MeasureT-loop
 μ-loop file requests grants mask table₀ report₀ linearization₀ progress₀ tally₀ table report linearization progress tally =
-    ?
+    grants - progress .number
 
--- src/lib.rt:147:18
 count-requires : tie.Need-count-requires Inv-loop μ-loop
-count-requires c κs = ?
+count-requires c κs = search needs
 
--- src/lib.rt:149:5
 loop-holds : tie.Need-loop-holds Inv-loop μ-loop
-loop-holds c = ?
+loop-holds c = going-start (c .before .before .before .before .before .pre) _ _ refl (λ i. record { idle = 0; failed = 0; links = 0; working = c .count .ensures i })
 
--- src/lib.rt:150:9
 turn-requires : tie.Need-turn-requires Inv-loop μ-loop
-turn-requires c κs = ?
+turn-requires c κs = let g = c .before .before .before .before .before .loop .inv in going-turnable g (omega (arith, c .before .before .before .if1 .taken, c .before .before .before .before .before .before .before .before .before .before .before .pre .grants))
 
--- src/lib.rt:151:9
 counted-requires : tie.Need-counted-requires Inv-loop μ-loop
-counted-requires c κs = ?
+counted-requires c κs = let g = c .before .before .before .before .before .before .before .before .before .before .before .before .loop .inv in small-roomy (omega (arith, g .within, grants-few (g .playing))) (g .small)
 
--- src/lib.rt:149:5
 loop-less : tie.Need-loop-less Inv-loop μ-loop
-loop-less c = ?
+loop-less c = let g = c .before .before .before .before .before .before .before .before .before .before .before .before .before .loop .inv in omega (arith, c .before .before .before .before .before .before .before .before .before .before .before .if1 .taken, c .before .before .before .before .before .before .before .turn .ensures (g .state) (g .past) _ (g .standing) .number)
 
--- src/lib.rt:149:5
 loop-again : tie.Need-loop-again Inv-loop μ-loop
-loop-again c = ?
+loop-again c =
+    let g = c .before .before .before .before .before .before .before .before .before .before .before .before .before .loop .inv in
+    going-next g (omega (arith, c .before .before .before .before .before .before .before .before .before .before .before .if1 .taken, c .before .before .before .before .before .before .before .before .before .before .before .before .before .before .before .before .before .before .before .pre .grants)) (c .before .before .before .before .before .before .before .turn .result) (c .counted .result) _ _ _ (c .before .before .before .before .before .before .before .turn .ensures (g .state) (g .past) _ (g .standing)) (c .counted .ensures)
 
--- src/lib.rt:114:1
 same-length : tie.Need-same-length Inv-loop μ-loop
-same-length c = ?
+same-length c = let g = c .before .before .loop .inv in g .nodes ∙ sym (c .before .before .before .before .before .before .before .before .pre .nodes)
 
--- src/lib.rt:114:1
 same-length-2 : tie.Need-same-length-2 Inv-loop μ-loop
-same-length-2 c = ?
+same-length-2 c = let g = c .before .before .loop .inv in standing-report (g .standing) ∙ sym (standing-report (c .before .before .before .before .before .before .before .before .pre .standing))
 
--- src/lib.rt:114:1
 same-length-3 : tie.Need-same-length-3 Inv-loop μ-loop
-same-length-3 c = ?
+same-length-3 c = let g = c .before .before .loop .inv in standing-linearization (g .standing)
 
--- src/lib.rt:114:1
 returns : tie.Need-returns Inv-loop μ-loop
-returns c = ?
+returns c = let g = c .before .before .loop .inv in going-end g (omega (arith, c .if1 .left, c .before .before .before .before .before .before .before .before .pre .grants)) _ refl
 
 pub play-grants-spec : {M : Type 1} → statement M
 play-grants-spec =

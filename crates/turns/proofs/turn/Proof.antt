@@ -1,42 +1,36 @@
+-- `turns::turn`: the cursor is opened, the grant is the schedule's next.
+use mathlib.Core.Path.{refl}
+use native.Mathlib.Omega.{arith}
+use Rattle.turns.proofs.OneGrant.{turn-openable, turn-number, turn-left, turn-ready, turn-turned}
 use borrow.Author.Needs.{needs}
 use Rattle.turns.proofs.turn.Statement.{statement}
 use Rattle.turns.proofs.turn.Tie as tie
-use Rattle.turns.proofs.turn.Reads as reads
-use Rattle.turns.proofs.turn.Lts as lts
-use Rattle.stepper.proofs.grant.Reads as grant-reads
-use Rattle.turns.proofs.open_run.Reads as open-run-reads
 
--- src/lib.rt:93:9
 open-run-requires : tie.Need-open-run-requires
-open-run-requires c κs = ?
+open-run-requires c κs = let p = c .before .before .before .before .pre in (p .playing, turn-openable p)
 
--- src/lib.rt:94:18
 add-number : tie.Need-add-number
-add-number c = ?
+add-number c = omega (arith, turn-number (c .before .before .before .before .before .before .pre))
 
--- src/lib.rt:96:9
 grant-requires : tie.Need-grant-requires
-grant-requires c κs = ?
+grant-requires c κs = turn-ready (c .before .before .before .before .before .before .before .before .before .before .pre) (c .before .before .before .before .before .open-run .result) (c .before .before .before .before .before .open-run .ensures)
 
--- src/lib.rt:107:19
 sub-t19 : tie.Need-sub-t19
-sub-t19 c = ?
+sub-t19 c = omega (arith, turn-left (c .before .before .before .before .before .before .before .before .before .before .before .before .before .before .before .before .before .before .before .before .pre) (c .before .before .before .before .before .before .before .before .before .before .before .before .before .before .before .open-run .result) (c .before .before .before .before .before .before .before .before .before .before .before .before .before .before .before .open-run .ensures))
 
--- src/lib.rt:82:1
 same-length : tie.Need-same-length
 same-length c = search needs
 
--- src/lib.rt:82:1
 same-length-2 : tie.Need-same-length-2
 same-length-2 c = search needs
 
--- src/lib.rt:82:1
 same-length-3 : tie.Need-same-length-3
 same-length-3 c = search needs
 
--- src/lib.rt:82:1
 returns : tie.Need-returns
-returns c = ?
+returns c =
+    λ S past lent st. let g = c .before .before .before .before .before .before .before .before .before .grant .ensures S past lent st in
+    turn-turned (c .before .before .before .before .before .before .before .before .before .before .before .before .before .before .before .before .before .before .before .before .pre) (c .before .before .before .before .before .before .before .before .before .before .before .before .before .before .before .open-run .result) (c .before .before .before .before .before .before .before .before .before .before .before .before .before .before .before .open-run .ensures) _ _ S lent refl refl (g .0) (g .1)
 
 pub turn-spec : {M : Type 1} → statement M
 turn-spec =

@@ -1,0 +1,67 @@
+-- One turn: the cursor is before the schedule's next grant, and the grant makes the rules' step.
+use mathlib.Core.Path.{_≡_, refl, sym, ap, _∙_, subst}
+use mathlib.Core.List.{List, _∷_}
+use Prim.Native.Nat.{ℕ, suc, _+_, _-_, _≤_, _<_}
+use native.Mathlib.Omega.{arith}
+use lib.ListN.{length, getD, drop}
+use lib.Seq.{drop-cons}
+use Rattle.jobfile.specs.Meaning.{meaning}
+use Rattle.rules.specs.State.{State}
+use Rattle.rules.specs.Step.{step}
+use Rattle.rules.specs.Run.{happened}
+use Rattle.stepper.specs.Shown.{Buffers, shown, doneOf, requestsIn, Ready}
+use Rattle.stepper.proofs.Needs.{playing-admitted}
+use Rattle.turns.specs.declared.Cursor.{Cursor}
+use Rattle.turns.specs.declared.Progress.{Progress}
+use Rattle.turns.specs.Turns.{runsIn, openedOf, remaining, Openable, buffersOf, Turnable, Turned}
+use Rattle.turns.proofs.Runs.{runs-some, grants-few, at-openable, opened-some, opened-head, opened-rest}
+
+module _ {file : List ℕ} {requests : ℕ} {p : Progress} {table report linearization : List ℕ} (t : Turnable file requests p table report linearization) where
+  abbrev schedule : List ℕ
+  schedule = meaning file .job .schedule
+
+  abbrev head : ℕ
+  head = getD schedule (p .number) 0
+
+  before-grant : remaining (runsIn file) (p .cursor) ≡ head ∷ drop (suc (p .number)) schedule
+  before-grant = t .left ∙ drop-cons schedule (p .number) 0 (t .more)
+
+  pub turn-openable : Openable (runsIn file) (p .cursor)
+  turn-openable = at-openable (runsIn file) (runs-some (t .playing)) (p .cursor) head (drop (suc (p .number)) schedule) before-grant
+
+  pub turn-number : p .number < 2088195
+  turn-number = omega (arith, t .more, grants-few (t .playing))
+
+  module _ (c : Cursor) (is : c ≡ openedOf (runsIn file) (p .cursor)) where
+    pub turn-left : 0 < c .left
+    turn-left = omega (arith, ap (λ k. k .left) is, opened-some (runsIn file) (runs-some (t .playing)) (p .cursor) head (drop (suc (p .number)) schedule) before-grant)
+
+    turn-head : c .head ≡ head
+    turn-head = ap (λ k. k .head) is ∙ opened-head (runsIn file) (runs-some (t .playing)) (p .cursor) head (drop (suc (p .number)) schedule) before-grant
+
+    pub turn-ready : Ready file requests (c .head) (p .number + 1) (buffersOf p table report linearization)
+    turn-ready =
+        record {
+          playing = t .playing;
+          nodes = t .nodes;
+          head = omega (arith, turn-head, playing-admitted (t .playing) .each-grant (p .number) 0 (t .more), playing-admitted (t .playing) .few-heads);
+          state = t .state;
+          past = t .past;
+          lent = t .lent;
+          standing = t .standing;
+        }
+
+    pub turn-turned : (p′ : Progress) (b′ : Buffers) (S : State) (lent : List ℕ) → p′ .number ≡ p .number + 1
+        → p′ .cursor ≡ record { next = c .next; head = c .head; left = c .left - 1 }
+        → b′ ≡ shown (requestsIn file) (step (requestsIn file) S (c .head)) lent
+        → p′ .done ≡ doneOf (happened (requestsIn file) S (c .head)) → Turned file p p′ b′ S lent
+    turn-turned p′ b′ S lent number cursor buffers done =
+        let one : suc (p .number) ≡ p .number + 1 = omega arith in
+        record {
+          number = number;
+          left = ap (remaining (runsIn file)) (cursor ∙ ap (λ k. record { next = k .next; head = k .head; left = k .left - 1 }) is)
+            ∙ opened-rest (runsIn file) (runs-some (t .playing)) (p .cursor) head (drop (suc (p .number)) schedule) before-grant
+            ∙ ap (λ k. drop k schedule) one;
+          buffers = buffers ∙ ap (λ k. shown (requestsIn file) (step (requestsIn file) S k) lent) turn-head;
+          done = done ∙ ap (λ k. doneOf (happened (requestsIn file) S k)) turn-head;
+        }
