@@ -1,47 +1,83 @@
 -- A list that is filled from the front, one place at a time, and a mask that is built from its last flag.
 --
---   Filled d target i l   the places of l before i are those of the target
+--   Filled d value n i l            of the n places of l, those before i have their values
+--   Gathered requests heads h mask  the mask has a bit for each head from h on
 use mathlib.Core.Path.{_≡_, refl, sym, ap, _∙_}
 use mathlib.Core.Bool.{Bool}
 use mathlib.Core.List.{List, [], _∷_, map}
 use Prim.Native.Nat.{ℕ, zero, suc, _+_, _*_, _-_, _^_, _≤_, _<_}
 use native.Mathlib.Omega.{arith}
 use native.Mathlib.Decide.{ℕ-discrete}
-use lib.ListN.{length, getD, set, drop, length-set, length-drop, length-map}
+use lib.ListN.{length, getD, set, drop, length-set, length-drop, length-map, drop-of-length-le}
 use lib.Pow.{pow-mono}
 use lib.Seq.{drop-cons, getD-set-same, getD-set-other, ext-getD}
+use Rattle.process.specs.declared.Head.{Head}
 use Rattle.mask.specs.Mask.{bitOf, maskOf}
-use Rattle.mask.proofs.Laws.{mask-more, mask-bound}
+use Rattle.mask.proofs.Laws.{mask-none, mask-more, mask-bound}
+use Rattle.rules.specs.State.{resting}
+use Rattle.start.specs.Start.{workFlag}
 
-pub record Filled {A : Type 0} (d : A) (target : List A) (i : ℕ) (l : List A) : Type 0 where
-  pub size : length l ≡ length target
-  pub filled : (j : ℕ) → j < i → getD l j d ≡ getD target j d
+pub record Filled {A : Type 0} (d : A) (value : ℕ → A) (n i : ℕ) (l : List A) : Type 0 where
+  pub size : length l ≡ n
+  pub filled : (j : ℕ) → j < i → getD l j d ≡ value j
 
-module _ {A : Type 0} (d : A) (target l : List A) where
-  pub filled-none : length l ≡ length target → Filled d target 0 l
+module _ {A : Type 0} (d : A) (value : ℕ → A) (n : ℕ) (l : List A) where
+  pub filled-none : length l ≡ n → Filled d value n 0 l
   filled-none size = record { size = size; filled = λ j h. absurd (omega arith) }
 
   -- one place more
-  pub filled-on : (i : ℕ) (v : A) → i < length target → v ≡ getD target i d → Filled d target i l → Filled d target (i + 1) (set l i v)
+  pub filled-on : (i : ℕ) (v : A) → i < n → v ≡ value i → Filled d value n i l → Filled d value n (i + 1) (set l i v)
   filled-on i v inside same before =
       record { size = length-set l i v ∙ before .size; filled = λ j h. at j h (ℕ-discrete j i) }
     where
-      at : (j : ℕ) → j < i + 1 → Dec (j ≡ i) → getD (set l i v) j d ≡ getD target j d
+      at : (j : ℕ) → j < i + 1 → Dec (j ≡ i) → getD (set l i v) j d ≡ value j
       at j h (yes e) = rw e (getD-set-same l i v d (omega (arith, before .size)) ∙ same)
       at j h (no e) = getD-set-other l i j v d e ∙ before .filled j (omega arith)
 
-  pub filled-all : (i : ℕ) → length target ≤ i → Filled d target i l → l ≡ target
-  filled-all i all done = ext-getD d l target (done .size) (λ j h. done .filled j (omega (arith, done .size)))
+  -- every place
+  pub filled-all : (target : List A) → length target ≡ n → ((j : ℕ) → j < n → getD target j d ≡ value j)
+      → (i : ℕ) → n ≤ i → Filled d value n i l → l ≡ target
+  filled-all target size same i all done =
+      ext-getD d l target (done .size ∙ sym size)
+      (λ j h. done .filled j (omega (arith, done .size)) ∙ sym (same j (omega (arith, done .size))))
 
--- ---- the mask of the items from h on
+-- ---- the mask of the heads from h on
 
-module _ {A : Type 0} (f : A → Bool) (d : A) (l : List A) where
-  -- one item more, below the others
-  pub mask-on : (h : ℕ) → h < length l → 2 * maskOf (map f (drop (suc h) l)) + bitOf (f (getD l h d)) ≡ maskOf (map f (drop h l))
-  mask-on h inside = sym (ap (λ r. maskOf (map f r)) (drop-cons l h d inside) ∙ mask-more (f (getD l h d)) (map f (drop (suc h) l)))
+pub record Gathered (requests : ℕ) (heads : List Head) (h mask : ℕ) : Type 0 where
+  pub within : h ≤ length heads
+  pub same : mask ≡ maskOf (map (workFlag requests) (drop h heads))
 
-  -- the mask of sixteen items leaves room for one more
-  pub mask-small : (h : ℕ) → length l ≤ 16 → maskOf (map f (drop h l)) < 2 ^ 31
-  mask-small h few =
-      let size : length (map f (drop h l)) ≤ 16 = omega (arith, length-map (drop h l) f, length-drop h l) in
-      omega (arith, mask-bound (map f (drop h l)), pow-mono size)
+module _ (requests : ℕ) (heads : List Head) where
+  pub gathered-none : (h : ℕ) → length heads ≡ h → Gathered requests heads h 0
+  gathered-none h size =
+      record {
+        within = omega arith;
+        same = sym (ap (λ l. maskOf (map (workFlag requests) l)) (drop-of-length-le heads {i = h} (omega arith)) ∙ mask-none);
+      }
+
+  -- the mask of sixteen heads leaves room for a flag more
+  pub gathered-small : (h mask : ℕ) → length heads ≤ 16 → Gathered requests heads h mask → mask < 2 ^ 31
+  gathered-small h mask few before =
+      let flags = map (workFlag requests) (drop h heads) in
+      let size : length flags ≤ 16 = omega (arith, length-map (drop h heads) (workFlag requests), length-drop h heads) in
+      omega (arith, before .same, mask-bound flags, pow-mono size)
+
+  -- one head more, below the others
+  pub gathered-on : (h mask : ℕ) → 0 < h → Gathered requests heads h mask
+      → Gathered requests heads (h - 1) (2 * mask + bitOf (workFlag requests (getD heads (h - 1) (resting 0))))
+  gathered-on zero mask positive before = absurd (omega arith)
+  gathered-on (suc h) mask positive before =
+      let down : suc h - 1 ≡ h = omega arith in
+      let flag = workFlag requests (getD heads h (resting 0)) in
+      rw down
+      (record {
+        within = omega (arith, before .within);
+        same =
+          ap (λ m. 2 * m + bitOf flag) (before .same)
+          ∙ sym (ap (λ l. maskOf (map (workFlag requests) l)) (drop-cons heads h (resting 0) (omega (arith, before .within)))
+            ∙ mask-more flag (map (workFlag requests) (drop (suc h) heads)));
+      })
+
+  pub gathered-all : (h mask : ℕ) → h ≤ 0 → Gathered requests heads h mask → mask ≡ maskOf (map (workFlag requests) heads)
+  gathered-all zero mask none-left all = all .same
+  gathered-all (suc h) mask none-left all = absurd (omega arith)

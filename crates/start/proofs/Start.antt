@@ -1,6 +1,6 @@
 -- What stands before the first grant is the start of the rules, shown on the lent buffers.
 --
--- Main laws: fresh-word, zero-number and first-head, each place of the three at the start; start-rows, the report's
+-- Main laws: fresh-word and first-head, each word and each head at the start; start-rows, the report's
 -- zeros are rows; start-standing, the buffers show the start.
 use mathlib.Core.Path.{_≡_, refl, sym, ap, _∙_, subst}
 use mathlib.Core.List.{List, [], _∷_, map}
@@ -37,11 +37,11 @@ fresh-at i (suc n) (suc j) l =
 pub length-words : (n : ℕ) → length (map encode (fresh n)) ≡ n
 length-words n = length-map (fresh n) encode ∙ length-fresh 0 n
 
-pub fresh-word : (n i : ℕ) → i < n → encode (record { rank = 0; parent = i }) ≡ getD (map encode (fresh n)) i 0
+pub fresh-word : (n i : ℕ) → i < n → getD (map encode (fresh n)) i 0 ≡ encode (record { rank = 0; parent = i })
 fresh-word n i l =
     let same : 0 + i ≡ i = omega arith in
-    sym (getD-mapped encode (fresh n) i noNode 0 (omega (arith, length-fresh 0 n))
-      ∙ ap encode (fresh-at 0 n i l ∙ ap (λ k. record { rank = 0; parent = k }) same))
+    getD-mapped encode (fresh n) i noNode 0 (omega (arith, length-fresh 0 n))
+    ∙ ap encode (fresh-at 0 n i l ∙ ap (λ k. record { rank = 0; parent = k }) same)
 
 -- ---- the heads
 
@@ -52,8 +52,8 @@ heads-at qs h (suc m) (suc k) l =
     let same : suc h + k ≡ h + suc k = omega arith in
     heads-at qs (suc h) m k (omega arith) ∙ ap (λ i. resting (seek qs i 0)) same
 
-pub first-head : (qs : List Request) (h m : ℕ) → h < m → resting (seek qs h 0) ≡ getD (headsFrom qs 0 m) h (resting 0)
-first-head qs h m l = let same : 0 + h ≡ h = omega arith in sym (heads-at qs 0 m h l ∙ ap (λ i. resting (seek qs i 0)) same)
+pub first-head : (qs : List Request) (m h : ℕ) → h < m → getD (headsFrom qs 0 m) h (resting 0) ≡ resting (seek qs h 0)
+first-head qs m h l = let same : 0 + h ≡ h = omega arith in heads-at qs 0 m h l ∙ ap (λ i. resting (seek qs i 0)) same
 
 -- ---- the report
 

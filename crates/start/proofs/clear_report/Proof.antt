@@ -1,45 +1,47 @@
+use mathlib.Core.Path.{refl}
+use borrow.Author.Needs.{needs}
+use native.Mathlib.Omega.{arith}
+use Prim.Native.Nat.{_-_}
+use lib.ListN.{length, replicate, length-replicate, getD-replicate}
+use denote.Ref.{now}
+use Rattle.start.proofs.Filled.{Filled, filled-none, filled-on, filled-all}
 use Rattle.start.proofs.clear_report.Statement.{statement}
 use Rattle.start.proofs.clear_report.Tie as tie
 use Rattle.start.proofs.clear_report.Reads as reads
 use Rattle.start.proofs.clear_report.Lts as lts
 
 abbrev Inv-loop : tie.InvT-loop
-Inv-loop report₀ i₀ report i = ?
+Inv-loop report₀ i₀ report i = Filled 0 (λ j. 0) (length report₀) i report
 
 abbrev μ-loop : tie.MeasureT-loop
-μ-loop report₀ i₀ report i = ?
+μ-loop report₀ i₀ report i = length report₀ - i
 
--- src/lib.rt:37:5
 loop-holds : tie.Need-loop-holds Inv-loop μ-loop
-loop-holds c = ?
+loop-holds c = filled-none 0 (λ j. 0) (length (now (c .args .report))) (now (c .args .report)) refl
 
--- src/lib.rt:38:9
 mul-report : tie.Need-mul-report Inv-loop μ-loop
-mul-report c = ?
+mul-report c = search needs
 
--- src/lib.rt:38:9
 slice-write-report : tie.Need-slice-write-report Inv-loop μ-loop
-slice-write-report c = ?
+slice-write-report c = search needs
 
--- src/lib.rt:39:9
 add-i : tie.Need-add-i Inv-loop μ-loop
-add-i c = ?
+add-i c = search needs
 
--- src/lib.rt:37:5
 loop-less : tie.Need-loop-less Inv-loop μ-loop
-loop-less c = ?
+loop-less c = search needs
 
--- src/lib.rt:37:5
 loop-again : tie.Need-loop-again Inv-loop μ-loop
-loop-again c = ?
+loop-again c = let l = c .before .loop in
+    filled-on 0 (λ j. 0) _ (l .report) (l .i) 0 (omega arith) refl (l .inv)
 
--- src/lib.rt:33:1
 same-length : tie.Need-same-length Inv-loop μ-loop
-same-length c = ?
+same-length c = c .before .loop .inv .size
 
--- src/lib.rt:33:1
 returns : tie.Need-returns Inv-loop μ-loop
-returns c = ?
+returns c = let l = c .before .loop in
+    let n = length (now (c .before .before .args .report)) in
+    filled-all 0 (λ j. 0) n (l .report) (replicate n 0) (length-replicate n 0) (λ j h. getD-replicate n j 0 0 h) (l .i) (omega arith) (l .inv)
 
 pub clear-report-spec : {M : Type 1} → statement M
 clear-report-spec =

@@ -1,3 +1,14 @@
+use mathlib.Core.Path.{refl, ap}
+use borrow.Author.Needs.{needs}
+use native.Mathlib.Omega.{arith}
+use Prim.Native.Nat.{_-_}
+use Rattle.rules.specs.State.{seek, resting, headsFrom}
+use Rattle.rules.proofs.Theorem.{length-heads}
+use Rattle.stepper.specs.Shown.{requestsIn}
+use Rattle.stepper.proofs.Needs.{next-small}
+use denote.Ref.{now}
+use Rattle.start.proofs.Filled.{Filled, filled-none, filled-on, filled-all}
+use Rattle.start.proofs.Start.{first-head}
 use Rattle.start.proofs.first_heads.Statement.{statement}
 use Rattle.start.proofs.first_heads.Tie as tie
 use Rattle.start.proofs.first_heads.Reads as reads
@@ -5,50 +16,44 @@ use Rattle.start.proofs.first_heads.Lts as lts
 use Rattle.stepper.proofs.requests.next_request.Reads as next-request-reads
 
 abbrev Inv-loop : tie.InvT-loop
-Inv-loop file requests first heads₀ h₀ heads h = ?
+Inv-loop file requests first heads₀ h₀ heads h = Filled (resting 0) (λ k. resting (seek (requestsIn file) k 0)) 16 h heads
 
 abbrev μ-loop : tie.MeasureT-loop
-μ-loop file requests first heads₀ h₀ heads h = ?
+μ-loop file requests first heads₀ h₀ heads h = 16 - h
 
--- src/lib.rt:56:5
 loop-holds : tie.Need-loop-holds Inv-loop μ-loop
-loop-holds c = ?
+loop-holds c = filled-none (resting 0) (λ k. resting (seek (requestsIn (now (c .before .args .file))) k 0)) 16 _ refl
 
--- src/lib.rt:57:13
 next-request-requires : tie.Need-next-request-requires Inv-loop μ-loop
-next-request-requires c κs = ?
+next-request-requires c κs = (c .before .before .before .pre, omega arith)
 
--- src/lib.rt:59:22
 cast-t9 : tie.Need-cast-t9 Inv-loop μ-loop
-cast-t9 c = ?
+cast-t9 c = omega (arith, c .next-request .ensures, next-small (c .before .before .before .before .pre) (c .before .before .loop .h) 0 (omega arith))
 
--- src/lib.rt:58:15
 cast-heads : tie.Need-cast-heads Inv-loop μ-loop
-cast-heads c = ?
+cast-heads c = search needs
 
--- src/lib.rt:58:9
 mul-heads : tie.Need-mul-heads Inv-loop μ-loop
-mul-heads c = ?
+mul-heads c = search needs
 
--- src/lib.rt:58:9
 array-set-from-heads : tie.Need-array-set-from-heads Inv-loop μ-loop
-array-set-from-heads c = ?
+array-set-from-heads c = search needs
 
--- src/lib.rt:62:9
 add-h : tie.Need-add-h Inv-loop μ-loop
-add-h c = ?
+add-h c = search needs
 
--- src/lib.rt:56:5
 loop-less : tie.Need-loop-less Inv-loop μ-loop
-loop-less c = ?
+loop-less c = search needs
 
--- src/lib.rt:56:5
 loop-again : tie.Need-loop-again Inv-loop μ-loop
-loop-again c = ?
+loop-again c = let l = c .before .before .loop in
+    filled-on (resting 0) (λ k. resting (seek (requestsIn (now (c .before .before .before .before .args .file))) k 0)) 16 (l .heads) (l .h) _ (omega arith)
+    (ap resting (c .next-request .ensures)) (l .inv)
 
--- src/lib.rt:44:1
 returns : tie.Need-returns Inv-loop μ-loop
-returns c = ?
+returns c = let l = c .before .loop in
+    let qs = requestsIn (now (c .before .before .before .args .file)) in
+    filled-all (resting 0) (λ k. resting (seek qs k 0)) 16 (l .heads) (headsFrom qs 0 16) (length-heads qs 0 16) (first-head qs 16) (l .h) (omega arith) (l .inv)
 
 pub first-heads-spec : {M : Type 1} → statement M
 first-heads-spec =

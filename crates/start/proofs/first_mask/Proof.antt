@@ -1,3 +1,6 @@
+use borrow.Author.Needs.{needs}
+use native.Mathlib.Omega.{arith}
+use Rattle.start.proofs.Filled.{Gathered, gathered-none, gathered-on, gathered-all, gathered-small}
 use Rattle.start.proofs.first_mask.Statement.{statement}
 use Rattle.start.proofs.first_mask.Tie as tie
 use Rattle.start.proofs.first_mask.Reads as reads
@@ -5,46 +8,42 @@ use Rattle.start.proofs.first_mask.Lts as lts
 use Rattle.mask.proofs.pushed.Reads as pushed-reads
 
 abbrev Inv-loop : tie.InvT-loop
-Inv-loop requests heads mask₀ h₀ mask h = ?
+Inv-loop requests heads mask₀ h₀ mask h = Gathered requests heads h mask
 
 abbrev μ-loop : tie.MeasureT-loop
-μ-loop requests heads mask₀ h₀ mask h = ?
+μ-loop requests heads mask₀ h₀ mask h = h
 
--- src/lib.rt:73:5
 loop-holds : tie.Need-loop-holds Inv-loop μ-loop
-loop-holds c = ?
+loop-holds c = gathered-none (c .args .requests) (c .args .t1) 16 (search needs)
 
--- src/lib.rt:74:9
 sub-h : tie.Need-sub-h Inv-loop μ-loop
-sub-h c = ?
+sub-h c = search needs
 
--- src/lib.rt:75:20
 mul-head : tie.Need-mul-head Inv-loop μ-loop
-mul-head c = ?
+mul-head c = search needs
 
--- src/lib.rt:75:20
 array-copy-out-head : tie.Need-array-copy-out-head Inv-loop μ-loop
-array-copy-out-head c = ?
+array-copy-out-head c = search needs
 
--- src/lib.rt:76:36
 cast-pushed : tie.Need-cast-pushed Inv-loop μ-loop
-cast-pushed c = ?
+cast-pushed c = search needs
 
--- src/lib.rt:76:9
 pushed-requires : tie.Need-pushed-requires Inv-loop μ-loop
-pushed-requires c κs = ?
+pushed-requires c κs = let l = c .before .before .before .loop in
+    let k = c .before .before .before .before in
+    gathered-small (k .args .requests) (k .args .t1) (l .h) (l .mask) (omega arith) (l .inv)
 
--- src/lib.rt:73:5
 loop-less : tie.Need-loop-less Inv-loop μ-loop
-loop-less c = ?
+loop-less c = search needs
 
--- src/lib.rt:73:5
 loop-again : tie.Need-loop-again Inv-loop μ-loop
-loop-again c = ?
+loop-again c = let l = c .before .before .before .before .loop in
+    let k = c .before .before .before .before .before in
+    rw (c .pushed .ensures) (gathered-on (k .args .requests) (k .args .t1) (l .h) (l .mask) (omega arith) (l .inv))
 
--- src/lib.rt:68:1
 returns : tie.Need-returns Inv-loop μ-loop
-returns c = ?
+returns c = let l = c .before .loop in
+    gathered-all (c .before .before .args .requests) (c .before .before .args .t1) (l .h) (l .mask) (omega arith) (l .inv)
 
 pub first-mask-spec : {M : Type 1} → statement M
 first-mask-spec =

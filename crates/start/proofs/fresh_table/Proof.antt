@@ -1,3 +1,14 @@
+use mathlib.Core.Path.{refl}
+use borrow.Author.Needs.{needs}
+use native.Mathlib.Omega.{arith}
+use mathlib.Core.List.{map}
+use Prim.Native.Nat.{_-_}
+use lib.ListN.{length}
+use denote.Ref.{now}
+use Rattle.word.specs.Word.{encode}
+use Rattle.rules.specs.Table.{fresh}
+use Rattle.start.proofs.Filled.{Filled, filled-none, filled-on, filled-all}
+use Rattle.start.proofs.Start.{length-words, fresh-word}
 use Rattle.start.proofs.fresh_table.Statement.{statement}
 use Rattle.start.proofs.fresh_table.Tie as tie
 use Rattle.start.proofs.fresh_table.Reads as reads
@@ -5,50 +16,43 @@ use Rattle.start.proofs.fresh_table.Lts as lts
 use Rattle.word.proofs.encoded.Reads as encoded-reads
 
 abbrev Inv-loop : tie.InvT-loop
-Inv-loop table₀ i₀ table i = ?
+Inv-loop table₀ i₀ table i = Filled 0 (λ j. encode (record { rank = 0; parent = j })) (length table₀) i table
 
 abbrev μ-loop : tie.MeasureT-loop
-μ-loop table₀ i₀ table i = ?
+μ-loop table₀ i₀ table i = length table₀ - i
 
--- src/lib.rt:23:5
 loop-holds : tie.Need-loop-holds Inv-loop μ-loop
-loop-holds c = ?
+loop-holds c = let t = now (c .before .args .table) in filled-none 0 (λ j. encode (record { rank = 0; parent = j })) (length t) t refl
 
--- src/lib.rt:26:21
 cast-t6 : tie.Need-cast-t6 Inv-loop μ-loop
-cast-t6 c = ?
+cast-t6 c = search needs
 
--- src/lib.rt:24:20
 encoded-requires : tie.Need-encoded-requires Inv-loop μ-loop
-encoded-requires c κs = ?
+encoded-requires c κs = search needs
 
--- src/lib.rt:24:9
 mul-table : tie.Need-mul-table Inv-loop μ-loop
-mul-table c = ?
+mul-table c = search needs
 
--- src/lib.rt:24:9
 slice-write-table : tie.Need-slice-write-table Inv-loop μ-loop
-slice-write-table c = ?
+slice-write-table c = search needs
 
--- src/lib.rt:28:9
 add-i : tie.Need-add-i Inv-loop μ-loop
-add-i c = ?
+add-i c = search needs
 
--- src/lib.rt:23:5
 loop-less : tie.Need-loop-less Inv-loop μ-loop
-loop-less c = ?
+loop-less c = search needs
 
--- src/lib.rt:23:5
 loop-again : tie.Need-loop-again Inv-loop μ-loop
-loop-again c = ?
+loop-again c = let l = c .before .before .loop in
+    filled-on 0 (λ j. encode (record { rank = 0; parent = j })) _ (l .table) (l .i) _ (omega arith) (c .encoded .ensures) (l .inv)
 
--- src/lib.rt:18:1
 same-length : tie.Need-same-length Inv-loop μ-loop
-same-length c = ?
+same-length c = c .before .loop .inv .size
 
--- src/lib.rt:18:1
 returns : tie.Need-returns Inv-loop μ-loop
-returns c = ?
+returns c = let l = c .before .loop in
+    let n = length (now (c .before .before .before .args .table)) in
+    filled-all 0 (λ j. encode (record { rank = 0; parent = j })) n (l .table) (map encode (fresh n)) (length-words n) (fresh-word n) (l .i) (omega arith) (l .inv)
 
 pub fresh-table-spec : {M : Type 1} → statement M
 fresh-table-spec =
