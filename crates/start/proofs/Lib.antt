@@ -1,3 +1,3 @@
--- The laws of the start that the player cites, and what the loops of the code keep.
-pub mod Filled
+-- What the loops of the code keep, and the laws of the start on the lent buffers.
+pub mod Loops
 pub mod Start

@@ -1,28 +1,26 @@
+-- `start::first_heads`: the heads before h rest before their first request.
 use mathlib.Core.Path.{refl, ap}
 use borrow.Author.Needs.{needs}
 use native.Mathlib.Omega.{arith}
 use Prim.Native.Nat.{_-_}
-use Rattle.rules.specs.State.{seek, resting, headsFrom}
+use Rattle.rules.specs.State.{resting, headsFrom}
 use Rattle.rules.proofs.Theorem.{length-heads}
 use Rattle.stepper.specs.Shown.{requestsIn}
 use Rattle.stepper.proofs.Needs.{next-small}
 use denote.Ref.{now}
-use Rattle.start.proofs.Filled.{Filled, filled-none, filled-on, filled-all}
-use Rattle.start.proofs.Start.{first-head}
+use Rattle.start.proofs.Loops.{Filled, filled-none, filled-on, filled-all}
+use Rattle.start.proofs.Start.{firstHead, first-head}
 use Rattle.start.proofs.first_heads.Statement.{statement}
 use Rattle.start.proofs.first_heads.Tie as tie
-use Rattle.start.proofs.first_heads.Reads as reads
-use Rattle.start.proofs.first_heads.Lts as lts
-use Rattle.stepper.proofs.requests.next_request.Reads as next-request-reads
 
 abbrev Inv-loop : tie.InvT-loop
-Inv-loop file requests first heads₀ h₀ heads h = Filled (resting 0) (λ k. resting (seek (requestsIn file) k 0)) 16 h heads
+Inv-loop file requests first heads₀ h₀ heads h = Filled (resting 0) (firstHead (requestsIn file)) 16 h heads
 
 abbrev μ-loop : tie.MeasureT-loop
 μ-loop file requests first heads₀ h₀ heads h = 16 - h
 
 loop-holds : tie.Need-loop-holds Inv-loop μ-loop
-loop-holds c = filled-none (resting 0) (λ k. resting (seek (requestsIn (now (c .before .args .file))) k 0)) 16 _ refl
+loop-holds c = filled-none (resting 0) (firstHead (requestsIn (now (c .before .args .file)))) 16 _ refl
 
 next-request-requires : tie.Need-next-request-requires Inv-loop μ-loop
 next-request-requires c κs = (c .before .before .before .pre, omega arith)
@@ -46,14 +44,16 @@ loop-less : tie.Need-loop-less Inv-loop μ-loop
 loop-less c = search needs
 
 loop-again : tie.Need-loop-again Inv-loop μ-loop
-loop-again c = let l = c .before .before .loop in
-    filled-on (resting 0) (λ k. resting (seek (requestsIn (now (c .before .before .before .before .args .file))) k 0)) 16 (l .heads) (l .h) _ (omega arith)
+loop-again c =
+    let l = c .before .before .loop in
+    filled-on (resting 0) (firstHead (requestsIn (now (c .before .before .before .before .args .file)))) 16 (l .heads) (l .h) _ (omega arith)
     (ap resting (c .next-request .ensures)) (l .inv)
 
 returns : tie.Need-returns Inv-loop μ-loop
-returns c = let l = c .before .loop in
+returns c =
+    let l = c .before .loop in
     let qs = requestsIn (now (c .before .before .before .args .file)) in
-    filled-all (resting 0) (λ k. resting (seek qs k 0)) 16 (l .heads) (headsFrom qs 0 16) (length-heads qs 0 16) (first-head qs 16) (l .h) (omega arith) (l .inv)
+    filled-all (resting 0) (firstHead qs) 16 (l .heads) (headsFrom qs 0 16) (length-heads qs 0 16) (first-head qs 16) (l .h) (omega arith) (l .inv)
 
 pub first-heads-spec : {M : Type 1} → statement M
 first-heads-spec =

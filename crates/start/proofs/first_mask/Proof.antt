@@ -1,11 +1,9 @@
+-- `start::first_mask`: the mask has a bit for each head from h on.
 use borrow.Author.Needs.{needs}
 use native.Mathlib.Omega.{arith}
-use Rattle.start.proofs.Filled.{Gathered, gathered-none, gathered-on, gathered-all, gathered-small}
+use Rattle.start.proofs.Loops.{Gathered, gathered-none, gathered-on, gathered-all, gathered-small}
 use Rattle.start.proofs.first_mask.Statement.{statement}
 use Rattle.start.proofs.first_mask.Tie as tie
-use Rattle.start.proofs.first_mask.Reads as reads
-use Rattle.start.proofs.first_mask.Lts as lts
-use Rattle.mask.proofs.pushed.Reads as pushed-reads
 
 abbrev Inv-loop : tie.InvT-loop
 Inv-loop requests heads mask₀ h₀ mask h = Gathered requests heads h mask
@@ -29,7 +27,8 @@ cast-pushed : tie.Need-cast-pushed Inv-loop μ-loop
 cast-pushed c = search needs
 
 pushed-requires : tie.Need-pushed-requires Inv-loop μ-loop
-pushed-requires c κs = let l = c .before .before .before .loop in
+pushed-requires c κs =
+    let l = c .before .before .before .loop in
     let k = c .before .before .before .before in
     gathered-small (k .args .requests) (k .args .t1) (l .h) (l .mask) (omega arith) (l .inv)
 
@@ -37,12 +36,14 @@ loop-less : tie.Need-loop-less Inv-loop μ-loop
 loop-less c = search needs
 
 loop-again : tie.Need-loop-again Inv-loop μ-loop
-loop-again c = let l = c .before .before .before .before .loop in
+loop-again c =
+    let l = c .before .before .before .before .loop in
     let k = c .before .before .before .before .before in
     rw (c .pushed .ensures) (gathered-on (k .args .requests) (k .args .t1) (l .h) (l .mask) (omega arith) (l .inv))
 
 returns : tie.Need-returns Inv-loop μ-loop
-returns c = let l = c .before .loop in
+returns c =
+    let l = c .before .loop in
     gathered-all (c .before .before .args .requests) (c .before .before .args .t1) (l .h) (l .mask) (omega arith) (l .inv)
 
 pub first-mask-spec : {M : Type 1} → statement M

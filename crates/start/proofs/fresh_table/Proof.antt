@@ -1,3 +1,4 @@
+-- `start::fresh_table`: the nodes before i are their own parents.
 use mathlib.Core.Path.{refl}
 use borrow.Author.Needs.{needs}
 use native.Mathlib.Omega.{arith}
@@ -7,22 +8,19 @@ use lib.ListN.{length}
 use denote.Ref.{now}
 use Rattle.word.specs.Word.{encode}
 use Rattle.rules.specs.Table.{fresh}
-use Rattle.start.proofs.Filled.{Filled, filled-none, filled-on, filled-all}
-use Rattle.start.proofs.Start.{length-words, fresh-word}
+use Rattle.start.proofs.Loops.{Filled, filled-none, filled-on, filled-all}
+use Rattle.start.proofs.Start.{firstWord, length-words, fresh-word}
 use Rattle.start.proofs.fresh_table.Statement.{statement}
 use Rattle.start.proofs.fresh_table.Tie as tie
-use Rattle.start.proofs.fresh_table.Reads as reads
-use Rattle.start.proofs.fresh_table.Lts as lts
-use Rattle.word.proofs.encoded.Reads as encoded-reads
 
 abbrev Inv-loop : tie.InvT-loop
-Inv-loop table₀ i₀ table i = Filled 0 (λ j. encode (record { rank = 0; parent = j })) (length table₀) i table
+Inv-loop table₀ i₀ table i = Filled 0 firstWord (length table₀) i table
 
 abbrev μ-loop : tie.MeasureT-loop
 μ-loop table₀ i₀ table i = length table₀ - i
 
 loop-holds : tie.Need-loop-holds Inv-loop μ-loop
-loop-holds c = let t = now (c .before .args .table) in filled-none 0 (λ j. encode (record { rank = 0; parent = j })) (length t) t refl
+loop-holds c = let t = now (c .before .args .table) in filled-none 0 firstWord (length t) t refl
 
 cast-t6 : tie.Need-cast-t6 Inv-loop μ-loop
 cast-t6 c = search needs
@@ -43,16 +41,18 @@ loop-less : tie.Need-loop-less Inv-loop μ-loop
 loop-less c = search needs
 
 loop-again : tie.Need-loop-again Inv-loop μ-loop
-loop-again c = let l = c .before .before .loop in
-    filled-on 0 (λ j. encode (record { rank = 0; parent = j })) _ (l .table) (l .i) _ (omega arith) (c .encoded .ensures) (l .inv)
+loop-again c =
+    let l = c .before .before .loop in
+    filled-on 0 firstWord _ (l .table) (l .i) _ (omega arith) (c .encoded .ensures) (l .inv)
 
 same-length : tie.Need-same-length Inv-loop μ-loop
 same-length c = c .before .loop .inv .size
 
 returns : tie.Need-returns Inv-loop μ-loop
-returns c = let l = c .before .loop in
+returns c =
+    let l = c .before .loop in
     let n = length (now (c .before .before .before .args .table)) in
-    filled-all 0 (λ j. encode (record { rank = 0; parent = j })) n (l .table) (map encode (fresh n)) (length-words n) (fresh-word n) (l .i) (omega arith) (l .inv)
+    filled-all 0 firstWord n (l .table) (map encode (fresh n)) (length-words n) (fresh-word n) (l .i) (omega arith) (l .inv)
 
 pub fresh-table-spec : {M : Type 1} → statement M
 fresh-table-spec =

@@ -1,10 +1,9 @@
--- A list that is filled from the front, one place at a time, and a mask that is built from its last flag.
+-- What the loops of the code keep: a list is filled from the front, and a mask is built from its last flag.
 --
 --   Filled d value n i l            of the n places of l, those before i have their values
 --   Gathered requests heads h mask  the mask has a bit for each head from h on
-use mathlib.Core.Path.{_≡_, refl, sym, ap, _∙_}
-use mathlib.Core.Bool.{Bool}
-use mathlib.Core.List.{List, [], _∷_, map}
+use mathlib.Core.Path.{_≡_, sym, ap, _∙_}
+use mathlib.Core.List.{List, map}
 use Prim.Native.Nat.{ℕ, zero, suc, _+_, _*_, _-_, _^_, _≤_, _<_}
 use native.Mathlib.Omega.{arith}
 use native.Mathlib.Decide.{ℕ-discrete}
@@ -73,8 +72,8 @@ module _ (requests : ℕ) (heads : List Head) where
       (record {
         within = omega (arith, before .within);
         same =
-          ap (λ m. 2 * m + bitOf flag) (before .same)
-          ∙ sym (ap (λ l. maskOf (map (workFlag requests) l)) (drop-cons heads h (resting 0) (omega (arith, before .within)))
+            ap (λ m. 2 * m + bitOf flag) (before .same)
+            ∙ sym (ap (λ l. maskOf (map (workFlag requests) l)) (drop-cons heads h (resting 0) (omega (arith, before .within)))
             ∙ mask-more flag (map (workFlag requests) (drop (suc h) heads)));
       })
 
