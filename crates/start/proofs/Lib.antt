@@ -1,0 +1,3 @@
+-- What the loops of the code keep, and the laws of the start on the lent buffers.
+pub mod Loops
+pub mod Start

@@ -1,0 +1,82 @@
+-- What the loops of the code keep: a list is filled from the front, and a mask is built from its last flag.
+--
+--   Filled d value n i l            of the n places of l, those before i have their values
+--   Gathered requests heads h mask  the mask has a bit for each head from h on
+use mathlib.Core.Path.{_≡_, sym, ap, _∙_}
+use mathlib.Core.List.{List, map}
+use Prim.Native.Nat.{ℕ, zero, suc, _+_, _*_, _-_, _^_, _≤_, _<_}
+use native.Mathlib.Omega.{arith}
+use native.Mathlib.Decide.{ℕ-discrete}
+use lib.ListN.{length, getD, set, drop, length-set, length-drop, length-map, drop-of-length-le}
+use lib.Pow.{pow-mono}
+use lib.Seq.{drop-cons, getD-set-same, getD-set-other, ext-getD}
+use Rattle.process.specs.declared.Head.{Head}
+use Rattle.mask.specs.Mask.{bitOf, maskOf}
+use Rattle.mask.proofs.Laws.{mask-none, mask-more, mask-bound}
+use Rattle.rules.specs.State.{resting}
+use Rattle.start.specs.Start.{workFlag}
+
+pub record Filled {A : Type 0} (d : A) (value : ℕ → A) (n i : ℕ) (l : List A) : Type 0 where
+  pub size : length l ≡ n
+  pub filled : (j : ℕ) → j < i → getD l j d ≡ value j
+
+module _ {A : Type 0} (d : A) (value : ℕ → A) (n : ℕ) (l : List A) where
+  pub filled-none : length l ≡ n → Filled d value n 0 l
+  filled-none size = record { size = size; filled = λ j h. absurd (omega arith) }
+
+  -- one place more
+  pub filled-on : (i : ℕ) (v : A) → i < n → v ≡ value i → Filled d value n i l → Filled d value n (i + 1) (set l i v)
+  filled-on i v inside same before =
+      record { size = length-set l i v ∙ before .size; filled = λ j h. at j h (ℕ-discrete j i) }
+    where
+      at : (j : ℕ) → j < i + 1 → Dec (j ≡ i) → getD (set l i v) j d ≡ value j
+      at j h (yes e) = rw e (getD-set-same l i v d (omega (arith, before .size)) ∙ same)
+      at j h (no e) = getD-set-other l i j v d e ∙ before .filled j (omega arith)
+
+  -- every place
+  pub filled-all : (target : List A) → length target ≡ n → ((j : ℕ) → j < n → getD target j d ≡ value j)
+      → (i : ℕ) → n ≤ i → Filled d value n i l → l ≡ target
+  filled-all target size same i all done =
+      ext-getD d l target (done .size ∙ sym size)
+      (λ j h. done .filled j (omega (arith, done .size)) ∙ sym (same j (omega (arith, done .size))))
+
+-- ---- the mask of the heads from h on
+
+pub record Gathered (requests : ℕ) (heads : List Head) (h mask : ℕ) : Type 0 where
+  pub within : h ≤ length heads
+  pub same : mask ≡ maskOf (map (workFlag requests) (drop h heads))
+
+module _ (requests : ℕ) (heads : List Head) where
+  pub gathered-none : (h : ℕ) → length heads ≡ h → Gathered requests heads h 0
+  gathered-none h size =
+      record {
+        within = omega arith;
+        same = sym (ap (λ l. maskOf (map (workFlag requests) l)) (drop-of-length-le heads {i = h} (omega arith)) ∙ mask-none);
+      }
+
+  -- the mask of sixteen heads leaves room for a flag more
+  pub gathered-small : (h mask : ℕ) → length heads ≤ 16 → Gathered requests heads h mask → mask < 2 ^ 31
+  gathered-small h mask few before =
+      let flags = map (workFlag requests) (drop h heads) in
+      let size : length flags ≤ 16 = omega (arith, length-map (drop h heads) (workFlag requests), length-drop h heads) in
+      omega (arith, before .same, mask-bound flags, pow-mono size)
+
+  -- one head more, below the others
+  pub gathered-on : (h mask : ℕ) → 0 < h → Gathered requests heads h mask
+      → Gathered requests heads (h - 1) (2 * mask + bitOf (workFlag requests (getD heads (h - 1) (resting 0))))
+  gathered-on zero mask positive before = absurd (omega arith)
+  gathered-on (suc h) mask positive before =
+      let down : suc h - 1 ≡ h = omega arith in
+      let flag = workFlag requests (getD heads h (resting 0)) in
+      rw down
+      (record {
+        within = omega (arith, before .within);
+        same =
+            ap (λ m. 2 * m + bitOf flag) (before .same)
+            ∙ sym (ap (λ l. maskOf (map (workFlag requests) l)) (drop-cons heads h (resting 0) (omega (arith, before .within)))
+            ∙ mask-more flag (map (workFlag requests) (drop (suc h) heads)));
+      })
+
+  pub gathered-all : (h mask : ℕ) → h ≤ 0 → Gathered requests heads h mask → mask ≡ maskOf (map (workFlag requests) heads)
+  gathered-all zero mask none-left all = all .same
+  gathered-all (suc h) mask none-left all = absurd (omega arith)

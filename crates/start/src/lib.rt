@@ -1,0 +1,79 @@
+// What stands before the first grant: the table's start, the report's zeros, and every head before its first request.
+use process::Head;
+use process::Stage;
+use stepper::requests::next_request;
+use word::Node;
+ghost use mathlib.Core.Path.{_≡_};
+ghost use mathlib.Core.List.{map};
+ghost use Prim.Native.Nat.{_≤_};
+ghost use lib.ListN.{length, replicate};
+ghost use Rattle.word.specs.Word.{encode, nodeLimit};
+ghost use Rattle.mask.specs.Mask.{maskOf};
+ghost use Rattle.rules.specs.Table.{fresh};
+ghost use Rattle.rules.specs.State.{headsFrom};
+ghost use Rattle.stepper.specs.Shown.{requestsIn, Playing};
+ghost use Rattle.start.specs.Start.{workFlag};
+
+// Each node its own parent, rank 0.
+pub fn fresh_table(table: &mut [u32])
+    requires { ⌜ length (now table) ≤ nodeLimit ⌝ }
+    ensures { λ r. ⌜ now (table .exit) ≡ map encode (fresh (length (now (table .entry)))) ⌝ }
+{
+    let mut i: usize = 0;
+    while i < table.len() {
+        table[i] = word::encoded(Node {
+            rank: 0,
+            parent: i as u16,
+        });
+        i += 1;
+    }
+}
+
+// The requests' report numbers zero.
+pub fn clear_report(report: &mut [u32])
+    ensures { λ r. ⌜ now (report .exit) ≡ replicate (length (now (report .entry))) 0 ⌝ }
+{
+    let mut i: usize = 0;
+    while i < report.len() {
+        report[i] = 0;
+        i += 1;
+    }
+}
+
+// Every head resting before its first request.
+pub fn first_heads(file: &[u8], requests: u32) -> [Head; 16]
+    requires { ⌜ Playing (now file) requests ⌝ }
+    ensures { λ r. ⌜ r ≡ headsFrom (requestsIn (now (file .entry))) 0 16 ⌝ }
+{
+    let first = Head {
+        stage: Stage::Resting,
+        x: 0,
+        y: 0,
+        request: 0,
+    };
+    let mut heads = [first; 16];
+    let mut h: u32 = 0;
+    while h < 16 {
+        let next = next_request(file, requests, h, 0);
+        heads[h as usize] = Head {
+            request: next as u16,
+            ..first
+        };
+        h += 1;
+    }
+    heads
+}
+
+// The work mask of the heads: a bit for each that has a request left.
+pub fn first_mask(heads: [Head; 16], requests: u32) -> u32
+    ensures { λ r. ⌜ r ≡ maskOf (map (workFlag requests) heads) ⌝ }
+{
+    let mut mask: u32 = 0;
+    let mut h: usize = 16;
+    while 0 < h {
+        h -= 1;
+        let head = heads[h];
+        mask = mask::pushed(mask, (head.request as u32) < requests);
+    }
+    mask
+}
