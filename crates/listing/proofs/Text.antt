@@ -101,10 +101,13 @@ fields-short [] h = omega arith
 fields-short (n ∷ ns) h =
     omega (arith, length-append (32 ∷ decimal n) (fields ns), decimal-short n (h .0), fields-short ns (h .1))
 
-pub line-short : (name ns : List ℕ) → Narrow ns → length (line name ns) ≤ length name + 11 * length ns + 1
+pub line-length : (name ns : List ℕ) → length (line name ns) ≡ length name + length (fields ns) + 1
 unfolding line
-line-short name ns h =
-    omega (arith, length-append name (fields ns ++ (10 ∷ [])), length-append (fields ns) (10 ∷ []), fields-short ns h)
+line-length name ns =
+    omega (arith, length-append name (fields ns ++ (10 ∷ [])), length-append (fields ns) (10 ∷ []))
+
+pub line-short : (name ns : List ℕ) → Narrow ns → length (line name ns) ≤ length name + 11 * length ns + 1
+line-short name ns h = omega (arith, line-length name ns, fields-short ns h)
 
 pub each-short : (f : ℕ → List ℕ) (n : ℕ) → ((i : ℕ) → i < n → length (f i) ≤ 64) → length (each f n) ≤ 64 * n
 unfolding each

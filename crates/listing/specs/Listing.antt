@@ -69,11 +69,11 @@ module _ (played : Played) (table report linearization : List ℕ) where
       ++ (each (row Requests report) (played .requests)
       ++ each (row Entries linearization) (played .entries))
 
+  abbrev pub accepted : List ℕ
+  accepted = jobLine played ++ (rows ++ tallyLine (played .tally))
+
   unfoldable pub listing : List ℕ
-  listing =
-      cond (eqb (played .number) 0)
-      (jobLine played ++ (rows ++ tallyLine (played .tally)))
-      (refusedLine (played .number))
+  listing = cond (eqb (played .number) 0) accepted (refusedLine (played .number))
 
   -- 14: table shorter than the places, report shorter than four numbers a request, linearization shorter than two an entry.
   abbrev pub sourcesShort : Bool

@@ -4,13 +4,12 @@ mod lines;
 use job::Played;
 use job::Tally;
 ghost use mathlib.Core.Path.{_≡_};
-ghost use mathlib.Core.List.{_++_};
 ghost use Prim.Native.Nat.{_+_, _*_, _^_, _<_, _≤_};
 ghost use lib.Dec.{ltb};
 ghost use lib.ListN.{length};
 ghost use Rattle.listing.specs.Text.{each};
-ghost use Rattle.listing.specs.Writing.{Wrote};
-ghost use Rattle.listing.specs.Listing.{row, rows, rowSize, jobLine, tallyLine, refusedLine, listing, sourcesShort, listed, printed};
+ghost use Rattle.listing.specs.Writing.{Wrote, Enough};
+ghost use Rattle.listing.specs.Listing.{row, rows, rowSize, jobLine, tallyLine, refusedLine, accepted, listing, sourcesShort, listed, printed};
 
 // The parts of the text that have a line for each node, request or entry.
 pub enum Section {
@@ -36,4 +35,172 @@ fn put_word(table: &[u32], i: u32, out: &mut [u8], at: usize) -> usize
     let rank = word::rank(word);
     let numbers = [i, parent, rank];
     lines::put_line(out, at, b"word", &numbers)
+}
+
+// Writes the line of request i.
+fn put_request(report: &[u32], i: u32, out: &mut [u8], at: usize) -> usize
+    requires { ⌜ 4 * (i + 1) ≤ length (now report) ⌝ }
+    requires { ⌜ at + length (row Section.Requests (now report) i) < 2 ^ 64 ⌝ }
+    ensures { λ r. ⌜ Wrote (row Section.Requests (now (report .entry)) i) at (now (out .entry)) (now (out .exit)) r ⌝ }
+{
+    let base = 4 * (i as usize);
+    let numbers = [i, report[base], report[base + 1], report[base + 2], report[base + 3]];
+    lines::put_line(out, at, b"request", &numbers)
+}
+
+// Writes the line of entry i.
+fn put_entry(linearization: &[u32], i: u32, out: &mut [u8], at: usize) -> usize
+    requires { ⌜ 2 * (i + 1) ≤ length (now linearization) ⌝ }
+    requires { ⌜ at + length (row Section.Entries (now linearization) i) < 2 ^ 64 ⌝ }
+    ensures { λ r. ⌜ Wrote (row Section.Entries (now (linearization .entry)) i) at (now (out .entry)) (now (out .exit)) r ⌝ }
+{
+    let base = 2 * (i as usize);
+    let numbers = [linearization[base], linearization[base + 1]];
+    lines::put_line(out, at, b"line", &numbers)
+}
+
+// Writes line i of a section.
+fn put_row(section: Section, buffer: &[u32], i: u32, out: &mut [u8], at: usize) -> usize
+    requires { ⌜ rowSize section * (i + 1) ≤ length (now buffer) ⌝ }
+    requires { ⌜ at + length (row section (now buffer) i) < 2 ^ 64 ⌝ }
+    ensures { λ r. ⌜ Wrote (row section (now (buffer .entry)) i) at (now (out .entry)) (now (out .exit)) r ⌝ }
+{
+    match section {
+        Section::Words => put_word(buffer, i, out, at),
+        Section::Requests => put_request(buffer, i, out, at),
+        Section::Entries => put_entry(buffer, i, out, at),
+    }
+}
+
+// Writes the first lines of a section, as many as `count`.
+fn put_rows(section: Section, buffer: &[u32], count: u32, out: &mut [u8], at: usize) -> usize
+    requires { ⌜ rowSize section * count ≤ length (now buffer) ⌝ }
+    requires { ⌜ at + length (each (row section (now buffer)) count) < 2 ^ 64 ⌝ }
+    ensures { λ r. ⌜ Wrote (each (row section (now (buffer .entry))) count) at (now (out .entry)) (now (out .exit)) r ⌝ }
+{
+    let mut next = at;
+    let mut i = 0;
+    while i < count {
+        next = put_row(section, buffer, i, out, next);
+        i += 1;
+    }
+    next
+}
+
+// Writes all sections.
+fn put_sections(played: Played, table: &[u32], report: &[u32], linearization: &[u32], out: &mut [u8], at: usize) -> usize
+    requires { ⌜ Enough played (now table) (now report) (now linearization) ⌝ }
+    requires { ⌜ at + length (rows played (now table) (now report) (now linearization)) < 2 ^ 64 ⌝ }
+    ensures { λ r. ⌜ Wrote (rows played (now (table .entry)) (now (report .entry)) (now (linearization .entry))) at (now (out .entry)) (now (out .exit)) r ⌝ }
+{
+    let words = put_rows(Section::Words, table, played.nodes, out, at);
+    let requests = put_rows(Section::Requests, report, played.requests, out, words);
+    put_rows(Section::Entries, linearization, played.entries, out, requests)
+}
+
+// Writes the job's line.
+fn put_job(played: Played, out: &mut [u8]) -> usize
+    requires { ⌜ length (jobLine played) < 2 ^ 64 ⌝ }
+    ensures { λ r. ⌜ Wrote (jobLine played) 0 (now (out .entry)) (now (out .exit)) r ⌝ }
+{
+    let numbers = [played.nodes, played.heads, played.requests, played.grants];
+    lines::put_line(out, 0, b"job", &numbers)
+}
+
+// Writes the tally's line.
+fn put_tally(tally: Tally, out: &mut [u8], at: usize) -> usize
+    requires { ⌜ at + length (tallyLine tally) < 2 ^ 64 ⌝ }
+    ensures { λ r. ⌜ Wrote (tallyLine tally) at (now (out .entry)) (now (out .exit)) r ⌝ }
+{
+    let numbers = [tally.idle, tally.failed, tally.links, tally.working];
+    lines::put_line(out, at, b"tally", &numbers)
+}
+
+// Writes a refusal's line.
+fn put_refused(number: u32, out: &mut [u8]) -> usize
+    requires { ⌜ length (refusedLine number) < 2 ^ 64 ⌝ }
+    ensures { λ r. ⌜ Wrote (refusedLine number) 0 (now (out .entry)) (now (out .exit)) r ⌝ }
+{
+    let numbers = [number];
+    lines::put_line(out, 0, b"refused", &numbers)
+}
+
+// Writes the text of a job that was not refused.
+fn put_accepted(played: Played, table: &[u32], report: &[u32], linearization: &[u32], out: &mut [u8]) -> usize
+    requires { ⌜ Enough played (now table) (now report) (now linearization) ⌝ }
+    requires { ⌜ length (accepted played (now table) (now report) (now linearization)) < 2 ^ 64 ⌝ }
+    ensures { λ r. ⌜ Wrote (accepted played (now (table .entry)) (now (report .entry)) (now (linearization .entry))) 0 (now (out .entry)) (now (out .exit)) r ⌝ }
+{
+    let job = put_job(played, out);
+    let sections = put_sections(played, table, report, linearization, out, job);
+    put_tally(played.tally, out, sections)
+}
+
+// Writes the text.
+fn put_listing(played: Played, table: &[u32], report: &[u32], linearization: &[u32], out: &mut [u8]) -> usize
+    requires { ⌜ Enough played (now table) (now report) (now linearization) ⌝ }
+    ensures { λ r. ⌜ Wrote (listing played (now (table .entry)) (now (report .entry)) (now (linearization .entry))) 0 (now (out .entry)) (now (out .exit)) r ⌝ }
+{
+    let number = played.number;
+    if 0 < number {
+        return put_refused(number, out);
+    }
+    put_accepted(played, table, report, linearization, out)
+}
+
+// The length of the text: writing it where there is no room only counts.
+fn listing_length(played: Played, table: &[u32], report: &[u32], linearization: &[u32]) -> usize
+    requires { ⌜ Enough played (now table) (now report) (now linearization) ⌝ }
+    ensures { λ r. ⌜ r ≡ length (listing played (now (table .entry)) (now (report .entry)) (now (linearization .entry))) ⌝ }
+{
+    let mut none = [0u8; 1];
+    put_listing(played, table, report, linearization, &mut none)
+}
+
+// How many numbers of its buffer a line of a section shows.
+fn row_size(section: Section) -> usize
+    ensures { λ r. ⌜ r ≡ rowSize section ⌝ }
+{
+    match section {
+        Section::Words => 1,
+        Section::Requests => 4,
+        Section::Entries => 2,
+    }
+}
+
+// Whether a section's buffer is shorter than so many lines show.
+fn is_short(section: Section, buffer: &[u32], count: u32) -> bool
+    ensures { λ r. ⌜ r ≡ ltb (length (now (buffer .entry))) (rowSize section * count) ⌝ }
+{
+    let size = row_size(section);
+    buffer.len() < size * (count as usize)
+}
+
+// Whether one of the three buffers with numbers is too short.
+fn any_short(played: Played, table: &[u32], report: &[u32], linearization: &[u32]) -> bool
+    ensures { λ r. ⌜ r ≡ sourcesShort played (now (table .entry)) (now (report .entry)) (now (linearization .entry)) ⌝ }
+{
+    if is_short(Section::Words, table, played.nodes) {
+        return true;
+    }
+    if is_short(Section::Requests, report, played.requests) {
+        return true;
+    }
+    is_short(Section::Entries, linearization, played.entries)
+}
+
+// Prints a played job: its text into `out`, or refusal 14 where a buffer is too short, with `out` as it was.
+pub fn list(played: Played, table: &[u32], report: &[u32], linearization: &[u32], out: &mut [u8]) -> Listed
+    ensures answer { λ r. ⌜ r ≡ listed played (now (table .entry)) (now (report .entry)) (now (linearization .entry)) (now (out .entry)) ⌝ }
+    ensures text { λ r. ⌜ now (out .exit) ≡ printed played (now (table .entry)) (now (report .entry)) (now (linearization .entry)) (now (out .entry)) ⌝ }
+{
+    if any_short(played, table, report, linearization) {
+        return Listed { number: 14, bytes: 0 };
+    }
+    let bytes = listing_length(played, table, report, linearization);
+    if out.len() < bytes {
+        return Listed { number: 14, bytes: 0 };
+    }
+    put_listing(played, table, report, linearization, out);
+    Listed { number: 0, bytes }
 }
