@@ -1,3 +1,4 @@
 -- The laws of texts and of writing them.
 pub mod Text
 pub mod Writing
+pub mod Listing
