@@ -53,6 +53,9 @@ digits-most (suc k) n h = go (ltb n 10) refl (digits-most k (n / 10) (omega (ari
 pub decimal-short : (n : ℕ) → n < 2 ^ 32 → length (decimal n) ≤ 10
 decimal-short n h = digits-most 9 n (omega arith)
 
+pub length-three : (a b c : List ℕ) → length (a ++ (b ++ c)) ≡ length a + length b + length c
+length-three a b c = omega (arith, length-append a (b ++ c), length-append b c)
+
 -- One element more: what a loop over a list adds in a turn.
 pub take-next : (l : List ℕ) (i : ℕ) → i < length l → take (i + 1) l ≡ take i l ++ (getD l i 0 ∷ [])
 take-next l i h = rw (add-one, take-suc l i 0)
@@ -103,8 +106,7 @@ fields-short (n ∷ ns) h =
 
 pub line-length : (name ns : List ℕ) → length (line name ns) ≡ length name + length (fields ns) + 1
 unfolding line
-line-length name ns =
-    omega (arith, length-append name (fields ns ++ (10 ∷ [])), length-append (fields ns) (10 ∷ []))
+line-length name ns = length-three name (fields ns) (10 ∷ [])
 
 pub line-short : (name ns : List ℕ) → Narrow ns → length (line name ns) ≤ length name + 11 * length ns + 1
 line-short name ns h = omega (arith, line-length name ns, fields-short ns h)

@@ -1,3 +1,10 @@
+-- `listing::list`: a buffer of numbers is too short, or `out` is, or the text is written.
+use mathlib.Core.Path.{refl, sym, _∙_}
+use native.Mathlib.Omega.{arith}
+use borrow.Author.Tests.{lt-ltb, le-ltb}
+use denote.Ref.{now}
+use Rattle.listing.proofs.Listing.{enough}
+use Rattle.listing.proofs.Writing.{wrote-whole}
 use borrow.Author.Needs.{needs}
 use Rattle.listing.proofs.list.Statement.{statement}
 use Rattle.listing.proofs.list.Tie as tie
@@ -13,19 +20,21 @@ any-short-requires c κs = search needs
 
 -- src/lib.rt:198:9
 returns : tie.Need-returns
-returns c = ?
+returns c = simp (← c .before .any-short .ensures, c .if1 .taken) (refl, refl)
 
 -- src/lib.rt:200:9
 listing-length-requires : tie.Need-listing-length-requires
-listing-length-requires c κs = ?
+listing-length-requires c κs = let a = c .before .before .before .before .before .before .args in enough (a .played) (now (a .table)) (now (a .report)) (now (a .linearization)) (sym (c .before .any-short .ensures) ∙ c .if1 .left)
 
 -- src/lib.rt:202:9
 returns-2 : tie.Need-returns-2
-returns-2 c = ?
+returns-2 c = 
+    simp (← c .before .before .before .any-short .ensures, c .before .before .if1 .left, ← c .before .listing-length .ensures, lt-ltb _ _ (c .if2 .taken))
+    (refl, refl)
 
 -- src/lib.rt:204:5
 put-listing-requires : tie.Need-put-listing-requires
-put-listing-requires c κs = ?
+put-listing-requires c κs = let a = c .before .before .before .before .before .before .before .before .before .args in enough (a .played) (now (a .table)) (now (a .report)) (now (a .linearization)) (sym (c .before .before .before .before .any-short .ensures) ∙ c .before .before .before .if1 .left)
 
 -- src/lib.rt:193:1
 same-length : tie.Need-same-length
@@ -33,7 +42,9 @@ same-length c = search needs
 
 -- src/lib.rt:193:1
 returns-3 : tie.Need-returns-3
-returns-3 c = ?
+returns-3 c = 
+    simp (← c .before .before .before .before .before .before .before .any-short .ensures, c .before .before .before .before .before .before .if1 .left, ← c .before .before .before .before .before .listing-length .ensures, le-ltb _ _ (c .before .before .before .before .if2 .left))
+    (refl, rw (c .before .before .before .before .before .listing-length .ensures) (wrote-whole (c .before .before .put-listing .ensures) (omega (arith, c .before .before .before .before .before .listing-length .ensures))))
 
 pub list-spec : {M : Type 1} → statement M
 list-spec =

@@ -1,3 +1,9 @@
+-- `listing::put_listing`: a refusal's line, or the whole text.
+use native.Mathlib.Omega.{arith}
+use borrow.Author.Tests.{eq-eqb, ne-eqb}
+use denote.Ref.{now}
+use Rattle.listing.specs.Listing.{listing}
+use Rattle.listing.proofs.Listing.{Fitting, refused-short, accepted-short}
 use borrow.Author.Needs.{needs}
 use Rattle.listing.proofs.put_listing.Statement.{statement}
 use Rattle.listing.proofs.put_listing.Tie as tie
@@ -8,7 +14,7 @@ use Rattle.listing.proofs.put_refused.Reads as put-refused-reads
 
 -- src/lib.rt:146:9
 put-refused-requires : tie.Need-put-refused-requires
-put-refused-requires c κs = ?
+put-refused-requires c κs = refused-short (c .before .before .before .before .before .before .args .played .number) (search needs)
 
 -- src/lib.rt:146:9
 same-length : tie.Need-same-length
@@ -16,11 +22,23 @@ same-length c = search needs
 
 -- src/lib.rt:146:9
 returns : tie.Need-returns
-returns c = ?
+unfolding listing
+returns c = rw (ne-eqb (c .before .before .before .before .before .before .before .before .before .args .played .number) 0 (omega arith)) (c .before .before .put-refused .ensures)
 
 -- src/lib.rt:148:5
 put-accepted-requires : tie.Need-put-accepted-requires
-put-accepted-requires c κs = ?
+put-accepted-requires c κs = 
+    let a = c .before .before .before .before .before .before .args in
+    let fitting : Fitting (a .played) (now (a .table)) (now (a .report)) (now (a .linearization)) =
+      record {
+        job = search needs;
+        entries = search needs;
+        tally = search needs;
+        words = λ k. omega (arith, c .before .before .before .before .before .shared-slice-known .given k);
+        rows = λ k. omega (arith, c .before .before .before .before .shared-slice-known2 .given k);
+        points = λ k. omega (arith, c .before .before .before .shared-slice-known3 .given k);
+      } in
+    (c .before .before .before .before .before .before .pre, accepted-short (a .played) (now (a .table)) (now (a .report)) (now (a .linearization)) fitting)
 
 -- src/lib.rt:140:1
 same-length-2 : tie.Need-same-length-2
@@ -28,7 +46,8 @@ same-length-2 c = search needs
 
 -- src/lib.rt:140:1
 returns-2 : tie.Need-returns-2
-returns-2 c = ?
+unfolding listing
+returns-2 c = rw (eq-eqb (c .before .before .before .before .before .before .before .before .before .args .played .number) 0 (omega arith)) (c .before .before .put-accepted .ensures)
 
 pub put-listing-spec : {M : Type 1} → statement M
 put-listing-spec =
