@@ -2,31 +2,22 @@
 use borrow.Author.Needs.{needs}
 use Rattle.listing.proofs.any_short.Statement.{statement}
 use Rattle.listing.proofs.any_short.Tie as tie
-use Rattle.listing.proofs.any_short.Reads as reads
-use Rattle.listing.proofs.any_short.Lts as lts
-use Rattle.listing.proofs.is_short.Reads as is-short-reads
 
--- src/lib.rt:183:8
 is-short-requires : tie.Need-is-short-requires
 is-short-requires c κs = search needs
 
--- src/lib.rt:184:9
 returns : tie.Need-returns
 returns c = simp (← c .before .is-short .ensures, c .if1 .taken)
 
--- src/lib.rt:186:8
 is-short-requires-2 : tie.Need-is-short-requires-2
 is-short-requires-2 c κs = search needs
 
--- src/lib.rt:187:9
 returns-2 : tie.Need-returns-2
 returns-2 c = simp (← c .before .before .before .is-short .ensures, c .before .before .if1 .left, ← c .before .is-short2 .ensures, c .if2 .taken)
 
--- src/lib.rt:189:5
 is-short-requires-3 : tie.Need-is-short-requires-3
 is-short-requires-3 c κs = search needs
 
--- src/lib.rt:180:1
 returns-3 : tie.Need-returns-3
 returns-3 c = simp (← c .before .before .before .before .is-short .ensures, c .before .before .before .if1 .left, ← c .before .before .is-short2 .ensures, c .before .if2 .left, c .is-short3 .ensures)
 

@@ -8,39 +8,27 @@ use Rattle.listing.proofs.Writing.{wrote-whole}
 use borrow.Author.Needs.{needs}
 use Rattle.listing.proofs.list.Statement.{statement}
 use Rattle.listing.proofs.list.Tie as tie
-use Rattle.listing.proofs.list.Reads as reads
-use Rattle.listing.proofs.list.Lts as lts
-use Rattle.listing.proofs.any_short.Reads as any-short-reads
-use Rattle.listing.proofs.listing_length.Reads as listing-length-reads
-use Rattle.listing.proofs.put_listing.Reads as put-listing-reads
 
--- src/lib.rt:197:8
 any-short-requires : tie.Need-any-short-requires
 any-short-requires c κs = search needs
 
--- src/lib.rt:198:9
 returns : tie.Need-returns
 returns c = simp (← c .before .any-short .ensures, c .if1 .taken) (refl, refl)
 
--- src/lib.rt:200:9
 listing-length-requires : tie.Need-listing-length-requires
 listing-length-requires c κs = let a = c .before .before .before .before .before .before .args in enough (a .played) (now (a .table)) (now (a .report)) (now (a .linearization)) (sym (c .before .any-short .ensures) ∙ c .if1 .left)
 
--- src/lib.rt:202:9
 returns-2 : tie.Need-returns-2
 returns-2 c = 
     simp (← c .before .before .before .any-short .ensures, c .before .before .if1 .left, ← c .before .listing-length .ensures, lt-ltb _ _ (c .if2 .taken))
     (refl, refl)
 
--- src/lib.rt:204:5
 put-listing-requires : tie.Need-put-listing-requires
 put-listing-requires c κs = let a = c .before .before .before .before .before .before .before .before .before .args in enough (a .played) (now (a .table)) (now (a .report)) (now (a .linearization)) (sym (c .before .before .before .before .any-short .ensures) ∙ c .before .before .before .if1 .left)
 
--- src/lib.rt:193:1
 same-length : tie.Need-same-length
 same-length c = search needs
 
--- src/lib.rt:193:1
 returns-3 : tie.Need-returns-3
 returns-3 c = 
     simp (← c .before .before .before .before .before .before .before .any-short .ensures, c .before .before .before .before .before .before .if1 .left, ← c .before .before .before .before .before .listing-length .ensures, le-ltb _ _ (c .before .before .before .before .if2 .left))

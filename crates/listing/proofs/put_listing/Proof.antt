@@ -7,25 +7,17 @@ use Rattle.listing.proofs.Listing.{Fitting, refused-short, accepted-sho
 use borrow.Author.Needs.{needs}
 use Rattle.listing.proofs.put_listing.Statement.{statement}
 use Rattle.listing.proofs.put_listing.Tie as tie
-use Rattle.listing.proofs.put_listing.Reads as reads
-use Rattle.listing.proofs.put_listing.Lts as lts
-use Rattle.listing.proofs.put_accepted.Reads as put-accepted-reads
-use Rattle.listing.proofs.put_refused.Reads as put-refused-reads
 
--- src/lib.rt:146:9
 put-refused-requires : tie.Need-put-refused-requires
 put-refused-requires c κs = refused-short (c .before .before .before .before .before .before .args .played .number) (search needs)
 
--- src/lib.rt:146:9
 same-length : tie.Need-same-length
 same-length c = search needs
 
--- src/lib.rt:146:9
 returns : tie.Need-returns
 unfolding listing
 returns c = rw (ne-eqb (c .before .before .before .before .before .before .before .before .before .args .played .number) 0 (omega arith)) (c .before .before .put-refused .ensures)
 
--- src/lib.rt:148:5
 put-accepted-requires : tie.Need-put-accepted-requires
 put-accepted-requires c κs = 
     let a = c .before .before .before .before .before .before .args in
@@ -40,11 +32,9 @@ put-accepted-requires c κs =
       } in
     (c .before .before .before .before .before .before .pre, accepted-short (a .played) (now (a .table)) (now (a .report)) (now (a .linearization)) fitting)
 
--- src/lib.rt:140:1
 same-length-2 : tie.Need-same-length-2
 same-length-2 c = search needs
 
--- src/lib.rt:140:1
 returns-2 : tie.Need-returns-2
 unfolding listing
 returns-2 c = rw (eq-eqb (c .before .before .before .before .before .before .before .before .before .args .played .number) 0 (omega arith)) (c .before .before .put-accepted .ensures)

@@ -6,33 +6,25 @@ use Rattle.listing.proofs.Writing.{wrote-append}
 use borrow.Author.Needs.{needs}
 use Rattle.listing.proofs.put_sections.Statement.{statement}
 use Rattle.listing.proofs.put_sections.Tie as tie
-use Rattle.listing.proofs.put_sections.Reads as reads
-use Rattle.listing.proofs.put_sections.Lts as lts
-use Rattle.listing.proofs.put_rows.Reads as put-rows-reads
 
--- src/lib.rt:96:9
 put-rows-requires : tie.Need-put-rows-requires
 put-rows-requires c κs = 
     let a = c .before .before .before .before .before .args in
     (c .before .before .before .before .before .pre .0 .words, omega (arith, c .before .before .before .before .before .pre .1, sections-length (a .played) (now (a .table)) (now (a .report)) (now (a .linearization))))
 
--- src/lib.rt:97:9
 put-rows-requires-2 : tie.Need-put-rows-requires-2
 put-rows-requires-2 c κs = 
     let a = c .before .before .before .before .before .before .before .before .before .args in
     (c .before .before .before .before .before .before .before .before .before .pre .0 .requests, omega (arith, c .before .before .before .before .before .before .before .before .before .pre .1, sections-length (a .played) (now (a .table)) (now (a .report)) (now (a .linearization))))
 
--- src/lib.rt:98:5
 put-rows-requires-3 : tie.Need-put-rows-requires-3
 put-rows-requires-3 c κs = 
     let a = c .before .before .before .before .before .before .before .before .before .before .before .before .before .args in
     (c .before .before .before .before .before .before .before .before .before .before .before .before .before .pre .0 .entries, omega (arith, c .before .before .before .before .before .before .before .before .before .before .before .before .before .pre .1, sections-length (a .played) (now (a .table)) (now (a .report)) (now (a .linearization))))
 
--- src/lib.rt:91:1
 same-length : tie.Need-same-length
 same-length c = search needs
 
--- src/lib.rt:91:1
 returns : tie.Need-returns
 returns c = wrote-append (c .before .before .before .before .before .before .before .before .before .before .put-rows .ensures) (wrote-append (c .before .before .before .before .before .before .put-rows2 .ensures) (c .before .before .put-rows3 .ensures))
 

@@ -4,31 +4,23 @@ use Rattle.listing.proofs.Writing.{wrote-past}
 use borrow.Author.Needs.{needs}
 use Rattle.listing.proofs.lines.put_byte.Statement.{statement}
 use Rattle.listing.proofs.lines.put_byte.Tie as tie
-use Rattle.listing.proofs.lines.put_byte.Reads as reads
-use Rattle.listing.proofs.lines.put_byte.Lts as lts
 
--- src/lines.rt:16:16
 add-result : tie.Need-add-result
 add-result c = search needs
 
--- src/lines.rt:16:9
 returns : tie.Need-returns
 returns c =
     wrote-past (c .before .args .byte) (c .before .args .at) (now (c .before .args .out)) (c .if1 .taken)
 
--- src/lines.rt:18:5
 slice-write-out : tie.Need-slice-write-out
 slice-write-out c = search needs
 
--- src/lines.rt:19:5
 add-result-2 : tie.Need-add-result-2
 add-result-2 c = search needs
 
--- src/lines.rt:11:1
 same-length : tie.Need-same-length
 same-length c = search needs
 
--- src/lines.rt:11:1
 returns-2 : tie.Need-returns-2
 returns-2 c = search needs
 

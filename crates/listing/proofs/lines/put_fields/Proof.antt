@@ -11,10 +11,6 @@ use Rattle.listing.proofs.Text.{fields-next, fields-within}
 use Rattle.listing.proofs.Writing.{Through, wrote-nothing, wrote-append, wrote-length, through-next, through-room, through-end}
 use Rattle.listing.proofs.lines.put_fields.Statement.{statement}
 use Rattle.listing.proofs.lines.put_fields.Tie as tie
-use Rattle.listing.proofs.lines.put_fields.Reads as reads
-use Rattle.listing.proofs.lines.put_fields.Lts as lts
-use Rattle.listing.proofs.lines.put_byte.Reads as put-byte-reads
-use Rattle.listing.proofs.lines.put_decimal.Reads as put-decimal-reads
 
 abbrev Inv-loop : tie.InvT-loop
 Inv-loop out₀ at numbers next₀ i₀ out next i = Through (λ k. fields (take k numbers)) (length numbers) i at out₀ out next
@@ -22,42 +18,34 @@ Inv-loop out₀ at numbers next₀ i₀ out next i = Through (λ k. fields (take
 abbrev μ-loop : tie.MeasureT-loop
 μ-loop out₀ at numbers next₀ i₀ out next i = length numbers - i
 
--- src/lines.rt:41:5
 loop-holds : tie.Need-loop-holds Inv-loop μ-loop
 unfolding fields
 loop-holds c = record { within = omega arith; wrote = wrote-nothing (c .before .before .args .at) (now (c .before .before .args .out)) }
 
--- src/lines.rt:42:13
 put-byte-requires : tie.Need-put-byte-requires Inv-loop μ-loop
 put-byte-requires c κs = 
     let l = c .before .before .loop in
     let numbers = now (c .before .before .before .before .before .args .numbers) in
     omega (arith, through-room (l .inv) ((32 ∷ []) ++ decimal (getD numbers (l .i) 0)) (fields numbers) (fields-next numbers (l .i) (omega arith)) (fields-within numbers (l .i + 1)) (omega arith))
 
--- src/lines.rt:43:41
 mul-put-decimal : tie.Need-mul-put-decimal Inv-loop μ-loop
 mul-put-decimal c = search needs
 
--- src/lines.rt:43:41
 shared-slice-read-put-decimal : tie.Need-shared-slice-read-put-decimal Inv-loop μ-loop
 shared-slice-read-put-decimal c = search needs
 
--- src/lines.rt:43:9
 put-decimal-requires : tie.Need-put-decimal-requires Inv-loop μ-loop
 put-decimal-requires c κs = 
     let l = c .before .before .before .before .before .before .before .loop in
     let numbers = now (c .before .before .before .before .before .before .before .before .before .before .args .numbers) in
     omega (arith, through-room (l .inv) ((32 ∷ []) ++ decimal (getD numbers (l .i) 0)) (fields numbers) (fields-next numbers (l .i) (omega arith)) (fields-within numbers (l .i + 1)) (omega arith))
 
--- src/lines.rt:44:9
 add-i : tie.Need-add-i Inv-loop μ-loop
 add-i c = search needs
 
--- src/lines.rt:41:5
 loop-less : tie.Need-loop-less Inv-loop μ-loop
 loop-less c = search needs
 
--- src/lines.rt:41:5
 loop-again : tie.Need-loop-again Inv-loop μ-loop
 loop-again c = 
     let l = c .before .before .before .before .before .before .before .before .before .before .loop in
@@ -65,11 +53,9 @@ loop-again c =
     through-next (l .inv) (omega arith) (fields-next numbers (l .i) (omega arith))
     (wrote-append (c .before .before .before .before .before .before .before .put-byte .ensures) (c .before .before .put-decimal .ensures))
 
--- src/lines.rt:35:1
 same-length : tie.Need-same-length Inv-loop μ-loop
 same-length c = wrote-length (c .before .loop .inv .wrote)
 
--- src/lines.rt:35:1
 returns : tie.Need-returns Inv-loop μ-loop
 returns c = rw (take-length (now (c .before .before .before .before .args .numbers))) at (through-end (c .before .loop .inv) (c .loop-test .left))
 

@@ -7,29 +7,19 @@ use Rattle.listing.proofs.Writing.{wrote-append}
 use borrow.Author.Needs.{needs}
 use Rattle.listing.proofs.lines.put_line.Statement.{statement}
 use Rattle.listing.proofs.lines.put_line.Tie as tie
-use Rattle.listing.proofs.lines.put_line.Reads as reads
-use Rattle.listing.proofs.lines.put_line.Lts as lts
-use Rattle.listing.proofs.lines.put_byte.Reads as put-byte-reads
-use Rattle.listing.proofs.lines.put_fields.Reads as put-fields-reads
-use Rattle.listing.proofs.lines.put_name.Reads as put-name-reads
 
--- src/lines.rt:68:9
 put-name-requires : tie.Need-put-name-requires
 put-name-requires c κs = let a = c .before .before .before .before .args in omega (arith, line-length (now (a .name)) (now (a .numbers)))
 
--- src/lines.rt:69:9
 put-fields-requires : tie.Need-put-fields-requires
 put-fields-requires c κs = let a = c .before .before .before .before .before .before .before .before .args in omega (arith, line-length (now (a .name)) (now (a .numbers)))
 
--- src/lines.rt:70:5
 put-byte-requires : tie.Need-put-byte-requires
 put-byte-requires c κs = let a = c .before .before .before .before .before .before .before .before .before .before .before .before .args in omega (arith, line-length (now (a .name)) (now (a .numbers)))
 
--- src/lines.rt:64:1
 same-length : tie.Need-same-length
 same-length c = search needs
 
--- src/lines.rt:64:1
 returns : tie.Need-returns
 unfolding line
 returns c = wrote-append (c .before .before .before .before .before .before .before .before .before .before .put-name .ensures) (wrote-append (c .before .before .before .before .before .before .put-fields .ensures) (c .before .before .put-byte .ensures))

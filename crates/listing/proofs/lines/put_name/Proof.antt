@@ -9,9 +9,6 @@ use Rattle.listing.proofs.Text.{take-next}
 use Rattle.listing.proofs.Writing.{Through, wrote-nothing, wrote-length, through-next, through-end}
 use Rattle.listing.proofs.lines.put_name.Statement.{statement}
 use Rattle.listing.proofs.lines.put_name.Tie as tie
-use Rattle.listing.proofs.lines.put_name.Reads as reads
-use Rattle.listing.proofs.lines.put_name.Lts as lts
-use Rattle.listing.proofs.lines.put_byte.Reads as put-byte-reads
 
 abbrev Inv-loop : tie.InvT-loop
 Inv-loop out₀ at name next₀ i₀ out next i = Through (λ k. take k name) (length name) i at out₀ out next
@@ -19,41 +16,33 @@ Inv-loop out₀ at name next₀ i₀ out next i = Through (λ k. take k name) (l
 abbrev μ-loop : tie.MeasureT-loop
 μ-loop out₀ at name next₀ i₀ out next i = length name - i
 
--- src/lines.rt:56:5
 loop-holds : tie.Need-loop-holds Inv-loop μ-loop
 loop-holds c = record { within = omega arith; wrote = wrote-nothing (c .before .before .args .at) (now (c .before .before .args .out)) }
 
--- src/lines.rt:57:36
 shared-slice-read-put-byte : tie.Need-shared-slice-read-put-byte Inv-loop μ-loop
 shared-slice-read-put-byte c = search needs
 
--- src/lines.rt:57:9
 put-byte-requires : tie.Need-put-byte-requires Inv-loop μ-loop
 put-byte-requires c κs = 
     let l = c .before .before .before .loop in
     let name = now (c .before .before .before .before .before .before .args .name) in
     omega (arith, length-take-le (l .i) name (l .inv .within))
 
--- src/lines.rt:58:9
 add-i : tie.Need-add-i Inv-loop μ-loop
 add-i c = search needs
 
--- src/lines.rt:56:5
 loop-less : tie.Need-loop-less Inv-loop μ-loop
 loop-less c = search needs
 
--- src/lines.rt:56:5
 loop-again : tie.Need-loop-again Inv-loop μ-loop
 loop-again c = 
     let l = c .before .before .before .before .before .before .loop in
     let one = take-next (now (c .before .before .before .before .before .before .before .before .before .args .name)) (l .i) (omega arith) in
     through-next (l .inv) (omega arith) one (c .before .before .put-byte .ensures)
 
--- src/lines.rt:50:1
 same-length : tie.Need-same-length Inv-loop μ-loop
 same-length c = wrote-length (c .before .loop .inv .wrote)
 
--- src/lines.rt:50:1
 returns : tie.Need-returns Inv-loop μ-loop
 returns c = rw (take-length (now (c .before .before .before .before .args .name))) at (through-end (c .before .loop .inv) (c .loop-test .left))
 

@@ -1,45 +1,31 @@
 use borrow.Author.Needs.{needs}
-use Rattle.listing.proofs.put_word.Statement.{statement}
-use Rattle.listing.proofs.put_word.Tie as tie
-use Rattle.listing.proofs.put_word.Reads as reads
-use Rattle.listing.proofs.put_word.Lts as lts
-use Rattle.listing.proofs.lines.put_line.Reads as put-line-reads
-use Rattle.word.proofs.parent.Reads as parent-reads
-use Rattle.word.proofs.rank.Reads as rank-reads
+use Rattle.listing.proofs.sections.put_word.Statement.{statement}
+use Rattle.listing.proofs.sections.put_word.Tie as tie
 
--- src/lib.rt:34:16
 mul-word : tie.Need-mul-word
 mul-word c = search needs
 
--- src/lib.rt:34:16
 shared-slice-read-word : tie.Need-shared-slice-read-word
 shared-slice-read-word c = search needs
 
--- src/lib.rt:35:9
 parent-requires : tie.Need-parent-requires
 parent-requires c κs = search needs
 
--- src/lib.rt:36:9
 rank-requires : tie.Need-rank-requires
 rank-requires c κs = search needs
 
--- src/lib.rt:38:30
 slice-aggregate-put-line : tie.Need-slice-aggregate-put-line
 slice-aggregate-put-line c = search needs
 
--- src/lib.rt:38:39
 slice-aggregate-put-line-2 : tie.Need-slice-aggregate-put-line-2
 slice-aggregate-put-line-2 c = search needs
 
--- src/lib.rt:38:5
 put-line-requires : tie.Need-put-line-requires
 put-line-requires c κs = simp (c .before .before .before .before .parent .ensures, c .before .before .before .rank .ensures) (c .before .before .before .before .before .before .before .before .pre .1)
 
--- src/lib.rt:29:1
 same-length : tie.Need-same-length
 same-length c = search needs
 
--- src/lib.rt:29:1
 returns : tie.Need-returns
 returns c = simp (← c .before .before .before .before .before .before .before .parent .ensures, ← c .before .before .before .before .before .before .rank .ensures) (c .before .before .put-line .ensures)
 
