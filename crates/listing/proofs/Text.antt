@@ -4,7 +4,6 @@
 use mathlib.Core.Path.{_≡_, refl, sym, ap, _∙_}
 use mathlib.Core.Bool.{Bool, true, false, cond}
 use mathlib.Core.List.{List, [], _∷_, _++_, append-assoc, append-nil}
-use mathlib.Core.Logic.{⊎-elim}
 use Prim.Native.Nat.{ℕ, zero, suc, _+_, _*_, _/_, _%_, _^_, _≤_, _<_}
 use native.Mathlib.Nat.{pow-succ'}
 use native.Mathlib.Numerals.{add-one}
@@ -13,27 +12,26 @@ use lib.Dec.{ltb}
 use lib.ListN.{length, getD, take, drop, length-append, take-append-drop}
 use lib.Seq.{take-suc}
 use borrow.Author.Tests.{ltb-true, ltb-false, lt-ltb, le-ltb}
-use Rattle.listing.specs.Text.{digits, decimal, fields, line, each}
+use Rattle.listing.specs.Text.{digitsBy, digitsWithin, decimal, fields, line, each}
 
 -- Any fuel above the number gives the same digits.
-digits-enough : (f g n : ℕ) → n < f → n < g → digits f n ≡ digits g n
-unfolding digits
+digits-enough : (f g n : ℕ) → n < f → n < g → digitsWithin f n ≡ digitsWithin g n
+unfolding digitsWithin
 digits-enough zero g n h k = absurd (omega arith)
 digits-enough (suc f) zero n h k = absurd (omega arith)
 digits-enough (suc f) (suc g) n h k = go (ltb n 10) refl (λ large. digits-enough f g (n / 10) (omega arith) (omega arith))
   where
-    go : (b : Bool) → ltb n 10 ≡ b → (10 ≤ n → digits f (n / 10) ≡ digits g (n / 10))
-        → cond b ((48 + n) ∷ []) (digits f (n / 10) ++ ((48 + n % 10) ∷ []))
-        ≡ cond b ((48 + n) ∷ []) (digits g (n / 10) ++ ((48 + n % 10) ∷ []))
+    go : (small : Bool) → ltb n 10 ≡ small → (10 ≤ n → digitsWithin f (n / 10) ≡ digitsWithin g (n / 10))
+        → digitsBy small n (digitsWithin f) ≡ digitsBy small n (digitsWithin g)
     go true e tenth = refl
     go false e tenth = ap (λ (ds : List ℕ). ds ++ ((48 + n % 10) ∷ [])) (tenth (ltb-false n 10 e))
 
 pub decimal-digit : (n : ℕ) → n < 10 → decimal n ≡ (48 + n) ∷ []
-unfolding digits decimal
+unfolding digitsWithin decimal
 decimal-digit n h = rw (lt-ltb n 10 h)
 
 pub decimal-more : (n : ℕ) → 10 ≤ n → decimal n ≡ decimal (n / 10) ++ ((48 + n % 10) ∷ [])
-unfolding digits decimal
+unfolding digitsWithin decimal
 decimal-more n h =
     rw (le-ltb n 10 h)
     (ap (λ (ds : List ℕ). ds ++ ((48 + n % 10) ∷ [])) (digits-enough n (suc (n / 10)) (n / 10) (omega arith) (omega arith)))

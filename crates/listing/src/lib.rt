@@ -89,7 +89,7 @@ fn listing_length(played: Played, table: &[u32], report: &[u32], linearization: 
     requires { ⌜ Enough played (now table) (now report) (now linearization) ⌝ }
     ensures { λ r. ⌜ r ≡ length (listing played (now (table .entry)) (now (report .entry)) (now (linearization .entry))) ⌝ }
 {
-    let mut none = [0u8; 1];
+    let mut none = [0u8; 0];
     put_listing(played, table, report, linearization, &mut none)
 }
 
