@@ -27,7 +27,12 @@ printedJob =
     record {
       played =
           record {
-            number = 0; nodes = 4; heads = 2; requests = 2; grants = 9; entries = 2;
+            number = 0;
+            nodes = 4;
+            heads = 2;
+            requests = 2;
+            grants = 9;
+            entries = 2;
             tally = record { idle = 0; failed = 0; links = 1; working = 0 };
           };
       table = 0 ∷ 1 ∷ 3 ∷ 65539 ∷ [];
@@ -63,7 +68,12 @@ refusedJob =
     record {
       played =
           record {
-            number = 2; nodes = 0; heads = 0; requests = 0; grants = 0; entries = 0;
+            number = 2;
+            nodes = 0;
+            heads = 0;
+            requests = 0;
+            grants = 0;
+            entries = 0;
             tally = record { idle = 0; failed = 0; links = 0; working = 0 };
           };
       table = [];

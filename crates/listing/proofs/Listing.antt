@@ -71,7 +71,8 @@ accepted-short played table report linearization f =
       line-short tallyName (played .tally .idle ∷ played .tally .failed ∷ played .tally .links ∷ played .tally .working ∷ []) (f .tally),
       section-short Words table (f .words) (played .nodes) (f .job .0),
       section-short Requests report (f .rows) (played .requests) (f .job .1 .1 .0),
-      section-short Entries linearization (f .points) (played .entries) (f .entries))
+      section-short Entries linearization (f .points) (played .entries) (f .entries),
+    )
 
 -- no buffer is too short: each holds what the lines show
 pub enough : (played : Played) (table report linearization : List ℕ)

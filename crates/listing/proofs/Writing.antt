@@ -5,9 +5,11 @@ use mathlib.Core.Path.{_≡_, refl, sym, ap, _∙_, subst}
 use mathlib.Core.List.{List, [], _∷_, _++_}
 use Prim.Native.Nat.{ℕ, suc, _+_, _^_, _≤_, _<_}
 use native.Mathlib.Omega.{arith}
-use lib.ListN.{length, drop, length-append}
+use lib.ListN.{length, getD, take, drop, length-append}
 use lib.Seq.{sets, length-sets, sets-eq, set-out}
+use Rattle.listing.specs.Text.{decimal, fields}
 use Rattle.listing.specs.Writing.{Wrote}
+use Rattle.listing.proofs.Text.{fields-next, fields-within}
 
 sets-append : (xs ys l : List ℕ) (i j : ℕ) → j ≡ i + length xs → sets (sets l i xs) j ys ≡ sets l i (xs ++ ys)
 sets-append [] ys l i j e = ap (λ (k : ℕ). sets l k ys) (omega arith)
@@ -67,3 +69,15 @@ module _ {done : ℕ → List ℕ} {n i at : ℕ} {before after : List ℕ} {nex
 
   pub through-end : n ≤ i → Wrote (done n) at before after next
   through-end l = let z : i ≡ n = omega (arith, t .within) in subst (λ (k : ℕ). Wrote (done k) at before after next) z (t .wrote)
+
+-- the next of a line's numbers, with the space before it
+pub fields-room : (ns : List ℕ) (i : ℕ) {before after : List ℕ} {at next : ℕ}
+    → Through (λ k. fields (take k ns)) (length ns) i at before after next
+    → i < length ns
+    → at + length (fields ns) < 2 ^ 64
+    → next + (1 + length (decimal (getD ns i 0))) < 2 ^ 64
+fields-room ns i t l h =
+    omega (
+      arith,
+      through-room t ((32 ∷ []) ++ decimal (getD ns i 0)) (fields ns) (fields-next ns i l) (fields-within ns (i + 1)) h,
+    )

@@ -24,14 +24,28 @@ pub struct Listed {
 }
 
 // Writes all sections.
-fn put_sections(played: Played, table: &[u32], report: &[u32], linearization: &[u32], out: &mut [u8], at: usize) -> usize
+fn put_sections(
+    played: Played,
+    table: &[u32],
+    report: &[u32],
+    linearization: &[u32],
+    out: &mut [u8],
+    at: usize,
+) -> usize
     requires { ⌜ Enough played (now table) (now report) (now linearization) ⌝ }
     requires { ⌜ at + length (rows played (now table) (now report) (now linearization)) < 2 ^ 64 ⌝ }
-    ensures { λ r. ⌜ Wrote (rows played (now (table .entry)) (now (report .entry)) (now (linearization .entry))) at (now (out .entry)) (now (out .exit)) r ⌝ }
+    ensures { λ r. ⌜ Wrote (rows played (now (table .entry)) (now (report .entry)) (now (linearization .entry))) at
+        (now (out .entry)) (now (out .exit)) r ⌝ }
 {
     let words = sections::put_rows(Section::Words, table, played.nodes, out, at);
     let requests = sections::put_rows(Section::Requests, report, played.requests, out, words);
-    sections::put_rows(Section::Entries, linearization, played.entries, out, requests)
+    sections::put_rows(
+        Section::Entries,
+        linearization,
+        played.entries,
+        out,
+        requests,
+    )
 }
 
 // Writes the job's line.
@@ -62,10 +76,17 @@ fn put_refused(number: u32, out: &mut [u8]) -> usize
 }
 
 // Writes the text of a job that was not refused.
-fn put_accepted(played: Played, table: &[u32], report: &[u32], linearization: &[u32], out: &mut [u8]) -> usize
+fn put_accepted(
+    played: Played,
+    table: &[u32],
+    report: &[u32],
+    linearization: &[u32],
+    out: &mut [u8],
+) -> usize
     requires { ⌜ Enough played (now table) (now report) (now linearization) ⌝ }
     requires { ⌜ length (accepted played (now table) (now report) (now linearization)) < 2 ^ 64 ⌝ }
-    ensures { λ r. ⌜ Wrote (accepted played (now (table .entry)) (now (report .entry)) (now (linearization .entry))) 0 (now (out .entry)) (now (out .exit)) r ⌝ }
+    ensures { λ r. ⌜ Wrote (accepted played (now (table .entry)) (now (report .entry)) (now (linearization .entry))) 0
+        (now (out .entry)) (now (out .exit)) r ⌝ }
 {
     let job = put_job(played, out);
     let sections = put_sections(played, table, report, linearization, out, job);
@@ -73,9 +94,16 @@ fn put_accepted(played: Played, table: &[u32], report: &[u32], linearization: &[
 }
 
 // Writes the text.
-fn put_listing(played: Played, table: &[u32], report: &[u32], linearization: &[u32], out: &mut [u8]) -> usize
+fn put_listing(
+    played: Played,
+    table: &[u32],
+    report: &[u32],
+    linearization: &[u32],
+    out: &mut [u8],
+) -> usize
     requires { ⌜ Enough played (now table) (now report) (now linearization) ⌝ }
-    ensures { λ r. ⌜ Wrote (listing played (now (table .entry)) (now (report .entry)) (now (linearization .entry))) 0 (now (out .entry)) (now (out .exit)) r ⌝ }
+    ensures { λ r. ⌜ Wrote (listing played (now (table .entry)) (now (report .entry)) (now (linearization .entry))) 0
+        (now (out .entry)) (now (out .exit)) r ⌝ }
 {
     let number = played.number;
     if 0 < number {
@@ -107,16 +135,29 @@ fn any_short(played: Played, table: &[u32], report: &[u32], linearization: &[u32
 }
 
 // Prints a played job: its text into `out`, or refusal 14 where a buffer is too short, with `out` as it was.
-pub fn list(played: Played, table: &[u32], report: &[u32], linearization: &[u32], out: &mut [u8]) -> Listed
+pub fn list(
+    played: Played,
+    table: &[u32],
+    report: &[u32],
+    linearization: &[u32],
+    out: &mut [u8],
+) -> Listed
     ensures answer { λ r. ⌜ r ≡ listed played (now (table .entry)) (now (report .entry)) (now (linearization .entry)) (now (out .entry)) ⌝ }
-    ensures text { λ r. ⌜ now (out .exit) ≡ printed played (now (table .entry)) (now (report .entry)) (now (linearization .entry)) (now (out .entry)) ⌝ }
+    ensures text { λ r. ⌜ now (out .exit)
+        ≡ printed played (now (table .entry)) (now (report .entry)) (now (linearization .entry)) (now (out .entry)) ⌝ }
 {
     if any_short(played, table, report, linearization) {
-        return Listed { number: 14, bytes: 0 };
+        return Listed {
+            number: 14,
+            bytes: 0,
+        };
     }
     let bytes = listing_length(played, table, report, linearization);
     if out.len() < bytes {
-        return Listed { number: 14, bytes: 0 };
+        return Listed {
+            number: 14,
+            bytes: 0,
+        };
     }
     put_listing(played, table, report, linearization, out);
     Listed { number: 0, bytes }

@@ -47,7 +47,13 @@ fn put_request(report: &[u32], i: u32, out: &mut [u8], at: usize) -> usize
     ensures { λ r. ⌜ Wrote (row Section.Requests (now (report .entry)) i) at (now (out .entry)) (now (out .exit)) r ⌝ }
 {
     let base = 4 * (i as usize);
-    let numbers = [i, report[base], report[base + 1], report[base + 2], report[base + 3]];
+    let numbers = [
+        i,
+        report[base],
+        report[base + 1],
+        report[base + 2],
+        report[base + 3],
+    ];
     crate::lines::put_line(out, at, b"request", &numbers)
 }
 

@@ -16,23 +16,31 @@ returns : tie.Need-returns
 returns c = simp (← c .before .any-short .ensures, c .if1 .taken) (refl, refl)
 
 listing-length-requires : tie.Need-listing-length-requires
-listing-length-requires c κs = let a = c .before .before .before .before .before .before .args in enough (a .played) (now (a .table)) (now (a .report)) (now (a .linearization)) (sym (c .before .any-short .ensures) ∙ c .if1 .left)
+listing-length-requires c κs =
+    let a = c .before .before .before .before .before .before .args in
+    enough (a .played) (now (a .table)) (now (a .report)) (now (a .linearization))
+    (sym (c .before .any-short .ensures) ∙ c .if1 .left)
 
 returns-2 : tie.Need-returns-2
-returns-2 c = 
-    simp (← c .before .before .before .any-short .ensures, c .before .before .if1 .left, ← c .before .listing-length .ensures, lt-ltb _ _ (c .if2 .taken))
-    (refl, refl)
+returns-2 c =
+    let sources = sym (c .before .before .before .any-short .ensures) ∙ c .before .before .if1 .left in
+    simp (sources, ← c .before .listing-length .ensures, lt-ltb _ _ (c .if2 .taken)) (refl, refl)
 
 put-listing-requires : tie.Need-put-listing-requires
-put-listing-requires c κs = let a = c .before .before .before .before .before .before .before .before .before .args in enough (a .played) (now (a .table)) (now (a .report)) (now (a .linearization)) (sym (c .before .before .before .before .any-short .ensures) ∙ c .before .before .before .if1 .left)
+put-listing-requires c κs =
+    let a = c .before .before .before .before .before .before .before .before .before .args in
+    enough (a .played) (now (a .table)) (now (a .report)) (now (a .linearization))
+    (sym (c .before .before .before .before .any-short .ensures) ∙ c .before .before .before .if1 .left)
 
 same-length : tie.Need-same-length
 same-length c = search needs
 
 returns-3 : tie.Need-returns-3
-returns-3 c = 
-    simp (← c .before .before .before .before .before .before .before .any-short .ensures, c .before .before .before .before .before .before .if1 .left, ← c .before .before .before .before .before .listing-length .ensures, le-ltb _ _ (c .before .before .before .before .if2 .left))
-    (refl, rw (c .before .before .before .before .before .listing-length .ensures) (wrote-whole (c .before .before .put-listing .ensures) (omega (arith, c .before .before .before .before .before .listing-length .ensures))))
+returns-3 c =
+    let sources = sym (c .before .before .before .before .before .before .before .any-short .ensures) ∙ c .before .before .before .before .before .before .if1 .left in
+    let size = c .before .before .before .before .before .listing-length .ensures in
+    simp (sources, ← size, le-ltb _ _ (c .before .before .before .before .if2 .left))
+    (refl, rw size (wrote-whole (c .before .before .put-listing .ensures) (omega arith)))
 
 pub list-spec : {M : Type 1} → statement M
 list-spec =

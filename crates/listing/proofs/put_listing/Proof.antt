@@ -16,20 +16,22 @@ same-length c = search needs
 
 returns : tie.Need-returns
 unfolding listing
-returns c = rw (ne-eqb (c .before .before .before .before .before .before .before .before .before .args .played .number) 0 (omega arith)) (c .before .before .put-refused .ensures)
+returns c =
+    let number = c .before .before .before .before .before .before .before .before .before .args .played .number in
+    rw (ne-eqb number 0 (omega arith)) (c .before .before .put-refused .ensures)
 
 put-accepted-requires : tie.Need-put-accepted-requires
-put-accepted-requires c κs = 
+put-accepted-requires c κs =
     let a = c .before .before .before .before .before .before .args in
     let fitting : Fitting (a .played) (now (a .table)) (now (a .report)) (now (a .linearization)) =
-      record {
-        job = search needs;
-        entries = search needs;
-        tally = search needs;
-        words = λ k. omega (arith, c .before .before .before .before .before .shared-slice-known .given k);
-        rows = λ k. omega (arith, c .before .before .before .before .shared-slice-known2 .given k);
-        points = λ k. omega (arith, c .before .before .before .shared-slice-known3 .given k);
-      } in
+    record {
+      job = search needs;
+      entries = search needs;
+      tally = search needs;
+      words = λ k. omega (arith, c .before .before .before .before .before .shared-slice-known .given k);
+      rows = λ k. omega (arith, c .before .before .before .before .shared-slice-known2 .given k);
+      points = λ k. omega (arith, c .before .before .before .shared-slice-known3 .given k);
+    } in
     (c .before .before .before .before .before .before .pre, accepted-short (a .played) (now (a .table)) (now (a .report)) (now (a .linearization)) fitting)
 
 same-length-2 : tie.Need-same-length-2
@@ -37,7 +39,9 @@ same-length-2 c = search needs
 
 returns-2 : tie.Need-returns-2
 unfolding listing
-returns-2 c = rw (eq-eqb (c .before .before .before .before .before .before .before .before .before .args .played .number) 0 (omega arith)) (c .before .before .put-accepted .ensures)
+returns-2 c =
+    let number = c .before .before .before .before .before .before .before .before .before .args .played .number in
+    rw (eq-eqb number 0 (omega arith)) (c .before .before .put-accepted .ensures)
 
 pub put-listing-spec : {M : Type 1} → statement M
 put-listing-spec =

@@ -1,14 +1,13 @@
 -- `lines::put_fields`: the numbers before i are written, a space before each.
-use Prim.Native.Nat.{_+_, _-_}
+use Prim.Native.Nat.{_-_}
 use native.Mathlib.Omega.{arith}
-use lib.ListN.{length, take, getD}
+use lib.ListN.{length, take}
 use lib.Seq.{take-length}
 use borrow.Author.Needs.{needs}
 use denote.Ref.{now}
-use mathlib.Core.List.{[], _∷_, _++_}
-use Rattle.listing.specs.Text.{decimal, fields}
-use Rattle.listing.proofs.Text.{fields-next, fields-within}
-use Rattle.listing.proofs.Writing.{Through, wrote-nothing, wrote-append, wrote-length, through-next, through-room, through-end}
+use Rattle.listing.specs.Text.{fields}
+use Rattle.listing.proofs.Text.{fields-next}
+use Rattle.listing.proofs.Writing.{Through, wrote-nothing, wrote-append, wrote-length, through-next, through-end, fields-room}
 use Rattle.listing.proofs.lines.put_fields.Statement.{statement}
 use Rattle.listing.proofs.lines.put_fields.Tie as tie
 
@@ -20,13 +19,16 @@ abbrev μ-loop : tie.MeasureT-loop
 
 loop-holds : tie.Need-loop-holds Inv-loop μ-loop
 unfolding fields
-loop-holds c = record { within = omega arith; wrote = wrote-nothing (c .before .before .args .at) (now (c .before .before .args .out)) }
+loop-holds c =
+    record {
+      within = omega arith;
+      wrote = wrote-nothing (c .before .before .args .at) (now (c .before .before .args .out));
+    }
 
 put-byte-requires : tie.Need-put-byte-requires Inv-loop μ-loop
-put-byte-requires c κs = 
+put-byte-requires c κs =
     let l = c .before .before .loop in
-    let numbers = now (c .before .before .before .before .before .args .numbers) in
-    omega (arith, through-room (l .inv) ((32 ∷ []) ++ decimal (getD numbers (l .i) 0)) (fields numbers) (fields-next numbers (l .i) (omega arith)) (fields-within numbers (l .i + 1)) (omega arith))
+    omega (arith, fields-room (now (c .before .before .before .before .before .args .numbers)) (l .i) (l .inv) (omega arith) (c .before .before .before .before .before .pre))
 
 mul-put-decimal : tie.Need-mul-put-decimal Inv-loop μ-loop
 mul-put-decimal c = search needs
@@ -35,10 +37,9 @@ shared-slice-read-put-decimal : tie.Need-shared-slice-read-put-decimal Inv-loop 
 shared-slice-read-put-decimal c = search needs
 
 put-decimal-requires : tie.Need-put-decimal-requires Inv-loop μ-loop
-put-decimal-requires c κs = 
+put-decimal-requires c κs =
     let l = c .before .before .before .before .before .before .before .loop in
-    let numbers = now (c .before .before .before .before .before .before .before .before .before .before .args .numbers) in
-    omega (arith, through-room (l .inv) ((32 ∷ []) ++ decimal (getD numbers (l .i) 0)) (fields numbers) (fields-next numbers (l .i) (omega arith)) (fields-within numbers (l .i + 1)) (omega arith))
+    omega (arith, fields-room (now (c .before .before .before .before .before .before .before .before .before .before .args .numbers)) (l .i) (l .inv) (omega arith) (c .before .before .before .before .before .before .before .before .before .before .pre))
 
 add-i : tie.Need-add-i Inv-loop μ-loop
 add-i c = search needs
@@ -47,7 +48,7 @@ loop-less : tie.Need-loop-less Inv-loop μ-loop
 loop-less c = search needs
 
 loop-again : tie.Need-loop-again Inv-loop μ-loop
-loop-again c = 
+loop-again c =
     let l = c .before .before .before .before .before .before .before .before .before .before .loop in
     let numbers = now (c .before .before .before .before .before .before .before .before .before .before .before .before .before .args .numbers) in
     through-next (l .inv) (omega arith) (fields-next numbers (l .i) (omega arith))
@@ -57,7 +58,9 @@ same-length : tie.Need-same-length Inv-loop μ-loop
 same-length c = wrote-length (c .before .loop .inv .wrote)
 
 returns : tie.Need-returns Inv-loop μ-loop
-returns c = rw (take-length (now (c .before .before .before .before .args .numbers))) at (through-end (c .before .loop .inv) (c .loop-test .left))
+returns c =
+    let numbers = now (c .before .before .before .before .args .numbers) in
+    rw (take-length numbers) at (through-end (c .before .loop .inv) (c .loop-test .left))
 
 pub put-fields-spec : {M : Type 1} → statement M
 put-fields-spec =

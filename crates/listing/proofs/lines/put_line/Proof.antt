@@ -22,7 +22,9 @@ same-length c = search needs
 
 returns : tie.Need-returns
 unfolding line
-returns c = wrote-append (c .before .before .before .before .before .before .before .before .before .before .put-name .ensures) (wrote-append (c .before .before .before .before .before .before .put-fields .ensures) (c .before .before .put-byte .ensures))
+returns c =
+    wrote-append (c .before .before .before .before .before .before .before .before .before .before .put-name .ensures)
+    (wrote-append (c .before .before .before .before .before .before .put-fields .ensures) (c .before .before .put-byte .ensures))
 
 pub put-line-spec : {M : Type 1} → statement M
 put-line-spec =

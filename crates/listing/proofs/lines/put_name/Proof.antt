@@ -17,13 +17,17 @@ abbrev μ-loop : tie.MeasureT-loop
 μ-loop out₀ at name next₀ i₀ out next i = length name - i
 
 loop-holds : tie.Need-loop-holds Inv-loop μ-loop
-loop-holds c = record { within = omega arith; wrote = wrote-nothing (c .before .before .args .at) (now (c .before .before .args .out)) }
+loop-holds c =
+    record {
+      within = omega arith;
+      wrote = wrote-nothing (c .before .before .args .at) (now (c .before .before .args .out));
+    }
 
 shared-slice-read-put-byte : tie.Need-shared-slice-read-put-byte Inv-loop μ-loop
 shared-slice-read-put-byte c = search needs
 
 put-byte-requires : tie.Need-put-byte-requires Inv-loop μ-loop
-put-byte-requires c κs = 
+put-byte-requires c κs =
     let l = c .before .before .before .loop in
     let name = now (c .before .before .before .before .before .before .args .name) in
     omega (arith, length-take-le (l .i) name (l .inv .within))
@@ -35,16 +39,18 @@ loop-less : tie.Need-loop-less Inv-loop μ-loop
 loop-less c = search needs
 
 loop-again : tie.Need-loop-again Inv-loop μ-loop
-loop-again c = 
+loop-again c =
     let l = c .before .before .before .before .before .before .loop in
-    let one = take-next (now (c .before .before .before .before .before .before .before .before .before .args .name)) (l .i) (omega arith) in
-    through-next (l .inv) (omega arith) one (c .before .before .put-byte .ensures)
+    let name = now (c .before .before .before .before .before .before .before .before .before .args .name) in
+    through-next (l .inv) (omega arith) (take-next name (l .i) (omega arith)) (c .before .before .put-byte .ensures)
 
 same-length : tie.Need-same-length Inv-loop μ-loop
 same-length c = wrote-length (c .before .loop .inv .wrote)
 
 returns : tie.Need-returns Inv-loop μ-loop
-returns c = rw (take-length (now (c .before .before .before .before .args .name))) at (through-end (c .before .loop .inv) (c .loop-test .left))
+returns c =
+    let name = now (c .before .before .before .before .args .name) in
+    rw (take-length name) at (through-end (c .before .loop .inv) (c .loop-test .left))
 
 pub put-name-spec : {M : Type 1} → statement M
 put-name-spec =

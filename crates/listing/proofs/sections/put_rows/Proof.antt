@@ -19,15 +19,21 @@ abbrev μ-loop : tie.MeasureT-loop
 
 loop-holds : tie.Need-loop-holds Inv-loop μ-loop
 unfolding each
-loop-holds c = record { within = omega arith; wrote = wrote-nothing (c .before .before .args .at) (now (c .before .before .args .out)) }
+loop-holds c =
+    record {
+      within = omega arith;
+      wrote = wrote-nothing (c .before .before .args .at) (now (c .before .before .args .out));
+    }
 
 put-row-requires : tie.Need-put-row-requires Inv-loop μ-loop
-put-row-requires c κs = 
+put-row-requires c κs =
     let a = c .before .before .before .before .before .args in
     let l = c .before .before .loop in
     let line = row (a .section) (now (a .buffer)) in
-    (le-trans (mul-le-mul-left (rowSize (a .section)) (omega arith)) (c .before .before .before .before .before .pre .0),
-    through-room (l .inv) (line (l .i)) (each line (a .count)) (each-next line (l .i)) (each-within line (l .i + 1) (a .count) (omega arith)) (c .before .before .before .before .before .pre .1))
+    let within = each-within line (l .i + 1) (a .count) (omega arith) in (
+      le-trans (mul-le-mul-left (rowSize (a .section)) (omega arith)) (c .before .before .before .before .before .pre .0),
+      through-room (l .inv) (line (l .i)) (each line (a .count)) (each-next line (l .i)) within (c .before .before .before .before .before .pre .1),
+    )
 
 add-i : tie.Need-add-i Inv-loop μ-loop
 add-i c = search needs
@@ -36,10 +42,11 @@ loop-less : tie.Need-loop-less Inv-loop μ-loop
 loop-less c = search needs
 
 loop-again : tie.Need-loop-again Inv-loop μ-loop
-loop-again c = 
+loop-again c =
     let a = c .before .before .before .before .before .before .before .before .args in
     let l = c .before .before .before .before .before .loop in
-    through-next (l .inv) (omega arith) (each-next (row (a .section) (now (a .buffer))) (l .i)) (c .before .before .put-row .ensures)
+    let line = row (a .section) (now (a .buffer)) in
+    through-next (l .inv) (omega arith) (each-next line (l .i)) (c .before .before .put-row .ensures)
 
 same-length : tie.Need-same-length Inv-loop μ-loop
 same-length c = wrote-length (c .before .loop .inv .wrote)
