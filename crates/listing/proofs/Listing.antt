@@ -18,6 +18,7 @@ use Rattle.listing.specs.Listing.{wordName, requestName, lineName, jobNa
 use Rattle.listing.specs.Writing.{Enough}
 use Rattle.listing.proofs.Text.{Narrow, line-short, each-short, length-three}
 
+-- What the lines show is counted in 64 bits without loss.
 pub row-size-fits : (s : Section) (count : ℕ) → count < 2 ^ 32 → rowSize s * count < 2 ^ 64
 row-size-fits Words count h = omega arith
 row-size-fits Requests count h = omega arith
@@ -35,14 +36,19 @@ module _ (played : Played) (table report linearization : List ℕ) where
       ≡ length (jobLine played) + length (rows played table report linearization) + length (tallyLine (played .tally))
   accepted-length = length-three (jobLine played) (rows played table report linearization) (tallyLine (played .tally))
 
+-- A line has at most 64 bytes: the longest is a request's, with five numbers of ten digits.
 row-short : (s : Section) (buffer : List ℕ) → ((k : ℕ) → getD buffer k 0 < 2 ^ 32) → (i : ℕ) → i < 2 ^ 32 → length (row s buffer i) ≤ 64
 unfolding rankOf parentOf
 row-short Words table narrow i h =
-    omega (arith, line-short wordName (i ∷ parentOf (getD table i 0) ∷ rankOf (getD table i 0) ∷ []) (h, (omega arith, (omega (arith, narrow i), tt))))
+    let numbers : List ℕ = i ∷ parentOf (getD table i 0) ∷ rankOf (getD table i 0) ∷ [] in
+    omega (arith, line-short wordName numbers (h, (omega arith, (omega (arith, narrow i), tt))))
 row-short Requests report narrow i h =
-    omega (arith, line-short requestName (i ∷ getD report (4 * i) 0 ∷ getD report (4 * i + 1) 0 ∷ getD report (4 * i + 2) 0 ∷ getD report (4 * i + 3) 0 ∷ []) (h, (narrow (4 * i), (narrow (4 * i + 1), (narrow (4 * i + 2), (narrow (4 * i + 3), tt))))))
+    let at : ℕ = 4 * i in
+    let numbers : List ℕ = i ∷ getD report at 0 ∷ getD report (at + 1) 0 ∷ getD report (at + 2) 0 ∷ getD report (at + 3) 0 ∷ [] in
+    omega (arith, line-short requestName numbers (h, (narrow at, (narrow (at + 1), (narrow (at + 2), (narrow (at + 3), tt))))))
 row-short Entries linearization narrow i h =
-    omega (arith, line-short lineName (getD linearization (2 * i) 0 ∷ getD linearization (2 * i + 1) 0 ∷ []) (narrow (2 * i), (narrow (2 * i + 1), tt)))
+    let numbers : List ℕ = getD linearization (2 * i) 0 ∷ getD linearization (2 * i + 1) 0 ∷ [] in
+    omega (arith, line-short lineName numbers (narrow (2 * i), (narrow (2 * i + 1), tt)))
 
 pub refused-short : (number : ℕ) → number < 2 ^ 32 → length (refusedLine number) < 2 ^ 64
 refused-short number h = omega (arith, line-short refusedName (number ∷ []) (h, tt))
@@ -74,7 +80,7 @@ accepted-short played table report linearization f =
       section-short Entries linearization (f .points) (played .entries) (f .entries),
     )
 
--- no buffer is too short: each holds what the lines show
+-- No buffer is too short: each holds what the lines show
 pub enough : (played : Played) (table report linearization : List ℕ)
     → sourcesShort played table report linearization ≡ false
     → Enough played table report linearization

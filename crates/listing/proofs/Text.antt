@@ -61,7 +61,8 @@ take-next l i h = rw (add-one, take-suc l i 0)
 fields-append : (ms ns : List ℕ) → fields (ms ++ ns) ≡ fields ms ++ fields ns
 unfolding fields
 fields-append [] ns = refl
-fields-append (m ∷ ms) ns = ap (λ (t : List ℕ). (32 ∷ decimal m) ++ t) (fields-append ms ns) ∙ sym (append-assoc (32 ∷ decimal m) (fields ms) (fields ns))
+fields-append (m ∷ ms) ns =
+    ap (λ (t : List ℕ). (32 ∷ decimal m) ++ t) (fields-append ms ns) ∙ sym (append-assoc (32 ∷ decimal m) (fields ms) (fields ns))
 
 fields-one : (n : ℕ) → fields (n ∷ []) ≡ (32 ∷ []) ++ decimal n
 unfolding fields
@@ -75,7 +76,12 @@ fields-next ns i h =
 
 pub fields-within : (ns : List ℕ) (i : ℕ) → length (fields (take i ns)) ≤ length (fields ns)
 fields-within ns i =
-    omega (arith, ap (λ (l : List ℕ). length (fields l)) (take-append-drop i ns), ap length (fields-append (take i ns) (drop i ns)), length-append (fields (take i ns)) (fields (drop i ns)))
+    omega (
+      arith,
+      ap (λ (l : List ℕ). length (fields l)) (take-append-drop i ns),
+      ap length (fields-append (take i ns) (drop i ns)),
+      length-append (fields (take i ns)) (fields (drop i ns)),
+    )
 
 -- The same for a sequence.
 pub each-next : (f : ℕ → List ℕ) (i : ℕ) → each f (i + 1) ≡ each f i ++ f i

@@ -17,10 +17,19 @@ pub enum Section {
     Entries,
 }
 
-// What `list` answers: 0 and the text's length, or a refusal's number and zero.
+// What `list` answers: 0 and the text's length, which a usize holds for every play, or a refusal's number and zero.
 pub struct Listed {
     pub number: u32,
     pub bytes: usize,
+}
+
+// Writes the job's line.
+fn put_job(played: Played, out: &mut [u8]) -> usize
+    requires { ⌜ length (jobLine played) < 2 ^ 64 ⌝ }
+    ensures { λ r. ⌜ Wrote (jobLine played) 0 (now (out .entry)) (now (out .exit)) r ⌝ }
+{
+    let numbers = [played.nodes, played.heads, played.requests, played.grants];
+    lines::put_line(out, 0, b"job", &numbers)
 }
 
 // Writes all sections.
@@ -48,15 +57,6 @@ fn put_sections(
     )
 }
 
-// Writes the job's line.
-fn put_job(played: Played, out: &mut [u8]) -> usize
-    requires { ⌜ length (jobLine played) < 2 ^ 64 ⌝ }
-    ensures { λ r. ⌜ Wrote (jobLine played) 0 (now (out .entry)) (now (out .exit)) r ⌝ }
-{
-    let numbers = [played.nodes, played.heads, played.requests, played.grants];
-    lines::put_line(out, 0, b"job", &numbers)
-}
-
 // Writes the tally's line.
 fn put_tally(tally: Tally, out: &mut [u8], at: usize) -> usize
     requires { ⌜ at + length (tallyLine tally) < 2 ^ 64 ⌝ }
@@ -64,15 +64,6 @@ fn put_tally(tally: Tally, out: &mut [u8], at: usize) -> usize
 {
     let numbers = [tally.idle, tally.failed, tally.links, tally.working];
     lines::put_line(out, at, b"tally", &numbers)
-}
-
-// Writes a refusal's line.
-fn put_refused(number: u32, out: &mut [u8]) -> usize
-    requires { ⌜ length (refusedLine number) < 2 ^ 64 ⌝ }
-    ensures { λ r. ⌜ Wrote (refusedLine number) 0 (now (out .entry)) (now (out .exit)) r ⌝ }
-{
-    let numbers = [number];
-    lines::put_line(out, 0, b"refused", &numbers)
 }
 
 // Writes the text of a job that was not refused.
@@ -91,6 +82,15 @@ fn put_accepted(
     let job = put_job(played, out);
     let sections = put_sections(played, table, report, linearization, out, job);
     put_tally(played.tally, out, sections)
+}
+
+// Writes a refusal's line.
+fn put_refused(number: u32, out: &mut [u8]) -> usize
+    requires { ⌜ length (refusedLine number) < 2 ^ 64 ⌝ }
+    ensures { λ r. ⌜ Wrote (refusedLine number) 0 (now (out .entry)) (now (out .exit)) r ⌝ }
+{
+    let numbers = [number];
+    lines::put_line(out, 0, b"refused", &numbers)
 }
 
 // Writes the text.

@@ -1,5 +1,5 @@
-// Text into a lent buffer: bytes, decimal numbers and lines. A byte past the buffer's end is counted and dropped,
-// so that writing into an empty buffer measures the text.
+// Text into a lent buffer: bytes, decimal numbers and lines, each from a position on; the result is the position past it.
+// A byte past the buffer's end is counted and dropped, so that writing into an empty buffer measures the text.
 ghost use mathlib.Core.List.{[], _∷_};
 ghost use Prim.Native.Nat.{_+_, _^_, _<_};
 ghost use lib.ListN.{length};

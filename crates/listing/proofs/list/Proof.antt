@@ -3,6 +3,7 @@ use mathlib.Core.Path.{refl, sym, _∙_}
 use native.Mathlib.Omega.{arith}
 use borrow.Author.Tests.{lt-ltb, le-ltb}
 use denote.Ref.{now}
+use Rattle.listing.specs.Listing.{listed, printed}
 use Rattle.listing.proofs.Listing.{enough}
 use Rattle.listing.proofs.Writing.{wrote-whole}
 use borrow.Author.Needs.{needs}
@@ -13,6 +14,7 @@ any-short-requires : tie.Need-any-short-requires
 any-short-requires c κs = search needs
 
 returns : tie.Need-returns
+unfolding listed printed
 returns c = simp (← c .before .any-short .ensures, c .if1 .taken) (refl, refl)
 
 listing-length-requires : tie.Need-listing-length-requires
@@ -22,6 +24,7 @@ listing-length-requires c κs =
     (sym (c .before .any-short .ensures) ∙ c .if1 .left)
 
 returns-2 : tie.Need-returns-2
+unfolding listed printed
 returns-2 c =
     let sources = sym (c .before .before .before .any-short .ensures) ∙ c .before .before .if1 .left in
     simp (sources, ← c .before .listing-length .ensures, lt-ltb _ _ (c .if2 .taken)) (refl, refl)
@@ -36,6 +39,7 @@ same-length : tie.Need-same-length
 same-length c = search needs
 
 returns-3 : tie.Need-returns-3
+unfolding listed printed
 returns-3 c =
     let sources = sym (c .before .before .before .before .before .before .before .any-short .ensures) ∙ c .before .before .before .before .before .before .if1 .left in
     let size = c .before .before .before .before .before .listing-length .ensures in

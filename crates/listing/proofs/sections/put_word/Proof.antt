@@ -1,3 +1,4 @@
+-- `sections::put_word`: the parent and the rank are those of the word crate.
 use borrow.Author.Needs.{needs}
 use Rattle.listing.proofs.sections.put_word.Statement.{statement}
 use Rattle.listing.proofs.sections.put_word.Tie as tie
