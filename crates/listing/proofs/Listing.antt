@@ -1,7 +1,7 @@
 -- Laws of the listing: what its lines take of their buffers, and that any text can be counted in 64 bits.
 --
 --   Fitting p t r l   the numbers of the play p and of its three buffers have 32 bits
-use mathlib.Core.Path.{_≡_, refl}
+use mathlib.Core.Path.{_≡_, refl, sym, _∙_}
 use mathlib.Core.Bool.{Bool, true, false, cond}
 use mathlib.Core.List.{List, [], _∷_}
 use Prim.Native.Nat.{ℕ, _+_, _*_, _^_, _≤_, _<_}
@@ -81,11 +81,13 @@ accepted-short played table report linearization f =
     )
 
 -- No buffer is too short: each holds what the lines show
-pub enough : (played : Played) (table report linearization : List ℕ)
-    → sourcesShort played table report linearization ≡ false
+pub enough : (played : Played) (table report linearization : List ℕ) {short : Bool}
+    → short ≡ sourcesShort played table report linearization
+    → short ≡ false
     → Enough played table report linearization
-enough played table report linearization e =
-    go (ltb (length table) (rowSize Words * played .nodes)) (ltb (length report) (rowSize Requests * played .requests)) refl refl e
+enough played table report linearization told e =
+    go (ltb (length table) (rowSize Words * played .nodes)) (ltb (length report) (rowSize Requests * played .requests)) refl refl
+    (sym told ∙ e)
   where
     go : (w r : Bool)
         → ltb (length table) (rowSize Words * played .nodes) ≡ w
