@@ -38,7 +38,7 @@ fn put_fields(out: &mut [u8], at: usize, numbers: &[u32]) -> usize
     let mut next = at;
     let mut i = 0;
     while i < numbers.len() {
-        let digits = put_byte(out, next, 32);
+        let digits = put_byte(out, next, b' ');
         next = put_decimal(out, digits, numbers[i]);
         i += 1;
     }
@@ -66,5 +66,5 @@ pub fn put_line(out: &mut [u8], at: usize, name: &[u8], numbers: &[u32]) -> usiz
 {
     let named = put_name(out, at, name);
     let numbered = put_fields(out, named, numbers);
-    put_byte(out, numbered, 10)
+    put_byte(out, numbered, b'\n')
 }
