@@ -1,19 +1,17 @@
 -- The checks of a file in their order: the first that refuses gives the answer, and where none does, the counts are the job's.
-use mathlib.Core.Path.{_≡_, refl, _∙_, sym, ap}
-use mathlib.Core.List.{List, map}
+use mathlib.Core.Path.{_≡_, _∙_, sym, ap}
+use mathlib.Core.List.{List}
 use Prim.Native.Nat.{ℕ, _+_, _*_, _≤_, _<_}
 use native.Mathlib.Omega.{arith}
 use lib.ListN.{length, drop, length-drop, length-map}
 use borrow.Author.Tests.{lt-ltb, le-ltb, ne-eqb}
-use Rattle.jobfile.specs.Format.{mostBytes, requestMark, runMark, word, _then_, lengthRefusal}
+use Rattle.jobfile.specs.Format.{mostBytes, runMark, _then_, lengthRefusal}
 use Rattle.jobfile.specs.Meaning.{records, nodesIn, headsIn, headerRefusal, requestsRefusal, requestAt, runsRefusal, runAt, fullRun, granted, closeRefusal, balanceRefusal, requestRecords, runsStart, runRecords, closeStart, fileRefusal, runsIn, jobIn, refused, meaning}
-use Rattle.jobfile.specs.Written.{longestRuns}
 use Rattle.jobfile.specs.Admitted.{Bytes}
 use Rattle.jobfile.proofs.Passed.{header-passed, requests-fit, runs-fit}
 use Rattle.jobfile.proofs.Backward.{request-section, run-section}
 use Rattle.jobfile.proofs.RoundTrip.{meaning-number, meaning-accepted, meaning-refused}
 use Rattle.jobfile.proofs.Places.{runs-meant}
-use Rattle.reader.specs.declared.Checked.{Checked}
 use Rattle.reader.specs.declared.sections.RequestSection.{RequestSection}
 use Rattle.reader.specs.declared.sections.RunSection.{RunSection}
 use Rattle.reader.specs.Reader.{countsOf, requestSectionOf, runSectionOf}

@@ -8,9 +8,7 @@ use lib.ListN.{length, getD, drop}
 use lib.Seq.{getD-drop, drop-drop}
 use borrow.Author.Tests.{le-ltb}
 use Rattle.job.specs.declared.Kind.{Kind}
-use Rattle.job.specs.declared.Request.{Request}
 use Rattle.job.specs.Job.{kindOf}
-use Rattle.jobfile.specs.declared.Fields.{Fields}
 use Rattle.jobfile.specs.declared.Run.{Run}
 use Rattle.jobfile.specs.Format.{word, extends}
 use Rattle.jobfile.specs.Meaning.{fieldsAt, requestAt, runAt, runRefusal}

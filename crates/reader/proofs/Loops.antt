@@ -4,11 +4,9 @@
 --   RunsTo s h from at before count grants the runs from `from` to `at` are read; `before` is the last of them
 --   X-start, X-next, X-refused, X-end      the invariant holds at first, after a record, and what it gives at each way out
 use mathlib.Core.Path.{_≡_, refl, _∙_, sym, ap}
-use mathlib.Core.Bool.{cond}
-use mathlib.Core.List.{List, [], _∷_, _++_, map}
+use mathlib.Core.List.{List, _∷_, map}
 use Prim.Native.Nat.{ℕ, _+_, _*_, _≤_, _<_}
 use native.Mathlib.Omega.{arith}
-use lib.Dec.{eqb}
 use lib.ListN.{length, getD, drop, length-drop, length-append, length-replicate}
 use lib.Seq.{drop-drop}
 use borrow.Author.Tests.{ne-eqb}
@@ -16,9 +14,7 @@ use Rattle.jobfile.specs.declared.Run.{Run}
 use Rattle.jobfile.specs.Format.{requestMark, runMark, word, _then_}
 use Rattle.jobfile.specs.Meaning.{records, requestRefusal, requestsRefusal, runAt, runRefusal, runsRefusal, fullRun, granted}
 use Rattle.jobfile.proofs.Records.{records-next, records-end}
-use Rattle.jobfile.proofs.Passed.{RequestPassed, request-passed, RunPassed, run-passed}
-use Rattle.reader.specs.declared.sections.RequestSection.{RequestSection}
-use Rattle.reader.specs.declared.sections.RunSection.{RunSection}
+use Rattle.jobfile.proofs.Passed.{request-passed, run-passed}
 use Rattle.reader.specs.Reader.{requestSectionOf, runSectionOf}
 
 module _ (s : List ℕ) (nodes heads : ℕ) where
