@@ -38,7 +38,7 @@ pub record RequestsRead (s : List ℕ) (q : RequestSection) : Type 0 where
   pub header : headerRefusal s ≡ 0
   pub read : q ≡ requestSectionOf (nodesIn s) (headsIn s) (requestRecords s)
 
-module _ (s : List ℕ) (q : RequestSection) (h : RequestsRead s q) where
+module _ {s : List ℕ} {q : RequestSection} (h : RequestsRead s q) where
   request-number : q .number ≡ requestsRefusal (nodesIn s) (headsIn s) 0 (requestRecords s)
   unfolding requestSectionOf
   request-number = ap (λ (q : RequestSection). q .number) (h .read)
@@ -63,9 +63,9 @@ pub record RunsRead (s : List ℕ) (q : RequestSection) (r : RunSection) : Type 
   pub requests : q .number ≡ 0
   pub read : r ≡ runSectionOf (headsIn s) (records 4 runMark (drop (6 + 8 * q .count) s))
 
-module _ (s : List ℕ) (q : RequestSection) (r : RunSection) (h : RunsRead s q r) where
+module _ {s : List ℕ} {q : RequestSection} {r : RunSection} (h : RunsRead s q r) where
   run-read : r ≡ runSectionOf (headsIn s) (runRecords s)
-  run-read = rw (request-count s q (h .before) (h .requests)) at (h .read)
+  run-read = rw (request-count (h .before) (h .requests)) at (h .read)
 
   run-number : r .number ≡ runsRefusal (headsIn s) fullRun (runRecords s)
   unfolding runSectionOf
@@ -75,7 +75,7 @@ module _ (s : List ℕ) (q : RequestSection) (r : RunSection) (h : RunsRead s q 
   unfolding fileRefusal
   runs-answer z =
       let b = h .before in
-      refusal-answers s (r .number) (simp (length-passes s (b .short), b .header, ← request-number s q b, h .requests, ← run-number, ne-eqb (r .number) 0 z)) z
+      refusal-answers s (r .number) (simp (length-passes s (b .short), b .header, ← request-number b, h .requests, ← run-number, ne-eqb (r .number) 0 z)) z
 
   run-count : r .number ≡ 0 → r .count ≡ length (runRecords s)
   unfolding runSectionOf
@@ -90,8 +90,8 @@ module _ (s : List ℕ) (q : RequestSection) (r : RunSection) (h : RunsRead s q 
   close-room z =
       omega (
         arith,
-        runs-room s q (h .before) (h .requests),
-        request-count s q (h .before) (h .requests),
+        runs-room (h .before) (h .requests),
+        request-count (h .before) (h .requests),
         run-count z,
         length-drop (runsStart s) s,
         runs-fit (headsIn s) fullRun (run-section s) (sym run-number ∙ z),
@@ -103,15 +103,15 @@ pub record CloseRead (s : List ℕ) (q : RequestSection) (r : RunSection) (n : �
   pub runs : r .number ≡ 0
   pub read : n ≡ (closeRefusal (drop (6 + 8 * q .count + 4 * r .count) s) then balanceRefusal s)
 
-module _ (s : List ℕ) (q : RequestSection) (r : RunSection) (n : ℕ) (h : CloseRead s q r n) where
+module _ {s : List ℕ} {q : RequestSection} {r : RunSection} {n : ℕ} (h : CloseRead s q r n) where
   close-number : n ≡ (closeRefusal (drop (closeStart s) s) then balanceRefusal s)
-  close-number = rw (request-count s q (h .before .before) (h .before .requests), run-count s q r (h .before) (h .runs)) at (h .read)
+  close-number = rw (request-count (h .before .before) (h .before .requests), run-count (h .before) (h .runs)) at (h .read)
 
   file-number : fileRefusal s ≡ n
   unfolding fileRefusal
   file-number =
       let b = h .before .before in
-      simp (length-passes s (b .short), b .header, ← request-number s q b, h .before .requests, ← run-number s q r (h .before), h .runs) (sym close-number)
+      simp (length-passes s (b .short), b .header, ← request-number b, h .before .requests, ← run-number (h .before), h .runs) (sym close-number)
 
   pub close-answers : (n ≡ 0 → ⊥) → countsOf (refused n) ≡ countsOf (meaning s)
   close-answers z = refusal-answers s n file-number z
@@ -122,9 +122,9 @@ module _ (s : List ℕ) (q : RequestSection) (r : RunSection) (n : ℕ) (h : Clo
   counts-answer b z =
       let accepts = meaning-accepted s (file-number ∙ z) in
       let none : meaning s .number ≡ 0 = meaning-number s ∙ file-number ∙ z in
-      let requests = request-count s q (h .before .before) (h .before .requests) in
-      let grants = run-grants s q r (h .before) (h .runs) in
-      let runs = run-count s q r (h .before) (h .runs) in
+      let requests = request-count (h .before .before) (h .before .requests) in
+      let grants = run-grants (h .before) (h .runs) in
+      let runs = run-count (h .before) (h .runs) in
       λ i. record {
         number = sym none i;
         nodes = ap (λ m. m .job .nodes) (sym accepts) i;

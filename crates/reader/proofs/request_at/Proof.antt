@@ -16,7 +16,8 @@ add-request-here : tie.Need-add-request-here
 add-request-here c = search needs
 
 request-here-requires : tie.Need-request-here-requires
-request-here-requires c κs = let s = now (c .before .args .file) in
+request-here-requires c κs =
+    let s = now (c .before .args .file) in
     let bytes : Bytes s = λ i. omega (arith, c .shared-slice-known .given i) in
     omega (arith, admitted-meaning s bytes (c .before .pre .0) .few-requests)
 

@@ -21,7 +21,8 @@ add-run-here-2 : tie.Need-add-run-here-2
 add-run-here-2 c = search needs
 
 run-here-requires : tie.Need-run-here-requires
-run-here-requires c κs = let s = now (c .before .args .file) in
+run-here-requires c κs =
+    let s = now (c .before .args .file) in
     let bytes : Bytes s = λ i. omega (arith, c .shared-slice-known .given i) in
     omega (arith, file-length s bytes (c .before .pre .0), file-short s bytes (c .before .pre .0))
 

@@ -29,10 +29,10 @@ loop-less : tie.Need-loop-less Inv-loop μ-loop
 loop-less c = omega arith
 
 loop-again : tie.Need-loop-again Inv-loop μ-loop
-loop-again c = sum-next (c .before .before .before .before .before .args .file .now) (c .before .before .before .loop .sum) (c .before .before .before .loop .at) _ (c .before .before .before .loop .inv) (c .before .before .loop-test .taken) (rw (← c .before .word-at .ensures) (c .wrapping-add-u16 .ensures))
+loop-again c = sum-next _ (c .before .before .before .loop .inv) (c .before .before .loop-test .taken) (rw (← c .before .word-at .ensures) (c .wrapping-add-u16 .ensures))
 
 returns : tie.Need-returns Inv-loop μ-loop
-returns c = sum-end (c .before .before .before .args .file .now) _ (c .before .loop .at) (c .before .loop .inv) (c .loop-test .left)
+returns c = sum-end (c .before .loop .inv) (c .loop-test .left)
 
 pub sum-words-spec : {M : Type 1} → statement M
 sum-words-spec =

@@ -33,7 +33,9 @@ word-at-requires-2 : tie.Need-word-at-requires-2
 word-at-requires-2 c κs = search needs
 
 returns : tie.Need-returns
-returns c = let a = c .before .before .before .before .before .before .args in request-read (now (a .file)) (a .at) _ _ (c .before .before .before .byte-at2 .result) _ _ (c .before .before .before .before .byte-at .ensures) (c .before .before .kind-of .ensures) (c .before .before .before .byte-at2 .ensures) (c .before .word-at .ensures) (c .word-at2 .ensures)
+returns c =
+    let a = c .before .before .before .before .before .before .args in
+    request-read (now (a .file)) (a .at) _ _ (c .before .before .before .byte-at2 .result) _ _ (c .before .before .before .before .byte-at .ensures) (c .before .before .kind-of .ensures) (c .before .before .before .byte-at2 .ensures) (c .before .word-at .ensures) (c .word-at2 .ensures)
 
 pub request-here-spec : {M : Type 1} → statement M
 request-here-spec =

@@ -18,7 +18,9 @@ byte-at-requires-2 : tie.Need-byte-at-requires-2
 byte-at-requires-2 c κs = search needs
 
 returns : tie.Need-returns
-returns c = let a = c .before .before .before .args in run-read (now (a .file)) (a .at) _ _ (c .before .byte-at .ensures) (c .byte-at2 .ensures)
+returns c =
+    let a = c .before .before .before .args in
+    run-read (now (a .file)) (a .at) _ _ (c .before .byte-at .ensures) (c .byte-at2 .ensures)
 
 pub run-here-spec : {M : Type 1} → statement M
 run-here-spec =

@@ -1,7 +1,6 @@
 -- `records::run_refusal`: one test a line of the definition, on the run's own numbers.
 use denote.Ref.{now}
-use lib.ListN.{drop}
-use lib.ListN.{length-drop}
+use lib.ListN.{drop, length-drop}
 use borrow.Author.Needs.{needs}
 use borrow.Author.Tests.{lt-ltb, le-leb, lt-leb, eq-eqb, ne-eqb}
 use Rattle.jobfile.specs.Meaning.{runRefusal}
@@ -23,13 +22,15 @@ cast-if2 : tie.Need-cast-if2
 cast-if2 c = search needs
 
 returns-2 : tie.Need-returns-2
-returns-2 c = let a = c .before .before .before .before .before .args in
+returns-2 c =
+    let a = c .before .before .before .before .before .args in
     let t = drop (a .at) (now (a .file)) in
     rw (run-numbers (a .heads) (a .before) (c .before .before .run-here .result) t (c .before .before .run-here .ensures) (rw length-drop (c .before .before .before .if1 .left)))
     (simp (le-leb _ _ (c .if2 .taken)))
 
 returns-3 : tie.Need-returns-3
-returns-3 c = let a = c .before .before .before .before .before .before .before .args in
+returns-3 c =
+    let a = c .before .before .before .before .before .before .before .args in
     let t = drop (a .at) (now (a .file)) in
     rw (run-numbers (a .heads) (a .before) (c .before .before .before .before .run-here .result) t (c .before .before .before .before .run-here .ensures) (rw length-drop (c .before .before .before .before .before .if1 .left)))
     (simp (lt-leb _ _ (c .before .before .if2 .left), eq-eqb _ _ (c .if3 .taken)))
@@ -38,13 +39,15 @@ does-extend-requires : tie.Need-does-extend-requires
 does-extend-requires c κs = search needs
 
 returns-4 : tie.Need-returns-4
-returns-4 c = let a = c .before .before .before .before .before .before .before .before .before .args in
+returns-4 c =
+    let a = c .before .before .before .before .before .before .before .before .before .args in
     let t = drop (a .at) (now (a .file)) in
     rw (run-numbers (a .heads) (a .before) (c .before .before .before .before .before .before .run-here .result) t (c .before .before .before .before .before .before .run-here .ensures) (rw length-drop (c .before .before .before .before .before .before .before .if1 .left)))
     (simp (lt-leb _ _ (c .before .before .before .before .if2 .left), ne-eqb _ _ (c .before .before .if3 .left), ← c .before .does-extend .ensures, c .if4 .taken))
 
 returns-5 : tie.Need-returns-5
-returns-5 c = let a = c .before .before .before .before .before .before .before .before .before .args in
+returns-5 c =
+    let a = c .before .before .before .before .before .before .before .before .before .args in
     let t = drop (a .at) (now (a .file)) in
     rw (run-numbers (a .heads) (a .before) (c .before .before .before .before .before .before .run-here .result) t (c .before .before .before .before .before .before .run-here .ensures) (rw length-drop (c .before .before .before .before .before .before .before .if1 .left)))
     (simp (lt-leb _ _ (c .before .before .before .before .if2 .left), ne-eqb _ _ (c .before .before .if3 .left), ← c .before .does-extend .ensures, c .if4 .left))

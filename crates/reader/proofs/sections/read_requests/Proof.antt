@@ -1,5 +1,5 @@
 -- `sections::read_requests`: the requests that are left give what all of them give.
-use mathlib.Core.Path.{_∙_, sym}
+use mathlib.Core.Path.{_∙_}
 use Prim.Native.Nat.{_+_, _-_}
 use native.Mathlib.Omega.{arith}
 use lib.ListN.{length}
@@ -15,7 +15,7 @@ abbrev μ-loop : tie.MeasureT-loop
 μ-loop file nodes heads at₀ count₀ at count = length file + 8 - at
 
 loop-holds : tie.Need-loop-holds Inv-loop μ-loop
-loop-holds c = requests-start (c .before .args .file .now) (c .before .args .nodes) (c .before .args .heads) (c .before .pre .0)
+loop-holds c = requests-start _ _ _ (c .before .pre .0)
 
 word-at-requires : tie.Need-word-at-requires Inv-loop μ-loop
 word-at-requires c κs = omega arith
@@ -24,7 +24,7 @@ request-refusal-requires : tie.Need-request-refusal-requires Inv-loop μ-loop
 request-refusal-requires c κs = search needs
 
 returns : tie.Need-returns Inv-loop μ-loop
-returns c = requests-refused (c .before .before .before .before .before .before .args .file .now) (c .before .before .before .before .before .before .args .nodes) (c .before .before .before .before .before .before .args .heads) (c .before .before .before .before .loop .at) (c .before .before .before .before .loop .count) (c .before .before .before .before .loop .inv) _ (sym (c .before .before .before .word-at .ensures) ∙ c .before .before .if1 .taken) (c .before .request-refusal .ensures) (c .if2 .taken)
+returns c = requests-refused (c .before .before .before .before .loop .inv) _ (cc) (c .before .request-refusal .ensures) (c .if2 .taken)
 
 add-at : tie.Need-add-at Inv-loop μ-loop
 add-at c = omega arith
@@ -36,10 +36,10 @@ loop-less : tie.Need-loop-less Inv-loop μ-loop
 loop-less c = omega arith
 
 loop-again : tie.Need-loop-again Inv-loop μ-loop
-loop-again c = requests-next (c .before .before .before .before .before .before .args .file .now) (c .before .before .before .before .before .before .args .nodes) (c .before .before .before .before .before .before .args .heads) (c .before .before .before .before .loop .at) (c .before .before .before .before .loop .count) (c .before .before .before .before .loop .inv) (sym (c .before .before .before .word-at .ensures) ∙ c .before .before .if1 .taken) (sym (c .before .request-refusal .ensures) ∙ c .if2 .left)
+loop-again c = requests-next (c .before .before .before .before .loop .inv) (cc) (cc)
 
 returns-2 : tie.Need-returns-2 Inv-loop μ-loop
-returns-2 c = requests-end (c .before .before .before .before .args .file .now) (c .before .before .before .before .args .nodes) (c .before .before .before .before .args .heads) (c .before .before .loop .at) (c .before .before .loop .count) (c .before .before .loop .inv) (λ e. c .if1 .left (c .before .word-at .ensures ∙ e))
+returns-2 c = requests-end (c .before .before .loop .inv) (λ e. c .if1 .left (c .before .word-at .ensures ∙ e))
 
 pub read-requests-spec : {M : Type 1} → statement M
 read-requests-spec =

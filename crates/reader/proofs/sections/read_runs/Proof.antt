@@ -1,5 +1,5 @@
 -- `sections::read_runs`: the runs that are left give what all of them give.
-use mathlib.Core.Path.{_∙_, sym}
+use mathlib.Core.Path.{_∙_}
 use Prim.Native.Nat.{_+_, _*_, _-_}
 use native.Mathlib.Omega.{arith}
 use lib.ListN.{length}
@@ -21,7 +21,7 @@ add-at : tie.Need-add-at Inv-loop μ-loop
 add-at c = omega arith
 
 loop-holds : tie.Need-loop-holds Inv-loop μ-loop
-loop-holds c = runs-start (c .before .args .file .now) (c .before .args .heads) (6 + 8 * c .before .args .requests) (c .before .pre .0)
+loop-holds c = runs-start _ _ _ (c .before .pre .0)
 
 word-at-requires : tie.Need-word-at-requires Inv-loop μ-loop
 word-at-requires c κs = omega arith
@@ -30,7 +30,7 @@ run-refusal-requires : tie.Need-run-refusal-requires Inv-loop μ-loop
 run-refusal-requires c κs = search needs
 
 returns : tie.Need-returns Inv-loop μ-loop
-returns c = runs-refused (c .before .before .before .before .before .before .args .file .now) (c .before .before .before .before .before .before .args .heads) (6 + 8 * c .before .before .before .before .before .before .args .requests) (c .before .before .before .before .loop .at) (c .before .before .before .before .loop .before) (c .before .before .before .before .loop .count) (c .before .before .before .before .loop .grants) (c .before .before .before .before .loop .inv) _ (sym (c .before .before .before .word-at .ensures) ∙ c .before .before .if1 .taken) (c .before .run-refusal .ensures) (c .if2 .taken)
+returns c = runs-refused (c .before .before .before .before .loop .inv) _ (cc) (c .before .run-refusal .ensures) (c .if2 .taken)
 
 run-here-requires : tie.Need-run-here-requires Inv-loop μ-loop
 run-here-requires c κs = omega arith
@@ -51,10 +51,10 @@ loop-less : tie.Need-loop-less Inv-loop μ-loop
 loop-less c = omega arith
 
 loop-again : tie.Need-loop-again Inv-loop μ-loop
-loop-again c = runs-next (c .before .before .before .before .before .before .before .before .args .file .now) (c .before .before .before .before .before .before .before .before .args .heads) (6 + 8 * c .before .before .before .before .before .before .before .before .args .requests) (c .before .before .before .before .before .before .loop .at) (c .before .before .before .before .before .before .loop .before) (c .before .before .before .before .before .before .loop .count) (c .before .before .before .before .before .before .loop .grants) (c .before .before .before .before .before .before .loop .inv) (c .before .run-here .result) (sym (c .before .before .before .before .before .word-at .ensures) ∙ c .before .before .before .before .if1 .taken) (sym (c .before .before .before .run-refusal .ensures) ∙ c .before .before .if2 .left) (c .before .run-here .ensures) (omega arith)
+loop-again c = runs-next (c .before .before .before .before .before .before .loop .inv) _ (cc) (cc) (c .before .run-here .ensures) (omega arith)
 
 returns-2 : tie.Need-returns-2 Inv-loop μ-loop
-returns-2 c = runs-end (c .before .before .before .before .args .file .now) (c .before .before .before .before .args .heads) (6 + 8 * c .before .before .before .before .args .requests) (c .before .before .loop .at) (c .before .before .loop .before) (c .before .before .loop .count) (c .before .before .loop .grants) (c .before .before .loop .inv) (λ e. c .if1 .left (c .before .word-at .ensures ∙ e))
+returns-2 c = runs-end (c .before .before .loop .inv) (λ e. c .if1 .left (c .before .word-at .ensures ∙ e))
 
 pub read-runs-spec : {M : Type 1} → statement M
 read-runs-spec =
