@@ -1,4 +1,11 @@
 -- The checks of a file in their order: the first that refuses gives the answer, and where none does, the counts are the job's.
+--
+--   RequestsRead s q       the length and the header are accepted, and q is what reading the requests gave
+--   RunsRead s q r         the requests are accepted too, and r is what reading the runs gave
+--   CloseRead s q r n      the runs are accepted too, and n is the refusal of the close and the balance
+--   length-answers .. close-answers   the answer where that check refuses
+--   counts-answer          the answer where none does
+--   runs-room, close-room  where the next section starts is within the file
 use mathlib.Core.Path.{_≡_, _∙_, sym, ap}
 use mathlib.Core.List.{List}
 use Prim.Native.Nat.{ℕ, _+_, _*_, _≤_, _<_}

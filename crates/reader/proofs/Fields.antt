@@ -1,4 +1,7 @@
 -- The numbers of a record, by the bytes and words that they are read from.
+--
+--   fields-read, request-read, run-read   a record of numbers is the one at that place, if each was read from its bytes
+--   run-numbers            the refusal of a run that is whole, by its numbers
 use mathlib.Core.Path.{_≡_, _∙_, sym, ap}
 use mathlib.Core.Bool.{cond}
 use mathlib.Core.List.{List}

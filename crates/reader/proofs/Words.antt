@@ -2,6 +2,7 @@
 --
 --   word-drop           the word at a place, by its two bytes
 --   Summed s sum at     sum is that of the words before the place `at`, without carries out of 16 bits
+--   sum-start, sum-next, sum-end   it holds at first, after a word, and what it gives at the end
 use mathlib.Core.Path.{_≡_, refl}
 use mathlib.Core.List.{List, [], _∷_}
 use Prim.Native.Nat.{ℕ, _+_, _*_, _%_, _≤_, _<_}
