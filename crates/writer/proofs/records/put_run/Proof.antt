@@ -1,0 +1,31 @@
+use borrow.Author.Needs.{needs}
+use Rattle.writer.proofs.records.put_run.Statement.{statement}
+use Rattle.writer.proofs.records.put_run.Tie as tie
+use Rattle.writer.proofs.records.put_run.Reads as reads
+use Rattle.writer.proofs.records.put_run.Lts as lts
+use Rattle.writer.proofs.records.put_bytes.Reads as put-bytes-reads
+use Rattle.writer.proofs.records.put_word.Reads as put-word-reads
+
+-- src/records.rt:72:5
+put-word-requires : tie.Need-put-word-requires
+put-word-requires c κs = search needs
+
+-- src/records.rt:73:20
+add-put-bytes : tie.Need-add-put-bytes
+add-put-bytes c = search needs
+
+-- src/records.rt:73:5
+put-bytes-requires : tie.Need-put-bytes-requires
+put-bytes-requires c κs = search needs
+
+-- src/records.rt:68:1
+same-length : tie.Need-same-length
+same-length c = search needs
+
+-- src/records.rt:68:1
+returns : tie.Need-returns
+returns c = ?
+
+pub put-run-spec : {M : Type 1} → statement M
+put-run-spec =
+    tie.close (tie.spec put-word-requires add-put-bytes put-bytes-requires same-length returns)
