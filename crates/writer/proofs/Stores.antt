@@ -3,6 +3,7 @@
 --   sets-after, stored-on   stores that follow on others are one row of stores
 --   sets-front          what stores from the front leave
 --   kind-kept           the number of an admitted kind is kept
+--   request-stored      the four stores of a request make its record
 --   RequestsStored out₀ l at out     the requests before the position at are stored
 --   RunsStored out₀ start gs i at out   the runs of the grants before the i-th are stored, up to the byte at
 use mathlib.Core.Path.{_≡_, refl, _∙_, sym, ap}
@@ -14,10 +15,10 @@ use lib.Seq.{sets, sets-eq, length-sets}
 use Rattle.job.specs.Job.{kindOf, kindNumber}
 use Rattle.jobfile.specs.declared.Fields.{Fields}
 use Rattle.jobfile.specs.declared.Run.{Run}
-use Rattle.jobfile.specs.Format.{mostNodes, mostHeads, fieldsRefusal, requestOf}
+use Rattle.jobfile.specs.Format.{requestMark, mostNodes, mostHeads, wordBytes, fieldsRefusal, requestOf}
 use Rattle.jobfile.specs.Written.{requestBytes, requestsBytes, runBytes, runsBytes, longestRuns}
 use Rattle.jobfile.specs.Draft.{fieldsOf, eachRefusal}
-use Rattle.jobfile.proofs.Tests.{Both, through}
+use Rattle.jobfile.proofs.Tests.{Both, through, fit}
 use Rattle.writer.specs.Write.{fieldsFrom}
 use Rattle.writer.proofs.Requests.{fields-next, fields-end}
 use Rattle.writer.proofs.Grants.{run-taken}
@@ -38,6 +39,18 @@ kind-kept zero some few = absurd (omega arith)
 kind-kept (suc zero) some few = refl
 kind-kept (suc (suc zero)) some few = refl
 kind-kept (suc (suc (suc n))) some few = absurd (omega arith)
+
+pub request-stored : (l a b c d : List ℕ) (at : ℕ) (q : Fields) → fieldsRefusal mostNodes mostHeads q ≡ 0
+    → a ≡ sets l at (wordBytes requestMark) → b ≡ sets a (at + 2) (q .head ∷ q .kind ∷ [])
+    → c ≡ sets b (at + 4) (wordBytes (q .x)) → d ≡ sets c (at + 6) (wordBytes (q .y))
+    → d ≡ sets l at (requestBytes (requestOf q))
+request-stored l a b c d at q fits first second third fourth =
+    let f = fit mostNodes mostHeads q fits in
+    let mark = wordBytes requestMark in
+    let two = stored-on l a b mark (q .head ∷ q .kind ∷ []) at (at + 2) (omega arith) first second in
+    let three = stored-on l b c (mark ++ q .head ∷ q .kind ∷ []) (wordBytes (q .x)) at (at + 4) (omega arith) two third in
+    rw (kind-kept (q .kind) (f .some-kind) (f .few-kinds))
+    (stored-on l c d (mark ++ (q .head ∷ q .kind ∷ []) ++ wordBytes (q .x)) (wordBytes (q .y)) at (at + 6) (omega arith) three fourth)
 
 -- The bytes of the requests that admitted numbers stand for.
 abbrev bytesOf : List Fields → List ℕ

@@ -1,4 +1,10 @@
 use borrow.Author.Needs.{needs}
+use native.Mathlib.Omega.{arith}
+use denote.Ref.{now}
+use mathlib.Core.List.{[], _∷_}
+use Prim.Native.Nat.{_+_}
+use Rattle.jobfile.specs.Format.{runMark, wordBytes}
+use Rattle.writer.proofs.Stores.{stored-on}
 use Rattle.writer.proofs.records.put_run.Statement.{statement}
 use Rattle.writer.proofs.records.put_run.Tie as tie
 use Rattle.writer.proofs.records.put_run.Reads as reads
@@ -24,7 +30,8 @@ same-length c = search needs
 
 -- src/records.rt:68:1
 returns : tie.Need-returns
-returns c = ?
+returns c =    let a = c .before .before .before .before .before .before .before .before .before .args in
+    stored-on (now (a .out)) _ _ (wordBytes runMark) (a .run .head ∷ a .run .count ∷ []) (a .at) (a .at + 2) (omega arith) (c .before .before .before .before .before .before .put-word .ensures) (c .before .before .put-bytes .ensures)
 
 pub put-run-spec : {M : Type 1} → statement M
 put-run-spec =

@@ -2,6 +2,7 @@ use borrow.Author.Needs.{needs}
 use native.Mathlib.Omega.{arith}
 use lib.Seq.{getD-drop}
 use native.Mathlib.Nat.{add-zero}
+use Prim.Native.Nat.{_+_}
 use Rattle.writer.proofs.records.word_at.Statement.{statement}
 use Rattle.writer.proofs.records.word_at.Tie as tie
 use Rattle.writer.proofs.records.word_at.Reads as reads

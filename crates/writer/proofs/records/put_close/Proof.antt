@@ -1,0 +1,58 @@
+use borrow.Author.Needs.{needs}
+use Rattle.writer.proofs.records.put_close.Statement.{statement}
+use Rattle.writer.proofs.records.put_close.Tie as tie
+use Rattle.writer.proofs.records.put_close.Reads as reads
+use Rattle.writer.proofs.records.put_close.Lts as lts
+use Rattle.std.proofs.num.wrapping_sub_u16.Reads as wrapping-sub-u16-reads
+use Rattle.writer.proofs.records.put_word.Reads as put-word-reads
+use Rattle.writer.proofs.records.word_sum.Reads as word-sum-reads
+
+-- src/records.rt:127:5
+put-word-requires : tie.Need-put-word-requires
+put-word-requires c κs = search needs
+
+-- src/records.rt:128:15
+add-end : tie.Need-add-end
+add-end c = search needs
+
+-- src/records.rt:129:24
+slice-reshare-prefix-word-sum : tie.Need-slice-reshare-prefix-word-sum
+slice-reshare-prefix-word-sum c = search needs
+
+-- src/records.rt:129:24
+slice-aggregate-word-sum : tie.Need-slice-aggregate-word-sum
+slice-aggregate-word-sum c = ?
+
+-- src/records.rt:129:9
+word-sum-requires : tie.Need-word-sum-requires
+word-sum-requires c κs = ?
+
+-- src/records.rt:130:24
+wrapping-sub-u16-requires : tie.Need-wrapping-sub-u16-requires
+wrapping-sub-u16-requires c κs = search needs
+
+-- src/records.rt:130:5
+put-word-requires-2 : tie.Need-put-word-requires-2
+put-word-requires-2 c κs = search needs
+
+-- src/records.rt:123:1
+same-length : tie.Need-same-length
+same-length c = search needs
+
+-- src/records.rt:123:1
+returns : tie.Need-returns
+returns c = ?
+
+pub put-close-spec : {M : Type 1} → statement M
+put-close-spec =
+    tie.close
+    (tie.spec
+    put-word-requires
+    add-end
+    slice-reshare-prefix-word-sum
+    slice-aggregate-word-sum
+    word-sum-requires
+    wrapping-sub-u16-requires
+    put-word-requires-2
+    same-length
+    returns)
