@@ -4,6 +4,7 @@
 --   Growing gs at i r   the run r of the grants from at up to i is under way
 --   run-taken           the longest run at a grant lies within the grants
 --   runs-few            there are no more runs than grants
+--   Counted gs i runs   the runs of the grants before the i-th are counted
 use mathlib.Core.Path.{_≡_, refl, _∙_, sym, ap}
 use mathlib.Core.Bool.{Bool, true, false, cond}
 use mathlib.Core.List.{List, [], _∷_, _++_}
@@ -99,3 +100,19 @@ from-few r (g ∷ gs) =
 pub runs-few : (gs : List ℕ) → length (longestRuns gs) ≤ length gs
 runs-few [] = omega arith
 runs-few (g ∷ gs) = from-few (record { head = g; count = 1 }) gs
+
+pub record Counted (gs : List ℕ) (i runs : ℕ) : Type 0 where
+  pub within : i ≤ length gs
+  -- with the runs that are left, the count is that of all
+  pub same : runs + length (longestRuns (drop i gs)) ≡ length (longestRuns gs)
+
+module _ (gs : List ℕ) (i runs : ℕ) (counted : Counted gs i runs) where
+  module _ (r : Run) (first : longestRuns (drop i gs) ≡ r ∷ longestRuns (drop (i + r .count) gs)) where
+    pub counted-on : Counted gs (i + r .count) (runs + 1)
+    counted-on = record { within = run-taken gs i r (counted .within) first; same = omega (arith, counted .same, ap length first) }
+
+    pub counted-few : runs + 1 ≤ length gs
+    counted-few = omega (arith, counted .same, ap length first, runs-few gs)
+
+  pub counted-all : length gs ≤ i → runs ≡ length (longestRuns gs)
+  counted-all done = omega (arith, counted .same, ap (λ gs. length (longestRuns gs)) (drop-of-length-le gs {i = i} done))

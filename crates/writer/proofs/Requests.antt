@@ -2,6 +2,7 @@
 --
 --   fields-next, fields-end   the requests from a position on: one and those behind it, or none
 --   fields-count              how many requests there are
+--   count-refuses, count-passes   the test of their number
 --   Passing n h l at          no request before the position at is refused
 --   each-fits                 requests that are not refused fit the largest job
 use mathlib.Core.Path.{_≡_, refl, _∙_, sym, ap}
@@ -11,10 +12,10 @@ use native.Mathlib.Omega.{arith}
 use native.Mathlib.Nat.{add-zero}
 use lib.ListN.{length, drop, length-drop}
 use lib.Seq.{getD-drop, drop-drop}
-use borrow.Author.Tests.{ne-eqb}
+use borrow.Author.Tests.{ne-eqb, lt-ltb, le-ltb}
 use Rattle.jobfile.specs.declared.Fields.{Fields}
-use Rattle.jobfile.specs.Format.{mostNodes, mostHeads, _then_, fieldsRefusal}
-use Rattle.jobfile.specs.Draft.{fieldsOf, eachRefusal}
+use Rattle.jobfile.specs.Format.{mostNodes, mostHeads, mostRequests, _then_, fieldsRefusal}
+use Rattle.jobfile.specs.Draft.{fieldsOf, countRefusal, eachRefusal}
 use Rattle.jobfile.proofs.Tests.{through, Sized, Fit, fit, fit-passes}
 use Rattle.writer.specs.Write.{fieldsFrom}
 
@@ -44,6 +45,15 @@ fields-count (h ∷ []) = omega arith
 fields-count (h ∷ k ∷ []) = omega arith
 fields-count (h ∷ k ∷ x ∷ []) = omega arith
 fields-count (h ∷ k ∷ x ∷ y ∷ l) = omega (arith, fields-count l)
+
+-- 9: a 513th request.
+pub count-refuses : (l : List ℕ) → 512 < length l / 4 → countRefusal (length (fieldsOf l)) ≡ 9
+unfolding countRefusal
+count-refuses l many = rw (fields-count l, lt-ltb mostRequests (length l / 4) many)
+
+pub count-passes : (l : List ℕ) → length l / 4 ≤ 512 → countRefusal (length (fieldsOf l)) ≡ 0
+unfolding countRefusal
+count-passes l some = rw (fields-count l, le-ltb mostRequests (length l / 4) some)
 
 pub record Passing (nodes heads : ℕ) (l : List ℕ) (at : ℕ) : Type 0 where
   pub within : at ≤ length l

@@ -1,4 +1,9 @@
 use borrow.Author.Needs.{needs}
+use native.Mathlib.Omega.{arith}
+use denote.Ref.{now}
+use Prim.Native.Nat.{_+_}
+use lib.Seq.{length-take-le}
+use Rattle.writer.proofs.Sum.{close-stored}
 use Rattle.writer.proofs.records.put_close.Statement.{statement}
 use Rattle.writer.proofs.records.put_close.Tie as tie
 use Rattle.writer.proofs.records.put_close.Reads as reads
@@ -21,11 +26,11 @@ slice-reshare-prefix-word-sum c = search needs
 
 -- src/records.rt:129:24
 slice-aggregate-word-sum : tie.Need-slice-aggregate-word-sum
-slice-aggregate-word-sum c = ?
+slice-aggregate-word-sum c = omega (arith, length-take-le (c .before .before .before .before .before .before .args .at + 2) (c .before .before .before .put-word .last .0) (omega arith))
 
 -- src/records.rt:129:9
 word-sum-requires : tie.Need-word-sum-requires
-word-sum-requires c κs = ?
+word-sum-requires c κs = omega (arith, length-take-le (c .before .before .before .before .before .before .args .at + 2) (c .before .before .before .put-word .last .0) (omega arith))
 
 -- src/records.rt:130:24
 wrapping-sub-u16-requires : tie.Need-wrapping-sub-u16-requires
@@ -41,7 +46,9 @@ same-length c = search needs
 
 -- src/records.rt:123:1
 returns : tie.Need-returns
-returns c = ?
+returns c =    let a = c .before .before .before .before .before .before .before .before .before .before .before .before .args in
+    close-stored (now (a .out)) _ _ (a .at) (c .before .before .before .before .before .word-sum .result) (c .before .before .before .wrapping-sub-u16 .result) (omega arith) (omega arith)
+    (c .before .before .before .before .before .before .before .before .before .put-word .ensures) (c .before .before .before .before .before .word-sum .ensures) (c .before .before .before .wrapping-sub-u16 .ensures) (c .before .before .put-word2 .ensures)
 
 pub put-close-spec : {M : Type 1} → statement M
 put-close-spec =
