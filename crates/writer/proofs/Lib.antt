@@ -3,3 +3,4 @@ mod Requests
 mod Grants
 mod Stores
 mod Sum
+mod Answers

@@ -1,0 +1,64 @@
+use borrow.Author.Needs.{needs}
+use Rattle.writer.proofs.records.put_file.Statement.{statement}
+use Rattle.writer.proofs.records.put_file.Tie as tie
+use Rattle.writer.proofs.records.put_file.Reads as reads
+use Rattle.writer.proofs.records.put_file.Lts as lts
+use Rattle.writer.proofs.records.put_close.Reads as put-close-reads
+use Rattle.writer.proofs.records.put_header.Reads as put-header-reads
+use Rattle.writer.proofs.records.put_requests.Reads as put-requests-reads
+use Rattle.writer.proofs.records.put_runs.Reads as put-runs-reads
+
+-- src/records.rt:138:21
+cast-put-header : tie.Need-cast-put-header
+cast-put-header c = ?
+
+-- src/records.rt:138:35
+cast-put-header-2 : tie.Need-cast-put-header-2
+cast-put-header-2 c = ?
+
+-- src/records.rt:138:5
+put-header-requires : tie.Need-put-header-requires
+put-header-requires c κs = ?
+
+-- src/records.rt:139:5
+put-requests-requires : tie.Need-put-requests-requires
+put-requests-requires c κs = ?
+
+-- src/records.rt:140:32
+mul-put-runs : tie.Need-mul-put-runs
+mul-put-runs c = search needs
+
+-- src/records.rt:140:28
+add-put-runs : tie.Need-add-put-runs
+add-put-runs c = search needs
+
+-- src/records.rt:140:9
+put-runs-requires : tie.Need-put-runs-requires
+put-runs-requires c κs = ?
+
+-- src/records.rt:141:5
+put-close-requires : tie.Need-put-close-requires
+put-close-requires c κs = ?
+
+-- src/records.rt:134:1
+same-length : tie.Need-same-length
+same-length c = search needs
+
+-- src/records.rt:134:1
+returns : tie.Need-returns
+returns c = ?
+
+pub put-file-spec : {M : Type 1} → statement M
+put-file-spec =
+    tie.close
+    (tie.spec
+    cast-put-header
+    cast-put-header-2
+    put-header-requires
+    put-requests-requires
+    mul-put-runs
+    add-put-runs
+    put-runs-requires
+    put-close-requires
+    same-length
+    returns)
