@@ -1,4 +1,7 @@
 use borrow.Author.Needs.{needs}
+use denote.Ref.{now}
+use Rattle.writer.specs.Write.{given}
+use Rattle.writer.proofs.File.{none-refused, left-refused, left-written}
 use Rattle.writer.proofs.write.Statement.{statement}
 use Rattle.writer.proofs.write.Tie as tie
 use Rattle.writer.proofs.write.Reads as reads
@@ -12,11 +15,15 @@ checked-requires c κs = search needs
 
 -- src/lib.rt:23:9
 returns : tie.Need-returns
-returns c = ?
+returns c =    let a = c .before .before .before .before .before .before .args in
+    let d = given (a .nodes) (a .heads) (now (a .requests)) (now (a .grants)) in
+    left-refused d (now (a .out)) (c .before .before .checked .result) (c .before .before .checked .ensures) (c .if1 .taken)
 
 -- src/lib.rt:25:5
 put-file-requires : tie.Need-put-file-requires
-put-file-requires c κs = ?
+put-file-requires c κs =    let a = c .before .before .before .before .before .before .before .args in
+    let d = given (a .nodes) (a .heads) (now (a .requests)) (now (a .grants)) in
+    none-refused d (now (a .out)) (c .before .before .before .checked .result) (c .before .before .before .checked .ensures) (c .before .if1 .left)
 
 -- src/lib.rt:18:1
 same-length : tie.Need-same-length
@@ -24,7 +31,9 @@ same-length c = search needs
 
 -- src/lib.rt:18:1
 returns-2 : tie.Need-returns-2
-returns-2 c = ?
+returns-2 c =    let a = c .before .before .before .before .before .before .before .before .before .before .args in
+    let d = given (a .nodes) (a .heads) (now (a .requests)) (now (a .grants)) in
+    left-written d (now (a .out)) (c .before .before .before .before .before .before .checked .result) (c .before .before .before .before .before .before .checked .ensures) _ (c .before .before .before .before .if1 .left) (c .before .before .put-file .ensures)
 
 pub write-spec : {M : Type 1} → statement M
 write-spec = tie.close (tie.spec checked-requires returns put-file-requires same-length returns-2)

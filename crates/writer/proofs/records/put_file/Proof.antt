@@ -1,4 +1,11 @@
 use borrow.Author.Needs.{needs}
+use native.Mathlib.Omega.{arith}
+use denote.Ref.{now}
+use lib.ListN.{length}
+use Rattle.writer.specs.Write.{given}
+use Rattle.writer.proofs.Requests.{fields-count}
+use Rattle.writer.proofs.Answers.{length-file, ready}
+use Rattle.writer.proofs.File.{file-stored}
 use Rattle.writer.proofs.records.put_file.Statement.{statement}
 use Rattle.writer.proofs.records.put_file.Tie as tie
 use Rattle.writer.proofs.records.put_file.Reads as reads
@@ -10,19 +17,26 @@ use Rattle.writer.proofs.records.put_runs.Reads as put-runs-reads
 
 -- src/records.rt:138:21
 cast-put-header : tie.Need-cast-put-header
-cast-put-header c = ?
+cast-put-header c =    let a = c .before .before .before .before .args in
+    omega (arith, ready (given (a .nodes) (a .heads) (now (a .requests)) (now (a .grants))) (length (now (a .out))) (c .before .before .before .before .pre))
 
 -- src/records.rt:138:35
 cast-put-header-2 : tie.Need-cast-put-header-2
-cast-put-header-2 c = ?
+cast-put-header-2 c =    let a = c .before .before .before .before .args in
+    omega (arith, ready (given (a .nodes) (a .heads) (now (a .requests)) (now (a .grants))) (length (now (a .out))) (c .before .before .before .before .pre))
 
 -- src/records.rt:138:5
 put-header-requires : tie.Need-put-header-requires
-put-header-requires c κs = ?
+put-header-requires c κs =    let a = c .before .before .before .before .args in
+    let d = given (a .nodes) (a .heads) (now (a .requests)) (now (a .grants)) in
+    omega (arith, length-file d, ready d (length (now (a .out))) (c .before .before .before .before .pre))
 
 -- src/records.rt:139:5
 put-requests-requires : tie.Need-put-requests-requires
-put-requests-requires c κs = ?
+put-requests-requires c κs =    let a = c .before .before .before .before .before .before .before .before .args in
+    let d = given (a .nodes) (a .heads) (now (a .requests)) (now (a .grants)) in
+    let known = ready d (length (now (a .out))) (c .before .before .before .before .before .before .before .before .pre) in
+    (omega (arith, length-file d, fields-count (now (a .requests))), known .fits)
 
 -- src/records.rt:140:32
 mul-put-runs : tie.Need-mul-put-runs
@@ -34,11 +48,16 @@ add-put-runs c = search needs
 
 -- src/records.rt:140:9
 put-runs-requires : tie.Need-put-runs-requires
-put-runs-requires c κs = ?
+put-runs-requires c κs =    let a = c .before .before .before .before .before .before .before .before .before .before .before .before .args in
+    let d = given (a .nodes) (a .heads) (now (a .requests)) (now (a .grants)) in
+    omega (arith, length-file d, ready d (length (now (a .out))) (c .before .before .before .before .before .before .before .before .before .before .before .before .pre))
 
 -- src/records.rt:141:5
 put-close-requires : tie.Need-put-close-requires
-put-close-requires c κs = ?
+put-close-requires c κs =    let a = c .before .before .before .before .before .before .before .before .before .before .before .before .before .before .before .before .args in
+    let d = given (a .nodes) (a .heads) (now (a .requests)) (now (a .grants)) in
+    let known = ready d (length (now (a .out))) (c .before .before .before .before .before .before .before .before .before .before .before .before .before .before .before .before .pre) in
+    (omega arith, omega (arith, length-file d))
 
 -- src/records.rt:134:1
 same-length : tie.Need-same-length
@@ -46,7 +65,10 @@ same-length c = search needs
 
 -- src/records.rt:134:1
 returns : tie.Need-returns
-returns c = ?
+returns c =    let a = c .before .before .before .before .before .before .before .before .before .before .before .before .before .before .before .before .before .before .before .args in
+    let d = given (a .nodes) (a .heads) (now (a .requests)) (now (a .grants)) in
+    file-stored d (now (a .out)) _ _ _ _ (c .before .before .before .before .before .before .put-runs .result) (ready d (length (now (a .out))) (c .before .before .before .before .before .before .before .before .before .before .before .before .before .before .before .before .before .before .before .pre) .enough)
+    (c .before .before .before .before .before .before .before .before .before .before .before .before .before .before .put-header .ensures) (c .before .before .before .before .before .before .before .before .before .before .put-requests .ensures) (c .before .before .before .before .before .before .put-runs .ensures .1) (c .before .before .before .before .before .before .put-runs .ensures .0) (c .before .before .put-close .ensures)
 
 pub put-file-spec : {M : Type 1} → statement M
 put-file-spec =
