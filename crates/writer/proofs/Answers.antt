@@ -48,7 +48,10 @@ module _ (d : Draft) (room : ℕ) where
   answer-numbers n is some = refuses n (rw (in-order, ← is, ne-eqb n 0 some)) some
 
 -- What is asked once the numbers are not refused: the file's length, which is known from the counts, and the buffer.
-module _ (d : Draft) (passes : numbersRefusal d ≡ 0) where
+module _ (d : Draft) (n : ℕ) (is : n ≡ numbersRefusal d) (none : n ≡ 0) where
+  passes : numbersRefusal d ≡ 0
+  passes = sym is ∙ none
+
   pub few-requests : length (d .requests) / 4 ≤ mostRequests
   unfolding countRefusal
   few-requests =

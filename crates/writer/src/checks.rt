@@ -14,12 +14,14 @@ ghost use Rattle.jobfile.specs.Written.{longestRuns};
 ghost use Rattle.jobfile.specs.Draft.{fieldsOf, countRefusal, eachRefusal, grantsRefusal};
 ghost use Rattle.writer.specs.Write.{given, fieldsFrom, refused, answer};
 
+// The answer of a refusal.
 fn refusal(number: u32) -> Written
     ensures { λ r. ⌜ r ≡ refused number ⌝ }
 {
     Written { number, bytes: 0 }
 }
 
+// A byte as a 32-bit number.
 fn wide(byte: u8) -> u32
     ensures { λ r. ⌜ r ≡ byte ⌝ }
 {
@@ -131,7 +133,7 @@ pub fn checked(nodes: u32, heads: u32, requests: &[u32], grants: &[u8], room: us
     }
     let count = requests.len() / 4;
     let runs = run_count(grants);
-    // the runs that fit into a file beside its header, requests and close
+    // beside the header and the close, a file has 32,758 bytes for requests and runs
     if (32758 - 8 * count) / 4 < runs {
         return refusal(1);
     }

@@ -42,9 +42,10 @@ fn put_header(out: &mut [u8], nodes: u16, heads: u16)
     put_word(out, 4, heads);
 }
 
-// Writes a request whose numbers fit the largest job.
+// Writes a request whose numbers are admitted in the largest job, so that each fits its field.
 fn put_request(out: &mut [u8], at: usize, fields: Fields)
-    requires { ⌜ (at + 8 ≤ length (now out)) × (fieldsRefusal mostNodes mostHeads fields ≡ 0) ⌝ }
+    requires { ⌜ at + 8 ≤ length (now out) ⌝ }
+    requires { ⌜ fieldsRefusal mostNodes mostHeads fields ≡ 0 ⌝ }
     ensures { λ _. ⌜ now (out .exit) ≡ sets (now (out .entry)) at (requestBytes (requestOf fields)) ⌝ }
 {
     put_word(out, at, 0x5152);
@@ -55,7 +56,8 @@ fn put_request(out: &mut [u8], at: usize, fields: Fields)
 
 // Writes the requests behind the job's record.
 fn put_requests(out: &mut [u8], requests: &[u32])
-    requires { ⌜ (6 + 8 * length (fieldsOf (now requests)) ≤ length (now out)) × (eachRefusal mostNodes mostHeads (fieldsOf (now requests)) ≡ 0) ⌝ }
+    requires { ⌜ 6 + 8 * length (fieldsOf (now requests)) ≤ length (now out) ⌝ }
+    requires { ⌜ eachRefusal mostNodes mostHeads (fieldsOf (now requests)) ≡ 0 ⌝ }
     ensures { λ _. ⌜ now (out .exit) ≡ sets (now (out .entry)) 6 (requestsBytes (map requestOf (fieldsOf (now (requests .entry))))) ⌝ }
 {
     let mut at = 0;
@@ -65,6 +67,7 @@ fn put_requests(out: &mut [u8], requests: &[u32])
     }
 }
 
+// Writes a run.
 fn put_run(out: &mut [u8], at: usize, run: Run)
     requires { ⌜ at + 4 ≤ length (now out) ⌝ }
     ensures { λ _. ⌜ now (out .exit) ≡ sets (now (out .entry)) at (runBytes run) ⌝ }
@@ -90,6 +93,7 @@ fn put_runs(out: &mut [u8], start: usize, grants: &[u8]) -> usize
     at
 }
 
+// A byte as a 16-bit number.
 fn wide(byte: u8) -> u16
     ensures { λ r. ⌜ r ≡ byte ⌝ }
 {
@@ -121,7 +125,8 @@ fn word_sum(bytes: &[u8]) -> u16
 // Writes the close of a file whose other records end at a position. The balance is the difference from zero of all
 // words before it, the close's mark included.
 fn put_close(out: &mut [u8], at: usize)
-    requires { ⌜ (at % 2 ≡ 0) × (at + 4 ≤ length (now out)) ⌝ }
+    requires { ⌜ at % 2 ≡ 0 ⌝ }
+    requires { ⌜ at + 4 ≤ length (now out) ⌝ }
     ensures { λ _. ⌜ now (out .exit) ≡ sets (now (out .entry)) at (closeBytes (take at (now (out .entry)))) ⌝ }
 {
     put_word(out, at, 0x4C43);

@@ -1,35 +1,27 @@
-use borrow.Author.Needs.{needs}
+-- `writer::write`: what the check answers, and the file where nothing is refused.
 use denote.Ref.{now}
+use borrow.Author.Needs.{needs}
 use Rattle.writer.specs.Write.{given}
 use Rattle.writer.proofs.File.{none-refused, left-refused, left-written}
 use Rattle.writer.proofs.write.Statement.{statement}
 use Rattle.writer.proofs.write.Tie as tie
-use Rattle.writer.proofs.write.Reads as reads
-use Rattle.writer.proofs.write.Lts as lts
-use Rattle.writer.proofs.checks.checked.Reads as checked-reads
-use Rattle.writer.proofs.records.put_file.Reads as put-file-reads
 
--- src/lib.rt:21:9
 checked-requires : tie.Need-checked-requires
 checked-requires c κs = search needs
 
--- src/lib.rt:23:9
 returns : tie.Need-returns
 returns c =    let a = c .before .before .before .before .before .before .args in
     let d = given (a .nodes) (a .heads) (now (a .requests)) (now (a .grants)) in
     left-refused d (now (a .out)) (c .before .before .checked .result) (c .before .before .checked .ensures) (c .if1 .taken)
 
--- src/lib.rt:25:5
 put-file-requires : tie.Need-put-file-requires
 put-file-requires c κs =    let a = c .before .before .before .before .before .before .before .args in
     let d = given (a .nodes) (a .heads) (now (a .requests)) (now (a .grants)) in
     none-refused d (now (a .out)) (c .before .before .before .checked .result) (c .before .before .before .checked .ensures) (c .before .if1 .left)
 
--- src/lib.rt:18:1
 same-length : tie.Need-same-length
 same-length c = search needs
 
--- src/lib.rt:18:1
 returns-2 : tie.Need-returns-2
 returns-2 c =    let a = c .before .before .before .before .before .before .before .before .before .before .args in
     let d = given (a .nodes) (a .heads) (now (a .requests)) (now (a .grants)) in

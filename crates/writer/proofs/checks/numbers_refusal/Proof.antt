@@ -1,39 +1,30 @@
-use borrow.Author.Needs.{needs}
+-- `checks::numbers_refusal`: one check a line of the definition.
+use mathlib.Core.Path.{_∙_, sym}
 use native.Mathlib.Omega.{arith}
 use denote.Ref.{now}
-use mathlib.Core.Path.{_∙_, sym}
+use borrow.Author.Needs.{needs}
 use borrow.Author.Tests.{ne-eqb}
 use Rattle.jobfile.specs.Format.{sizesRefusal}
 use Rattle.jobfile.specs.Draft.{fieldsOf, eachRefusal}
 use Rattle.writer.proofs.Requests.{count-refuses, count-passes}
 use Rattle.writer.proofs.checks.numbers_refusal.Statement.{statement}
 use Rattle.writer.proofs.checks.numbers_refusal.Tie as tie
-use Rattle.writer.proofs.checks.numbers_refusal.Reads as reads
-use Rattle.writer.proofs.checks.numbers_refusal.Lts as lts
-use Rattle.jobfile.proofs.sizes_refusal.Reads as sizes-refusal-reads
-use Rattle.writer.proofs.checks.grants_refusal.Reads as grants-refusal-reads
-use Rattle.writer.proofs.checks.requests_refusal.Reads as requests-refusal-reads
 
--- src/checks.rt:80:9
 sizes-refusal-requires : tie.Need-sizes-refusal-requires
 sizes-refusal-requires c κs = search needs
 
--- src/checks.rt:82:9
 returns : tie.Need-returns
 returns c =    let a = c .before .before .before .before .args in
     let sizes = c .before .sizes-refusal .ensures in
     simp (ne-eqb (sizesRefusal (a .nodes) (a .heads)) 0 (λ e. c .if1 .taken (sizes ∙ e))) sizes
 
--- src/checks.rt:85:9
 returns-2 : tie.Need-returns-2
 returns-2 c =    let requests = now (c .before .before .before .before .before .args .requests) in
     simp (sym (c .before .before .sizes-refusal .ensures) ∙ c .before .if1 .left, count-refuses requests (omega arith))
 
--- src/checks.rt:87:9
 requests-refusal-requires : tie.Need-requests-refusal-requires
 requests-refusal-requires c κs = search needs
 
--- src/checks.rt:89:9
 returns-3 : tie.Need-returns-3
 returns-3 c =    let a = c .before .before .before .before .before .before .before .args in
     let each = c .before .requests-refusal .ensures in
@@ -43,11 +34,9 @@ returns-3 c =    let a = c .before .before .before .before .before .before .befo
       ne-eqb (eachRefusal (a .nodes) (a .heads) (fieldsOf (now (a .requests)))) 0 (λ e. c .if3 .taken (each ∙ e)),
     ) each
 
--- src/checks.rt:91:5
 grants-refusal-requires : tie.Need-grants-refusal-requires
 grants-refusal-requires c κs = search needs
 
--- src/checks.rt:72:1
 returns-4 : tie.Need-returns-4
 returns-4 c =    let a = c .before .before .before .before .before .before .before .before .args in
     simp (

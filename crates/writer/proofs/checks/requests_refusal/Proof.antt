@@ -1,17 +1,13 @@
 -- `checks::requests_refusal` passes the requests that are not refused, and stops at the first that is.
-use borrow.Author.Needs.{needs}
+use mathlib.Core.Path.{refl}
+use Prim.Native.Nat.{_-_}
 use native.Mathlib.Omega.{arith}
 use denote.Ref.{now}
-use Prim.Native.Nat.{_-_}
 use lib.ListN.{length}
-use mathlib.Core.Path.{refl, _∙_, sym}
+use borrow.Author.Needs.{needs}
 use Rattle.writer.proofs.Requests.{Passing, passing-stops, passing-on, passing-all}
 use Rattle.writer.proofs.checks.requests_refusal.Statement.{statement}
 use Rattle.writer.proofs.checks.requests_refusal.Tie as tie
-use Rattle.writer.proofs.checks.requests_refusal.Reads as reads
-use Rattle.writer.proofs.checks.requests_refusal.Lts as lts
-use Rattle.jobfile.proofs.fields_refusal.Reads as fields-refusal-reads
-use Rattle.writer.proofs.checks.fields_at.Reads as fields-at-reads
 
 abbrev Inv-loop : tie.InvT-loop
 Inv-loop nodes heads requests at₀ at = Passing nodes heads requests at
@@ -19,41 +15,32 @@ Inv-loop nodes heads requests at₀ at = Passing nodes heads requests at
 abbrev μ-loop : tie.MeasureT-loop
 μ-loop nodes heads requests at₀ at = length requests - at
 
--- src/checks.rt:47:5
 loop-holds : tie.Need-loop-holds Inv-loop μ-loop
 loop-holds c = record { within = omega arith; same = refl }
 
--- src/checks.rt:47:16
 sub-loop : tie.Need-sub-loop Inv-loop μ-loop
 sub-loop c = search needs
 
--- src/checks.rt:48:51
 fields-at-requires : tie.Need-fields-at-requires Inv-loop μ-loop
 fields-at-requires c κs = search needs
 
--- src/checks.rt:48:13
 fields-refusal-requires : tie.Need-fields-refusal-requires Inv-loop μ-loop
 fields-refusal-requires c κs = search needs
 
--- src/checks.rt:50:13
 returns : tie.Need-returns Inv-loop μ-loop
 returns c =    let a = c .before .before .before .before .before .before .args in
     passing-stops (a .nodes) (a .heads) (now (a .requests)) (c .before .before .before .before .loop .at) (c .before .before .before .before .loop .inv) (c .before .fields-refusal .result) (omega arith) (cc) (c .if1 .taken)
 
--- src/checks.rt:52:9
 add-at : tie.Need-add-at Inv-loop μ-loop
 add-at c = search needs
 
--- src/checks.rt:47:5
 loop-less : tie.Need-loop-less Inv-loop μ-loop
 loop-less c = search needs
 
--- src/checks.rt:47:5
 loop-again : tie.Need-loop-again Inv-loop μ-loop
 loop-again c =    let a = c .before .before .before .before .before .before .args in
     passing-on (a .nodes) (a .heads) (now (a .requests)) (c .before .before .before .before .loop .at) (c .before .before .before .before .loop .inv) (c .before .fields-refusal .result) (omega arith) (cc) (omega arith)
 
--- src/checks.rt:43:1
 returns-2 : tie.Need-returns-2 Inv-loop μ-loop
 returns-2 c =    let a = c .before .before .before .args in
     passing-all (a .nodes) (a .heads) (now (a .requests)) (c .before .loop .at) (c .before .loop .inv) (omega arith)

@@ -1,29 +1,23 @@
-use borrow.Author.Needs.{needs}
+-- `records::put_bytes`: two stores.
 use native.Mathlib.Omega.{arith}
 use native.Mathlib.Numerals.{add-one}
 use lib.ListN.{length-set}
+use borrow.Author.Needs.{needs}
 use Rattle.writer.proofs.records.put_bytes.Statement.{statement}
 use Rattle.writer.proofs.records.put_bytes.Tie as tie
-use Rattle.writer.proofs.records.put_bytes.Reads as reads
-use Rattle.writer.proofs.records.put_bytes.Lts as lts
 
--- src/records.rt:23:5
 slice-write-out : tie.Need-slice-write-out
 slice-write-out c = search needs
 
--- src/records.rt:24:9
 add-out : tie.Need-add-out
 add-out c = search needs
 
--- src/records.rt:24:5
 slice-write-out-2 : tie.Need-slice-write-out-2
 slice-write-out-2 c = simp length-set (omega arith)
 
--- src/records.rt:19:1
 same-length : tie.Need-same-length
 same-length c = search needs
 
--- src/records.rt:19:1
 returns : tie.Need-returns
 returns c = simp add-one
 

@@ -1,50 +1,37 @@
-use borrow.Author.Needs.{needs}
+-- `records::put_close`: the mark, the sum of the words up to it, and the balance.
+use Prim.Native.Nat.{_+_}
 use native.Mathlib.Omega.{arith}
 use denote.Ref.{now}
-use Prim.Native.Nat.{_+_}
 use lib.Seq.{length-take-le}
+use borrow.Author.Needs.{needs}
 use Rattle.writer.proofs.Sum.{close-stored}
 use Rattle.writer.proofs.records.put_close.Statement.{statement}
 use Rattle.writer.proofs.records.put_close.Tie as tie
-use Rattle.writer.proofs.records.put_close.Reads as reads
-use Rattle.writer.proofs.records.put_close.Lts as lts
-use Rattle.std.proofs.num.wrapping_sub_u16.Reads as wrapping-sub-u16-reads
-use Rattle.writer.proofs.records.put_word.Reads as put-word-reads
-use Rattle.writer.proofs.records.word_sum.Reads as word-sum-reads
 
--- src/records.rt:127:5
 put-word-requires : tie.Need-put-word-requires
 put-word-requires c κs = search needs
 
--- src/records.rt:128:15
 add-end : tie.Need-add-end
 add-end c = search needs
 
--- src/records.rt:129:24
 slice-reshare-prefix-word-sum : tie.Need-slice-reshare-prefix-word-sum
 slice-reshare-prefix-word-sum c = search needs
 
--- src/records.rt:129:24
 slice-aggregate-word-sum : tie.Need-slice-aggregate-word-sum
 slice-aggregate-word-sum c = omega (arith, length-take-le (c .before .before .before .before .before .before .args .at + 2) (c .before .before .before .put-word .last .0) (omega arith))
 
--- src/records.rt:129:9
 word-sum-requires : tie.Need-word-sum-requires
 word-sum-requires c κs = omega (arith, length-take-le (c .before .before .before .before .before .before .args .at + 2) (c .before .before .before .put-word .last .0) (omega arith))
 
--- src/records.rt:130:24
 wrapping-sub-u16-requires : tie.Need-wrapping-sub-u16-requires
 wrapping-sub-u16-requires c κs = search needs
 
--- src/records.rt:130:5
 put-word-requires-2 : tie.Need-put-word-requires-2
 put-word-requires-2 c κs = search needs
 
--- src/records.rt:123:1
 same-length : tie.Need-same-length
 same-length c = search needs
 
--- src/records.rt:123:1
 returns : tie.Need-returns
 returns c =    let a = c .before .before .before .before .before .before .before .before .before .before .before .before .args in
     close-stored (now (a .out)) _ _ (a .at) (c .before .before .before .before .before .word-sum .result) (c .before .before .before .wrapping-sub-u16 .result) (omega arith) (omega arith)

@@ -1,69 +1,54 @@
-use borrow.Author.Needs.{needs}
+-- `records::put_file`: the parts of the file, each behind the one before.
 use native.Mathlib.Omega.{arith}
 use denote.Ref.{now}
 use lib.ListN.{length}
+use borrow.Author.Needs.{needs}
 use Rattle.writer.specs.Write.{given}
 use Rattle.writer.proofs.Requests.{fields-count}
 use Rattle.writer.proofs.Answers.{length-file, ready}
 use Rattle.writer.proofs.File.{file-stored}
 use Rattle.writer.proofs.records.put_file.Statement.{statement}
 use Rattle.writer.proofs.records.put_file.Tie as tie
-use Rattle.writer.proofs.records.put_file.Reads as reads
-use Rattle.writer.proofs.records.put_file.Lts as lts
-use Rattle.writer.proofs.records.put_close.Reads as put-close-reads
-use Rattle.writer.proofs.records.put_header.Reads as put-header-reads
-use Rattle.writer.proofs.records.put_requests.Reads as put-requests-reads
-use Rattle.writer.proofs.records.put_runs.Reads as put-runs-reads
 
--- src/records.rt:138:21
 cast-put-header : tie.Need-cast-put-header
 cast-put-header c =    let a = c .before .before .before .before .args in
     omega (arith, ready (given (a .nodes) (a .heads) (now (a .requests)) (now (a .grants))) (length (now (a .out))) (c .before .before .before .before .pre))
 
--- src/records.rt:138:35
 cast-put-header-2 : tie.Need-cast-put-header-2
 cast-put-header-2 c =    let a = c .before .before .before .before .args in
     omega (arith, ready (given (a .nodes) (a .heads) (now (a .requests)) (now (a .grants))) (length (now (a .out))) (c .before .before .before .before .pre))
 
--- src/records.rt:138:5
 put-header-requires : tie.Need-put-header-requires
 put-header-requires c κs =    let a = c .before .before .before .before .args in
     let d = given (a .nodes) (a .heads) (now (a .requests)) (now (a .grants)) in
     omega (arith, length-file d, ready d (length (now (a .out))) (c .before .before .before .before .pre))
 
--- src/records.rt:139:5
 put-requests-requires : tie.Need-put-requests-requires
 put-requests-requires c κs =    let a = c .before .before .before .before .before .before .before .before .args in
     let d = given (a .nodes) (a .heads) (now (a .requests)) (now (a .grants)) in
     let known = ready d (length (now (a .out))) (c .before .before .before .before .before .before .before .before .pre) in
     (omega (arith, length-file d, fields-count (now (a .requests))), known .fits)
 
--- src/records.rt:140:32
 mul-put-runs : tie.Need-mul-put-runs
 mul-put-runs c = search needs
 
--- src/records.rt:140:28
 add-put-runs : tie.Need-add-put-runs
 add-put-runs c = search needs
 
--- src/records.rt:140:9
 put-runs-requires : tie.Need-put-runs-requires
 put-runs-requires c κs =    let a = c .before .before .before .before .before .before .before .before .before .before .before .before .args in
     let d = given (a .nodes) (a .heads) (now (a .requests)) (now (a .grants)) in
     omega (arith, length-file d, ready d (length (now (a .out))) (c .before .before .before .before .before .before .before .before .before .before .before .before .pre))
 
--- src/records.rt:141:5
 put-close-requires : tie.Need-put-close-requires
 put-close-requires c κs =    let a = c .before .before .before .before .before .before .before .before .before .before .before .before .before .before .before .before .args in
     let d = given (a .nodes) (a .heads) (now (a .requests)) (now (a .grants)) in
     let known = ready d (length (now (a .out))) (c .before .before .before .before .before .before .before .before .before .before .before .before .before .before .before .before .pre) in
     (omega arith, omega (arith, length-file d))
 
--- src/records.rt:134:1
 same-length : tie.Need-same-length
 same-length c = search needs
 
--- src/records.rt:134:1
 returns : tie.Need-returns
 returns c =    let a = c .before .before .before .before .before .before .before .before .before .before .before .before .before .before .before .before .before .before .before .args in
     let d = given (a .nodes) (a .heads) (now (a .requests)) (now (a .grants)) in

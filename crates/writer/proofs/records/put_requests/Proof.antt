@@ -1,16 +1,13 @@
-use borrow.Author.Needs.{needs}
-use native.Mathlib.Omega.{arith}
-use denote.Ref.{now}
+-- `records::put_requests` stores one request after the other.
 use mathlib.Core.Path.{refl}
 use Prim.Native.Nat.{_-_}
+use native.Mathlib.Omega.{arith}
+use denote.Ref.{now}
 use lib.ListN.{length}
+use borrow.Author.Needs.{needs}
 use Rattle.writer.proofs.Stores.{RequestsStored, next-room, request-fits, requests-stored-on, requests-stored}
 use Rattle.writer.proofs.records.put_requests.Statement.{statement}
 use Rattle.writer.proofs.records.put_requests.Tie as tie
-use Rattle.writer.proofs.records.put_requests.Reads as reads
-use Rattle.writer.proofs.records.put_requests.Lts as lts
-use Rattle.writer.proofs.checks.fields_at.Reads as fields-at-reads
-use Rattle.writer.proofs.records.put_request.Reads as put-request-reads
 
 abbrev Inv-loop : tie.InvT-loop
 Inv-loop out₀ requests at₀ out at = RequestsStored out₀ requests at out
@@ -18,52 +15,41 @@ Inv-loop out₀ requests at₀ out at = RequestsStored out₀ requests at out
 abbrev μ-loop : tie.MeasureT-loop
 μ-loop out₀ requests at₀ out at = length requests - at
 
--- src/records.rt:62:5
 loop-holds : tie.Need-loop-holds Inv-loop μ-loop
 loop-holds c = let p = c .before .before .pre in record { within = omega arith; size = refl; fits = p .1; room = omega arith; same = refl }
 
--- src/records.rt:62:16
 sub-loop : tie.Need-sub-loop Inv-loop μ-loop
 sub-loop c = search needs
 
--- src/records.rt:63:30
 mul-put-request : tie.Need-mul-put-request Inv-loop μ-loop
 mul-put-request c = let l = c .before .before .loop in omega (arith, next-room (now (c .before .before .before .before .before .args .out)) (now (c .before .before .before .before .before .args .requests)) (l .at) (l .out) (l .inv) (omega arith))
 
--- src/records.rt:63:26
 add-put-request : tie.Need-add-put-request Inv-loop μ-loop
 add-put-request c = let l = c .before .before .loop in omega (arith, next-room (now (c .before .before .before .before .before .args .out)) (now (c .before .before .before .before .before .args .requests)) (l .at) (l .out) (l .inv) (omega arith))
 
--- src/records.rt:63:38
 fields-at-requires : tie.Need-fields-at-requires Inv-loop μ-loop
 fields-at-requires c κs = search needs
 
--- src/records.rt:63:9
 put-request-requires : tie.Need-put-request-requires Inv-loop μ-loop
 put-request-requires c κs =    let a = c .before .before .before .before .before .before .args in
     let l = c .before .before .before .loop in
     (next-room (now (a .out)) (now (a .requests)) (l .at) (l .out) (l .inv) (omega arith),
       request-fits (now (a .out)) (now (a .requests)) (l .at) (l .out) (l .inv) (c .fields-at .result) (c .fields-at .ensures) (omega arith))
 
--- src/records.rt:64:9
 add-at : tie.Need-add-at Inv-loop μ-loop
 add-at c = search needs
 
--- src/records.rt:62:5
 loop-less : tie.Need-loop-less Inv-loop μ-loop
 loop-less c = search needs
 
--- src/records.rt:62:5
 loop-again : tie.Need-loop-again Inv-loop μ-loop
 loop-again c =    let a = c .before .before .before .before .before .before .before .before .before .args in
     let l = c .before .before .before .before .before .before .loop in
     requests-stored-on (now (a .out)) (now (a .requests)) (l .at) (l .out) (l .inv) (c .before .before .before .fields-at .result) _ (c .before .before .before .fields-at .ensures) (omega arith) (c .before .before .put-request .ensures)
 
--- src/records.rt:57:1
 same-length : tie.Need-same-length Inv-loop μ-loop
 same-length c = c .before .loop .inv .size
 
--- src/records.rt:57:1
 returns : tie.Need-returns Inv-loop μ-loop
 returns c =    let a = c .before .before .before .before .args in
     let l = c .before .loop in

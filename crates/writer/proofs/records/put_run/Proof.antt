@@ -1,34 +1,26 @@
-use borrow.Author.Needs.{needs}
-use native.Mathlib.Omega.{arith}
-use denote.Ref.{now}
+-- `records::put_run`: the mark, then the head and the count.
 use mathlib.Core.List.{[], _∷_}
 use Prim.Native.Nat.{_+_}
+use native.Mathlib.Omega.{arith}
+use denote.Ref.{now}
+use borrow.Author.Needs.{needs}
 use Rattle.jobfile.specs.Format.{runMark, wordBytes}
 use Rattle.writer.proofs.Stores.{stored-on}
 use Rattle.writer.proofs.records.put_run.Statement.{statement}
 use Rattle.writer.proofs.records.put_run.Tie as tie
-use Rattle.writer.proofs.records.put_run.Reads as reads
-use Rattle.writer.proofs.records.put_run.Lts as lts
-use Rattle.writer.proofs.records.put_bytes.Reads as put-bytes-reads
-use Rattle.writer.proofs.records.put_word.Reads as put-word-reads
 
--- src/records.rt:72:5
 put-word-requires : tie.Need-put-word-requires
 put-word-requires c κs = search needs
 
--- src/records.rt:73:20
 add-put-bytes : tie.Need-add-put-bytes
 add-put-bytes c = search needs
 
--- src/records.rt:73:5
 put-bytes-requires : tie.Need-put-bytes-requires
 put-bytes-requires c κs = search needs
 
--- src/records.rt:68:1
 same-length : tie.Need-same-length
 same-length c = search needs
 
--- src/records.rt:68:1
 returns : tie.Need-returns
 returns c =    let a = c .before .before .before .before .before .before .before .before .before .args in
     stored-on (now (a .out)) _ _ (wordBytes runMark) (a .run .head ∷ a .run .count ∷ []) (a .at) (a .at + 2) (omega arith) (c .before .before .before .before .before .before .put-word .ensures) (c .before .before .put-bytes .ensures)
