@@ -4,20 +4,17 @@
 --   length-file         the length of a draft's file
 --   answer-numbers, answer-length, answer-buffer, answer-written   the four ways that a check ends
 --   Ready d room        what is known of a draft that is not refused
-use mathlib.Core.Path.{_≡_, refl, _∙_, sym, ap}
-use mathlib.Core.Bool.{cond}
-use mathlib.Core.List.{List, _++_, map}
+use mathlib.Core.Path.{_≡_, _∙_, sym}
 use Prim.Native.Nat.{ℕ, _+_, _*_, _-_, _/_, _≤_, _<_}
 use native.Mathlib.Omega.{arith}
 use lib.Dec.{eqb, ltb}
-use lib.ListN.{length, drop, length-map}
+use lib.ListN.{length, length-map}
 use borrow.Author.Tests.{ne-eqb, lt-ltb, le-ltb, ltb-false}
-use Rattle.jobfile.specs.Format.{mostBytes, mostNodes, mostHeads, mostRequests, _then_, sizesRefusal, requestOf, lengthRefusal}
+use Rattle.jobfile.specs.Format.{mostBytes, mostNodes, mostHeads, mostRequests, _then_, sizesRefusal, lengthRefusal}
 use Rattle.jobfile.specs.Written.{longestRuns, written}
 use Rattle.jobfile.specs.Draft.{Draft, fieldsOf, jobOf, countRefusal, eachRefusal, grantsRefusal, draftRefusal}
 use Rattle.jobfile.proofs.Tests.{split, passed, through, sized}
 use Rattle.jobfile.proofs.Places.{length-written}
-use Rattle.writer.specs.declared.Written.{Written}
 use Rattle.writer.specs.Write.{bufferRefusal, writeRefusal, refused, answer}
 use Rattle.writer.proofs.Requests.{fields-count, each-fits}
 

@@ -6,9 +6,8 @@
 --   left-refused, left-written   what the writer leaves
 --   left-means          what it leaves means what it was given
 use mathlib.Core.Path.{_≡_, refl, _∙_, sym, ap}
-use mathlib.Core.Bool.{cond}
 use mathlib.Core.List.{List, [], _∷_, _++_, map, append-assoc}
-use Prim.Native.Nat.{ℕ, suc, _+_, _*_, _-_, _/_, _%_, _≤_}
+use Prim.Native.Nat.{ℕ, _+_, _*_, _-_, _/_, _%_, _≤_}
 use native.Mathlib.Omega.{arith}
 use lib.Dec.{eqb}
 use lib.ListN.{length, take, drop, length-append, length-map}
@@ -24,10 +23,10 @@ use Rattle.jobfile.specs.Meaning.{accepted, meaning}
 use Rattle.jobfile.proofs.Tests.{split, through}
 use Rattle.jobfile.proofs.RoundTrip.{written-draft}
 use Rattle.writer.specs.declared.Written.{Written}
-use Rattle.writer.specs.Write.{closeBytes, writeRefusal, answer, Left, writes}
+use Rattle.writer.specs.Write.{closeBytes, writeRefusal, answer, writes}
 use Rattle.writer.proofs.Requests.{fields-count}
 use Rattle.writer.proofs.Stores.{stored-on, sets-front}
-use Rattle.writer.proofs.Answers.{length-file, Ready, ready}
+use Rattle.writer.proofs.Answers.{length-file, ready}
 
 abbrev header : Job → List ℕ
 header j = wordBytes jobMark ++ wordBytes (j .nodes) ++ wordBytes (j .heads)

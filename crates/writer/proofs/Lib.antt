@@ -4,4 +4,4 @@ mod Grants
 mod Stores
 mod Sum
 mod Answers
-mod File
+pub mod File

@@ -88,10 +88,10 @@ module _ (out₀ l : List ℕ) (at : ℕ) (out : List ℕ) (stored : RequestsSto
         fits = next-fits more .second;
         room = omega (arith, stored .room);
         same =
-          ap (λ (t : List ℕ). sets t (6 + 2 * (at + 4)) (bytesOf rest)) store
-          ∙ sets-after out (requestBytes (requestOf q)) (bytesOf rest) (6 + 2 * at) (6 + 2 * (at + 4)) (omega arith)
-          ∙ sym (ap (λ qs. sets out (6 + 2 * at) (bytesOf qs)) next)
-          ∙ stored .same;
+            ap (λ (t : List ℕ). sets t (6 + 2 * (at + 4)) (bytesOf rest)) store
+            ∙ sets-after out (requestBytes (requestOf q)) (bytesOf rest) (6 + 2 * at) (6 + 2 * (at + 4)) (omega arith)
+            ∙ sym (ap (λ qs. sets out (6 + 2 * at) (bytesOf qs)) next)
+            ∙ stored .same;
       }
 
   pub requests-stored : length l < at + 4 → out ≡ sets out₀ 6 (bytesOf (fieldsOf l))
@@ -117,10 +117,10 @@ module _ (out₀ : List ℕ) (start : ℕ) (gs : List ℕ) (i at : ℕ) (out : L
           size = ap length store ∙ length-sets out at (runBytes r) ∙ stored .size;
           place = omega (arith, stored .place, ap length first);
           same =
-            ap (λ (t : List ℕ). sets t (at + 4) (runsBytes rest)) store
-            ∙ sets-after out (runBytes r) (runsBytes rest) at (at + 4) (omega arith)
-            ∙ sym (ap (λ rs. sets out at (runsBytes rs)) first)
-            ∙ stored .same;
+              ap (λ (t : List ℕ). sets t (at + 4) (runsBytes rest)) store
+              ∙ sets-after out (runBytes r) (runsBytes rest) at (at + 4) (omega arith)
+              ∙ sym (ap (λ rs. sets out at (runsBytes rs)) first)
+              ∙ stored .same;
         }
 
   pub runs-stored : length gs ≤ i → out ≡ sets out₀ start (runsBytes (longestRuns gs))

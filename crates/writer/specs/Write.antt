@@ -1,14 +1,14 @@
 -- Document 01, "Job file" and "Turned down": what the writer answers and what it leaves in the lent buffer.
 --
 --   given n h rs gs     the draft that the writer is given
---   fieldsFrom l at     the four numbers of l from a position on, as a request's
---   closeBytes t        the close of a file whose other records are t
 --   bufferRefusal s room   the refusal of a buffer of that length for the file s
 --   writeRefusal d room    the refusal of a draft and a buffer, 0 for none
 --   refused n           the answer of a refusal
 --   answer d room       the writer's answer
 --   Left                the answer and the lent buffer
 --   writes d out        what the writer leaves
+--   fieldsFrom l at     the four numbers of l from a position on, as a request's
+--   closeBytes t        the close of a file whose other records are t
 use mathlib.Core.Bool.{cond}
 use mathlib.Core.List.{List, _++_}
 use Prim.Native.Nat.{ℕ, _+_, _-_, _%_}
@@ -23,13 +23,6 @@ use Rattle.writer.specs.declared.Written.{Written}
 -- Places, heads, requests (four numbers each) and a list of head numbers, one per grant.
 abbrev pub given : ℕ → ℕ → List ℕ → List ℕ → Draft
 given nodes heads requests grants = record { nodes = nodes; heads = heads; requests = requests; schedule = grants }
-
-abbrev pub fieldsFrom : List ℕ → ℕ → Fields
-fieldsFrom l at = record { head = getD l at 0; kind = getD l (at + 1) 0; x = getD l (at + 2) 0; y = getD l (at + 3) 0 }
-
--- The balance is the difference from zero, in 16 bits, of the words before it.
-abbrev pub closeBytes : List ℕ → List ℕ
-closeBytes t = wordBytes closeMark ++ wordBytes ((65536 - wordSum (t ++ wordBytes closeMark) % 65536) % 65536)
 
 -- 14: the writer's buffer too short.
 unfoldable pub bufferRefusal : List ℕ → ℕ → ℕ
@@ -61,3 +54,11 @@ writes d out =
       answer = answer d (length out);
       out = cond (eqb (writeRefusal d (length out)) 0) (file ++ drop (length file) out) out;
     }
+
+-- What the functions below the entry point speak of: a request's numbers in place, and the close of a file.
+abbrev pub fieldsFrom : List ℕ → ℕ → Fields
+fieldsFrom l at = record { head = getD l at 0; kind = getD l (at + 1) 0; x = getD l (at + 2) 0; y = getD l (at + 3) 0 }
+
+-- The balance is the difference from zero, in 16 bits, of the words before it.
+abbrev pub closeBytes : List ℕ → List ℕ
+closeBytes t = wordBytes closeMark ++ wordBytes ((65536 - wordSum (t ++ wordBytes closeMark) % 65536) % 65536)

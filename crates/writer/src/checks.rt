@@ -1,10 +1,10 @@
 // What the writer checks before it writes a byte, in document 01's order, and the length of the file.
 use crate::Written;
+use jobfile::Fields;
+use jobfile::Run;
 use jobfile::does_extend;
 use jobfile::fields_refusal;
 use jobfile::sizes_refusal;
-use jobfile::Fields;
-use jobfile::Run;
 ghost use mathlib.Core.Path.{_≡_};
 ghost use mathlib.Core.List.{_∷_};
 ghost use Prim.Native.Nat.{_+_, _≤_, _<_};
@@ -72,12 +72,10 @@ fn grants_refusal(heads: u32, grants: &[u8]) -> u32
 
 // The refusal of the numbers, before the length of their file is asked for, 0 for none.
 fn numbers_refusal(nodes: u32, heads: u32, requests: &[u32], grants: &[u8]) -> u32
-    ensures { λ r. ⌜ r ≡ (
-        sizesRefusal nodes heads
+    ensures { λ r. ⌜ r ≡ (sizesRefusal nodes heads
         then countRefusal (length (fieldsOf (now (requests .entry))))
         then eachRefusal nodes heads (fieldsOf (now (requests .entry)))
-        then grantsRefusal heads (now (grants .entry))
-    ) ⌝ }
+        then grantsRefusal heads (now (grants .entry))) ⌝ }
 {
     let number = sizes_refusal(nodes, heads);
     if number != 0 {
@@ -98,7 +96,10 @@ pub fn run_at(grants: &[u8], at: usize) -> Run
     requires { ⌜ at < length (now grants) ⌝ }
     ensures { λ r. ⌜ longestRuns (drop at (now (grants .entry))) ≡ r ∷ longestRuns (drop (at + r .count) (now (grants .entry))) ⌝ }
 {
-    let mut run = Run { head: grants[at], count: 1 };
+    let mut run = Run {
+        head: grants[at],
+        count: 1,
+    };
     let mut i = at + 1;
     while i < grants.len() {
         if !does_extend(run, grants[i]) {

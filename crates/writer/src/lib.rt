@@ -14,9 +14,10 @@ pub struct Written {
 }
 
 // Writes the file of a job. `requests` has four numbers a request (head, kind, x, y), where a rest of fewer than four
-// is no request; `grants` has one head number a grant.
+// is no request; `grants` has one head number a grant. A refusal writes nothing, and bytes behind the file stay.
 pub fn write(nodes: u32, heads: u32, requests: &[u32], grants: &[u8], out: &mut [u8]) -> Written
-    ensures { λ r. ⌜ record { answer = r; out = now (out .exit) } ≡ writes (given nodes heads (now (requests .entry)) (now (grants .entry))) (now (out .entry)) ⌝ }
+    ensures { λ r. ⌜ record { answer = r; out = now (out .exit) }
+        ≡ writes (given nodes heads (now (requests .entry)) (now (grants .entry))) (now (out .entry)) ⌝ }
 {
     let answer = checked(nodes, heads, requests, grants, out.len());
     if answer.number != 0 {

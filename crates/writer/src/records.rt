@@ -10,7 +10,7 @@ ghost use mathlib.Core.List.{[], _∷_, _++_, map};
 ghost use Prim.Native.Nat.{_+_, _*_, _%_, _≤_};
 ghost use lib.ListN.{length, take, drop};
 ghost use lib.Seq.{sets};
-ghost use Rattle.jobfile.specs.Format.{jobMark, closeMark, mostNodes, mostHeads, word, wordBytes, wordSum, fieldsRefusal, requestOf};
+ghost use Rattle.jobfile.specs.Format.{jobMark, mostNodes, mostHeads, word, wordBytes, wordSum, fieldsRefusal, requestOf};
 ghost use Rattle.jobfile.specs.Written.{requestBytes, requestsBytes, runBytes, runsBytes, longestRuns, written};
 ghost use Rattle.jobfile.specs.Draft.{fieldsOf, eachRefusal, jobOf};
 ghost use Rattle.writer.specs.Write.{given, writeRefusal, closeBytes};

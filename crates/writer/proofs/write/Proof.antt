@@ -10,22 +10,28 @@ checked-requires : tie.Need-checked-requires
 checked-requires c κs = search needs
 
 returns : tie.Need-returns
-returns c =    let a = c .before .before .before .before .before .before .args in
+returns c =
+    let a = c .before .before .before .before .before .before .args in
+    let told = c .before .before .checked in
     let d = given (a .nodes) (a .heads) (now (a .requests)) (now (a .grants)) in
-    left-refused d (now (a .out)) (c .before .before .checked .result) (c .before .before .checked .ensures) (c .if1 .taken)
+    left-refused d (now (a .out)) (told .result) (told .ensures) (c .if1 .taken)
 
 put-file-requires : tie.Need-put-file-requires
-put-file-requires c κs =    let a = c .before .before .before .before .before .before .before .args in
+put-file-requires c κs =
+    let a = c .before .before .before .before .before .before .before .args in
+    let told = c .before .before .before .checked in
     let d = given (a .nodes) (a .heads) (now (a .requests)) (now (a .grants)) in
-    none-refused d (now (a .out)) (c .before .before .before .checked .result) (c .before .before .before .checked .ensures) (c .before .if1 .left)
+    none-refused d (now (a .out)) (told .result) (told .ensures) (c .before .if1 .left)
 
 same-length : tie.Need-same-length
 same-length c = search needs
 
 returns-2 : tie.Need-returns-2
-returns-2 c =    let a = c .before .before .before .before .before .before .before .before .before .before .args in
+returns-2 c =
+    let a = c .before .before .before .before .before .before .before .before .before .before .args in
+    let told = c .before .before .before .before .before .before .checked in
     let d = given (a .nodes) (a .heads) (now (a .requests)) (now (a .grants)) in
-    left-written d (now (a .out)) (c .before .before .before .before .before .before .checked .result) (c .before .before .before .before .before .before .checked .ensures) _ (c .before .before .before .before .if1 .left) (c .before .before .put-file .ensures)
+    left-written d (now (a .out)) (told .result) (told .ensures) _ (c .before .before .before .before .if1 .left) (c .before .before .put-file .ensures)
 
 pub write-spec : {M : Type 1} → statement M
 write-spec = tie.close (tie.spec checked-requires returns put-file-requires same-length returns-2)

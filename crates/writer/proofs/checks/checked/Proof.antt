@@ -15,7 +15,8 @@ refusal-requires : tie.Need-refusal-requires
 refusal-requires c κs = search needs
 
 returns : tie.Need-returns
-returns c =    let a = c .before .before .before .before .before .args in
+returns c =
+    let a = c .before .before .before .before .before .args in
     let numbers = c .before .before .numbers-refusal in
     let d = given (a .nodes) (a .heads) (now (a .requests)) (now (a .grants)) in
     c .refusal .ensures ∙ answer-numbers d (a .room) (numbers .result) (numbers .ensures) (c .before .if1 .taken)
@@ -27,7 +28,8 @@ mul-if2 : tie.Need-mul-if2
 mul-if2 c = search needs
 
 sub-if2 : tie.Need-sub-if2
-sub-if2 c =    let a = c .before .before .before .before .before .args in
+sub-if2 c =
+    let a = c .before .before .before .before .before .args in
     let numbers = c .before .before .numbers-refusal in
     let d = given (a .nodes) (a .heads) (now (a .requests)) (now (a .grants)) in
     omega (arith, few-requests d (numbers .result) (numbers .ensures) (c .before .if1 .left))
@@ -36,7 +38,8 @@ refusal-requires-2 : tie.Need-refusal-requires-2
 refusal-requires-2 c κs = search needs
 
 returns-2 : tie.Need-returns-2
-returns-2 c =    let a = c .before .before .before .before .before .before .before .args in
+returns-2 c =
+    let a = c .before .before .before .before .before .before .before .args in
     let numbers = c .before .before .before .before .numbers-refusal in
     let runs = c .before .before .run-count in
     let d = given (a .nodes) (a .heads) (now (a .requests)) (now (a .grants)) in
@@ -59,7 +62,8 @@ refusal-requires-3 : tie.Need-refusal-requires-3
 refusal-requires-3 c κs = search needs
 
 returns-3 : tie.Need-returns-3
-returns-3 c =    let a = c .before .before .before .before .before .before .before .before .args in
+returns-3 c =
+    let a = c .before .before .before .before .before .before .before .before .args in
     let numbers = c .before .before .before .before .before .numbers-refusal in
     let runs = c .before .before .before .run-count in
     let d = given (a .nodes) (a .heads) (now (a .requests)) (now (a .grants)) in
@@ -67,13 +71,15 @@ returns-3 c =    let a = c .before .before .before .before .before .before .befo
     ∙ answer-buffer d (numbers .result) (numbers .ensures) (c .before .before .before .before .if1 .left) (a .room) (runs .result) (runs .ensures) (omega arith) (omega arith)
 
 cast-t14 : tie.Need-cast-t14
-cast-t14 c =    let a = c .before .before .before .before .before .before .before .args in
+cast-t14 c =
+    let a = c .before .before .before .before .before .before .before .args in
     let numbers = c .before .before .before .before .numbers-refusal in
     let d = given (a .nodes) (a .heads) (now (a .requests)) (now (a .grants)) in
     omega (arith, few-requests d (numbers .result) (numbers .ensures) (c .before .before .before .if1 .left))
 
 returns-4 : tie.Need-returns-4
-returns-4 c =    let a = c .before .before .before .before .before .before .before .args in
+returns-4 c =
+    let a = c .before .before .before .before .before .before .before .args in
     let numbers = c .before .before .before .before .numbers-refusal in
     let runs = c .before .before .run-count in
     let d = given (a .nodes) (a .heads) (now (a .requests)) (now (a .grants)) in

@@ -25,7 +25,8 @@ wide-requires : tie.Need-wide-requires Inv-loop μ-loop
 wide-requires c κs = search needs
 
 returns : tie.Need-returns Inv-loop μ-loop
-returns c =    let a = c .before .before .before .before .before .before .args in
+returns c =
+    let a = c .before .before .before .before .before .before .args in
     serving-stops (a .heads) (now (a .grants)) (c .before .before .before .before .loop .i) (c .before .before .before .before .loop .inv) (omega arith) (omega arith)
 
 add-i : tie.Need-add-i Inv-loop μ-loop
@@ -35,11 +36,13 @@ loop-less : tie.Need-loop-less Inv-loop μ-loop
 loop-less c = search needs
 
 loop-again : tie.Need-loop-again Inv-loop μ-loop
-loop-again c =    let a = c .before .before .before .before .before .before .args in
+loop-again c =
+    let a = c .before .before .before .before .before .before .args in
     serving-on (a .heads) (now (a .grants)) (c .before .before .before .before .loop .i) (c .before .before .before .before .loop .inv) (omega arith) (omega arith)
 
 returns-2 : tie.Need-returns-2 Inv-loop μ-loop
-returns-2 c =    let a = c .before .before .before .args in
+returns-2 c =
+    let a = c .before .before .before .args in
     serving-all (a .heads) (now (a .grants)) (c .before .loop .i) (c .before .loop .inv) (omega arith)
 
 pub grants-refusal-spec : {M : Type 1} → statement M

@@ -14,19 +14,22 @@ sizes-refusal-requires : tie.Need-sizes-refusal-requires
 sizes-refusal-requires c κs = search needs
 
 returns : tie.Need-returns
-returns c =    let a = c .before .before .before .before .args in
+returns c =
+    let a = c .before .before .before .before .args in
     let sizes = c .before .sizes-refusal .ensures in
     simp (ne-eqb (sizesRefusal (a .nodes) (a .heads)) 0 (λ e. c .if1 .taken (sizes ∙ e))) sizes
 
 returns-2 : tie.Need-returns-2
-returns-2 c =    let requests = now (c .before .before .before .before .before .args .requests) in
+returns-2 c =
+    let requests = now (c .before .before .before .before .before .args .requests) in
     simp (sym (c .before .before .sizes-refusal .ensures) ∙ c .before .if1 .left, count-refuses requests (omega arith))
 
 requests-refusal-requires : tie.Need-requests-refusal-requires
 requests-refusal-requires c κs = search needs
 
 returns-3 : tie.Need-returns-3
-returns-3 c =    let a = c .before .before .before .before .before .before .before .args in
+returns-3 c =
+    let a = c .before .before .before .before .before .before .before .args in
     let each = c .before .requests-refusal .ensures in
     simp (
       sym (c .before .before .before .before .sizes-refusal .ensures) ∙ c .before .before .before .if1 .left,
@@ -38,7 +41,8 @@ grants-refusal-requires : tie.Need-grants-refusal-requires
 grants-refusal-requires c κs = search needs
 
 returns-4 : tie.Need-returns-4
-returns-4 c =    let a = c .before .before .before .before .before .before .before .before .args in
+returns-4 c =
+    let a = c .before .before .before .before .before .before .before .before .args in
     simp (
       sym (c .before .before .before .before .before .sizes-refusal .ensures) ∙ c .before .before .before .before .if1 .left,
       count-passes (now (a .requests)) (omega arith),

@@ -28,7 +28,8 @@ fields-refusal-requires : tie.Need-fields-refusal-requires Inv-loop μ-loop
 fields-refusal-requires c κs = search needs
 
 returns : tie.Need-returns Inv-loop μ-loop
-returns c =    let a = c .before .before .before .before .before .before .args in
+returns c =
+    let a = c .before .before .before .before .before .before .args in
     passing-stops (a .nodes) (a .heads) (now (a .requests)) (c .before .before .before .before .loop .at) (c .before .before .before .before .loop .inv) (c .before .fields-refusal .result) (omega arith) (cc) (c .if1 .taken)
 
 add-at : tie.Need-add-at Inv-loop μ-loop
@@ -38,11 +39,13 @@ loop-less : tie.Need-loop-less Inv-loop μ-loop
 loop-less c = search needs
 
 loop-again : tie.Need-loop-again Inv-loop μ-loop
-loop-again c =    let a = c .before .before .before .before .before .before .args in
+loop-again c =
+    let a = c .before .before .before .before .before .before .args in
     passing-on (a .nodes) (a .heads) (now (a .requests)) (c .before .before .before .before .loop .at) (c .before .before .before .before .loop .inv) (c .before .fields-refusal .result) (omega arith) (cc) (omega arith)
 
 returns-2 : tie.Need-returns-2 Inv-loop μ-loop
-returns-2 c =    let a = c .before .before .before .args in
+returns-2 c =
+    let a = c .before .before .before .args in
     passing-all (a .nodes) (a .heads) (now (a .requests)) (c .before .loop .at) (c .before .loop .inv) (omega arith)
 
 pub requests-refusal-spec : {M : Type 1} → statement M

@@ -32,13 +32,15 @@ does-extend-requires : tie.Need-does-extend-requires Inv-loop μ-loop
 does-extend-requires c κs = search needs
 
 returns : tie.Need-returns Inv-loop μ-loop
-returns c =    let a = c .before .before .before .before .before .before .before .args in
+returns c =
+    let a = c .before .before .before .before .before .before .before .args in
     let l = c .before .before .before .before .loop in
     let extends = c .before .does-extend in
     growing-stops (now (a .grants)) (a .at) (l .i) (l .run) (l .inv) (omega arith) (sym (extends .ensures) ∙ not-true (extends .result) (c .if1 .taken))
 
 add-run : tie.Need-add-run Inv-loop μ-loop
-add-run c =    let extends = c .before .before .does-extend in
+add-run c =
+    let extends = c .before .before .does-extend in
     omega (arith, extends-under (c .before .before .before .before .before .loop .run) _ (sym (extends .ensures) ∙ not-false (extends .result) (c .before .if1 .left)))
 
 add-i-2 : tie.Need-add-i-2 Inv-loop μ-loop
@@ -48,13 +50,15 @@ loop-less : tie.Need-loop-less Inv-loop μ-loop
 loop-less c = search needs
 
 loop-again : tie.Need-loop-again Inv-loop μ-loop
-loop-again c =    let a = c .before .before .before .before .before .before .before .before .args in
+loop-again c =
+    let a = c .before .before .before .before .before .before .before .before .args in
     let l = c .before .before .before .before .before .loop in
     let extends = c .before .before .does-extend in
     growing-on (now (a .grants)) (a .at) (l .i) (l .run) (l .inv) (omega arith) (sym (extends .ensures) ∙ not-false (extends .result) (c .before .if1 .left))
 
 returns-2 : tie.Need-returns-2 Inv-loop μ-loop
-returns-2 c =    let a = c .before .before .before .before .args in
+returns-2 c =
+    let a = c .before .before .before .before .args in
     growing-ends (now (a .grants)) (a .at) (c .before .loop .i) (c .before .loop .run) (c .before .loop .inv) (omega arith)
 
 pub run-at-spec : {M : Type 1} → statement M

@@ -33,7 +33,8 @@ same-length : tie.Need-same-length
 same-length c = search needs
 
 returns : tie.Need-returns
-returns c =    let a = c .before .before .before .before .before .before .before .before .before .before .before .before .args in
+returns c =
+    let a = c .before .before .before .before .before .before .before .before .before .before .before .before .args in
     close-stored (now (a .out)) _ _ (a .at) (c .before .before .before .before .before .word-sum .result) (c .before .before .before .wrapping-sub-u16 .result) (omega arith) (omega arith)
     (c .before .before .before .before .before .before .before .before .before .put-word .ensures) (c .before .before .before .before .before .word-sum .ensures) (c .before .before .before .wrapping-sub-u16 .ensures) (c .before .before .put-word2 .ensures)
 

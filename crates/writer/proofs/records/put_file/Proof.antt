@@ -11,20 +11,24 @@ use Rattle.writer.proofs.records.put_file.Statement.{statement}
 use Rattle.writer.proofs.records.put_file.Tie as tie
 
 cast-put-header : tie.Need-cast-put-header
-cast-put-header c =    let a = c .before .before .before .before .args in
+cast-put-header c =
+    let a = c .before .before .before .before .args in
     omega (arith, ready (given (a .nodes) (a .heads) (now (a .requests)) (now (a .grants))) (length (now (a .out))) (c .before .before .before .before .pre))
 
 cast-put-header-2 : tie.Need-cast-put-header-2
-cast-put-header-2 c =    let a = c .before .before .before .before .args in
+cast-put-header-2 c =
+    let a = c .before .before .before .before .args in
     omega (arith, ready (given (a .nodes) (a .heads) (now (a .requests)) (now (a .grants))) (length (now (a .out))) (c .before .before .before .before .pre))
 
 put-header-requires : tie.Need-put-header-requires
-put-header-requires c κs =    let a = c .before .before .before .before .args in
+put-header-requires c κs =
+    let a = c .before .before .before .before .args in
     let d = given (a .nodes) (a .heads) (now (a .requests)) (now (a .grants)) in
     omega (arith, length-file d, ready d (length (now (a .out))) (c .before .before .before .before .pre))
 
 put-requests-requires : tie.Need-put-requests-requires
-put-requests-requires c κs =    let a = c .before .before .before .before .before .before .before .before .args in
+put-requests-requires c κs =
+    let a = c .before .before .before .before .before .before .before .before .args in
     let d = given (a .nodes) (a .heads) (now (a .requests)) (now (a .grants)) in
     let known = ready d (length (now (a .out))) (c .before .before .before .before .before .before .before .before .pre) in
     (omega (arith, length-file d, fields-count (now (a .requests))), known .fits)
@@ -36,12 +40,14 @@ add-put-runs : tie.Need-add-put-runs
 add-put-runs c = search needs
 
 put-runs-requires : tie.Need-put-runs-requires
-put-runs-requires c κs =    let a = c .before .before .before .before .before .before .before .before .before .before .before .before .args in
+put-runs-requires c κs =
+    let a = c .before .before .before .before .before .before .before .before .before .before .before .before .args in
     let d = given (a .nodes) (a .heads) (now (a .requests)) (now (a .grants)) in
     omega (arith, length-file d, ready d (length (now (a .out))) (c .before .before .before .before .before .before .before .before .before .before .before .before .pre))
 
 put-close-requires : tie.Need-put-close-requires
-put-close-requires c κs =    let a = c .before .before .before .before .before .before .before .before .before .before .before .before .before .before .before .before .args in
+put-close-requires c κs =
+    let a = c .before .before .before .before .before .before .before .before .before .before .before .before .before .before .before .before .args in
     let d = given (a .nodes) (a .heads) (now (a .requests)) (now (a .grants)) in
     let known = ready d (length (now (a .out))) (c .before .before .before .before .before .before .before .before .before .before .before .before .before .before .before .before .pre) in
     (omega arith, omega (arith, length-file d))
@@ -50,7 +56,8 @@ same-length : tie.Need-same-length
 same-length c = search needs
 
 returns : tie.Need-returns
-returns c =    let a = c .before .before .before .before .before .before .before .before .before .before .before .before .before .before .before .before .before .before .before .args in
+returns c =
+    let a = c .before .before .before .before .before .before .before .before .before .before .before .before .before .before .before .before .before .before .before .args in
     let d = given (a .nodes) (a .heads) (now (a .requests)) (now (a .grants)) in
     file-stored d (now (a .out)) _ _ _ _ (c .before .before .before .before .before .before .put-runs .result) (ready d (length (now (a .out))) (c .before .before .before .before .before .before .before .before .before .before .before .before .before .before .before .before .before .before .before .pre) .enough)
     (c .before .before .before .before .before .before .before .before .before .before .before .before .before .before .put-header .ensures) (c .before .before .before .before .before .before .before .before .before .before .put-requests .ensures) (c .before .before .before .before .before .before .put-runs .ensures .1) (c .before .before .before .before .before .before .put-runs .ensures .0) (c .before .before .put-close .ensures)

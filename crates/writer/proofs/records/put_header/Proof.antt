@@ -21,7 +21,8 @@ same-length : tie.Need-same-length
 same-length c = search needs
 
 returns : tie.Need-returns
-returns c =    let a = c .before .before .before .before .before .before .before .before .before .before .before .before .before .args in
+returns c =
+    let a = c .before .before .before .before .before .before .before .before .before .before .before .before .before .args in
     let two = stored-on (now (a .out)) _ _ (wordBytes jobMark) (wordBytes (a .nodes)) 0 2 (omega arith) (c .before .before .before .before .before .before .before .before .before .before .put-word .ensures) (c .before .before .before .before .before .before .put-word2 .ensures) in
     stored-on (now (a .out)) _ _ (wordBytes jobMark ++ wordBytes (a .nodes)) (wordBytes (a .heads)) 0 4 (omega arith) two (c .before .before .put-word3 .ensures)
 

@@ -22,19 +22,28 @@ sub-loop : tie.Need-sub-loop Inv-loop μ-loop
 sub-loop c = search needs
 
 mul-put-request : tie.Need-mul-put-request Inv-loop μ-loop
-mul-put-request c = let l = c .before .before .loop in omega (arith, next-room (now (c .before .before .before .before .before .args .out)) (now (c .before .before .before .before .before .args .requests)) (l .at) (l .out) (l .inv) (omega arith))
+mul-put-request c =
+    let a = c .before .before .before .before .before .args in
+    let l = c .before .before .loop in
+    omega (arith, next-room (now (a .out)) (now (a .requests)) (l .at) (l .out) (l .inv) (omega arith))
 
 add-put-request : tie.Need-add-put-request Inv-loop μ-loop
-add-put-request c = let l = c .before .before .loop in omega (arith, next-room (now (c .before .before .before .before .before .args .out)) (now (c .before .before .before .before .before .args .requests)) (l .at) (l .out) (l .inv) (omega arith))
+add-put-request c =
+    let a = c .before .before .before .before .before .args in
+    let l = c .before .before .loop in
+    omega (arith, next-room (now (a .out)) (now (a .requests)) (l .at) (l .out) (l .inv) (omega arith))
 
 fields-at-requires : tie.Need-fields-at-requires Inv-loop μ-loop
 fields-at-requires c κs = search needs
 
 put-request-requires : tie.Need-put-request-requires Inv-loop μ-loop
-put-request-requires c κs =    let a = c .before .before .before .before .before .before .args in
+put-request-requires c κs =
+    let a = c .before .before .before .before .before .before .args in
     let l = c .before .before .before .loop in
-    (next-room (now (a .out)) (now (a .requests)) (l .at) (l .out) (l .inv) (omega arith),
-      request-fits (now (a .out)) (now (a .requests)) (l .at) (l .out) (l .inv) (c .fields-at .result) (c .fields-at .ensures) (omega arith))
+    let fields = c .fields-at in (
+      next-room (now (a .out)) (now (a .requests)) (l .at) (l .out) (l .inv) (omega arith),
+      request-fits (now (a .out)) (now (a .requests)) (l .at) (l .out) (l .inv) (fields .result) (fields .ensures) (omega arith),
+    )
 
 add-at : tie.Need-add-at Inv-loop μ-loop
 add-at c = search needs
@@ -43,15 +52,18 @@ loop-less : tie.Need-loop-less Inv-loop μ-loop
 loop-less c = search needs
 
 loop-again : tie.Need-loop-again Inv-loop μ-loop
-loop-again c =    let a = c .before .before .before .before .before .before .before .before .before .args in
+loop-again c =
+    let a = c .before .before .before .before .before .before .before .before .before .args in
     let l = c .before .before .before .before .before .before .loop in
-    requests-stored-on (now (a .out)) (now (a .requests)) (l .at) (l .out) (l .inv) (c .before .before .before .fields-at .result) _ (c .before .before .before .fields-at .ensures) (omega arith) (c .before .before .put-request .ensures)
+    let fields = c .before .before .before .fields-at in
+    requests-stored-on (now (a .out)) (now (a .requests)) (l .at) (l .out) (l .inv) (fields .result) _ (fields .ensures) (omega arith) (c .before .before .put-request .ensures)
 
 same-length : tie.Need-same-length Inv-loop μ-loop
 same-length c = c .before .loop .inv .size
 
 returns : tie.Need-returns Inv-loop μ-loop
-returns c =    let a = c .before .before .before .before .args in
+returns c =
+    let a = c .before .before .before .before .args in
     let l = c .before .loop in
     requests-stored (now (a .out)) (now (a .requests)) (l .at) (l .out) (l .inv) (omega arith)
 

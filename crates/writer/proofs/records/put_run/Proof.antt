@@ -22,7 +22,8 @@ same-length : tie.Need-same-length
 same-length c = search needs
 
 returns : tie.Need-returns
-returns c =    let a = c .before .before .before .before .before .before .before .before .before .args in
+returns c =
+    let a = c .before .before .before .before .before .before .before .before .before .args in
     stored-on (now (a .out)) _ _ (wordBytes runMark) (a .run .head ∷ a .run .count ∷ []) (a .at) (a .at + 2) (omega arith) (c .before .before .before .before .before .before .put-word .ensures) (c .before .before .put-bytes .ensures)
 
 pub put-run-spec : {M : Type 1} → statement M

@@ -23,7 +23,8 @@ run-at-requires : tie.Need-run-at-requires Inv-loop μ-loop
 run-at-requires c κs = search needs
 
 put-run-requires : tie.Need-put-run-requires Inv-loop μ-loop
-put-run-requires c κs =    let a = c .before .before .before .before .before .before .args in
+put-run-requires c κs =
+    let a = c .before .before .before .before .before .before .args in
     let l = c .before .before .before .loop in
     let run = c .before .run-at in
     run-room (now (a .out)) (a .start) (now (a .grants)) (l .i) (l .at) (l .out) (l .inv) (run .result) (run .ensures) (c .before .before .before .before .before .before .pre)
@@ -32,12 +33,14 @@ cast-i : tie.Need-cast-i Inv-loop μ-loop
 cast-i c = search needs
 
 add-i : tie.Need-add-i Inv-loop μ-loop
-add-i c =    let l = c .before .before .before .before .before .before .before .loop in
+add-i c =
+    let l = c .before .before .before .before .before .before .before .loop in
     let run = c .before .before .before .before .before .run-at in
     omega (arith, run-taken (now (c .before .before .before .before .before .before .before .before .before .before .args .grants)) (l .i) (run .result) (l .inv .within) (run .ensures))
 
 add-at : tie.Need-add-at Inv-loop μ-loop
-add-at c =    let a = c .before .before .before .before .before .before .before .before .before .before .args in
+add-at c =
+    let a = c .before .before .before .before .before .before .before .before .before .before .args in
     let l = c .before .before .before .before .before .before .before .loop in
     let run = c .before .before .before .before .before .run-at in
     omega (arith, run-room (now (a .out)) (a .start) (now (a .grants)) (l .i) (l .at) (l .out) (l .inv) (run .result) (run .ensures) (c .before .before .before .before .before .before .before .before .before .before .pre))
@@ -46,7 +49,8 @@ loop-less : tie.Need-loop-less Inv-loop μ-loop
 loop-less c = omega (arith, ap length (c .before .before .before .before .before .run-at .ensures))
 
 loop-again : tie.Need-loop-again Inv-loop μ-loop
-loop-again c =    let a = c .before .before .before .before .before .before .before .before .before .before .args in
+loop-again c =
+    let a = c .before .before .before .before .before .before .before .before .before .before .args in
     let l = c .before .before .before .before .before .before .before .loop in
     let run = c .before .before .before .before .before .run-at in
     runs-stored-on (now (a .out)) (a .start) (now (a .grants)) (l .i) (l .at) (l .out) (l .inv) (run .result) (run .ensures) _ (c .before .before .before .put-run .ensures)
@@ -55,10 +59,12 @@ same-length : tie.Need-same-length Inv-loop μ-loop
 same-length c = c .before .loop .inv .size
 
 returns : tie.Need-returns Inv-loop μ-loop
-returns c =    let a = c .before .before .before .before .args in
-    let l = c .before .loop in
-    (runs-end (now (a .out)) (a .start) (now (a .grants)) (l .i) (l .at) (l .out) (l .inv) (omega arith),
-      runs-stored (now (a .out)) (a .start) (now (a .grants)) (l .i) (l .at) (l .out) (l .inv) (omega arith))
+returns c =
+    let a = c .before .before .before .before .args in
+    let l = c .before .loop in (
+      runs-end (now (a .out)) (a .start) (now (a .grants)) (l .i) (l .at) (l .out) (l .inv) (omega arith),
+      runs-stored (now (a .out)) (a .start) (now (a .grants)) (l .i) (l .at) (l .out) (l .inv) (omega arith),
+    )
 
 pub put-runs-spec : {M : Type 1} → statement M
 put-runs-spec =

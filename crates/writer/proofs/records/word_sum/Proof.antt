@@ -31,7 +31,8 @@ loop-less : tie.Need-loop-less Inv-loop μ-loop
 loop-less c = search needs
 
 loop-again : tie.Need-loop-again Inv-loop μ-loop
-loop-again c =    let l = c .before .before .before .loop in
+loop-again c =
+    let l = c .before .before .before .loop in
     summed-on (now (c .before .before .before .before .before .args .bytes)) (l .at) (l .sum) (c .before .before .before .before .before .pre) (l .inv) (c .wrapping-add-u16 .result) (omega arith) (cc)
 
 returns : tie.Need-returns Inv-loop μ-loop
