@@ -59,26 +59,27 @@ length-runs : (rs : List Run) → length (runsBytes rs) ≡ 4 * length rs
 length-runs [] = refl
 length-runs (r ∷ rs) = omega (arith, length-runs rs)
 
-pub file-stored : (d : Draft) (out a b c e : List ℕ) (at : ℕ) → length (written (jobOf d)) ≤ length out
-    → a ≡ sets out 0 (wordBytes jobMark ++ wordBytes (d .nodes) ++ wordBytes (d .heads))
-    → b ≡ sets a 6 (requestsBytes (map requestOf (fieldsOf (d .requests))))
-    → c ≡ sets b (6 + 8 * (length (d .requests) / 4)) (runsBytes (longestRuns (d .schedule)))
+-- What the buffer holds with the header, then the requests, then the runs, then the close.
+pub file-stored : (d : Draft) (out headed listed scheduled closed : List ℕ) (at : ℕ) → length (written (jobOf d)) ≤ length out
+    → headed ≡ sets out 0 (wordBytes jobMark ++ wordBytes (d .nodes) ++ wordBytes (d .heads))
+    → listed ≡ sets headed 6 (requestsBytes (map requestOf (fieldsOf (d .requests))))
+    → scheduled ≡ sets listed (6 + 8 * (length (d .requests) / 4)) (runsBytes (longestRuns (d .schedule)))
     → at ≡ 6 + 8 * (length (d .requests) / 4) + 4 * length (longestRuns (d .schedule))
-    → e ≡ sets c at (closeBytes (take at c))
-    → e ≡ sets out 0 (written (jobOf d))
+    → closed ≡ sets scheduled at (closeBytes (take at scheduled))
+    → closed ≡ sets out 0 (written (jobOf d))
 unfolding jobOf
-file-stored d out a b c e at fits first second third end fourth =
+file-stored d out headed listed scheduled closed at fits first second third end fourth =
     let j = jobOf d in
     let requests = requestsBytes (j .requests) in
     let runs = runsBytes (longestRuns (j .schedule)) in
     let front : length (header j ++ requests) ≡ 6 + 8 * (length (d .requests) / 4) =
     length-append (header j) requests ∙ ap (λ n. 6 + n) (length-requests (j .requests) ∙ simp (length-map, fields-count)) in
     let size : length (body j) ≡ at = length-append (header j ++ requests) runs ∙ omega (arith, length-runs (longestRuns (j .schedule))) in
-    let two = stored-on out a b (header j) requests 0 6 (omega arith) first second in
-    let three = stored-on out b c (header j ++ requests) runs 0 _ (omega arith) two third in
-    let before : take at c ≡ body j =
+    let two = stored-on out headed listed (header j) requests 0 6 (omega arith) first second in
+    let three = stored-on out listed scheduled (header j ++ requests) runs 0 _ (omega arith) two third in
+    let before : take at scheduled ≡ body j =
     ap (take at) (three ∙ sets-front out (body j) (omega (arith, length-file d))) ∙ take-at (body j) (drop (length (body j)) out) at size in
-    stored-on out c e (body j) (closeBytes (take at c)) 0 at (omega arith) three fourth
+    stored-on out scheduled closed (body j) (closeBytes (take at scheduled)) 0 at (omega arith) three fourth
     ∙ ap (λ t. sets out 0 (body j ++ closeBytes t)) before
     ∙ ap (sets out 0) (body-closed j)
 
@@ -100,12 +101,16 @@ module _ (d : Draft) (out : List ℕ) (told : Written) (is : told ≡ answer d (
   pub left-written : (after : List ℕ) → told .number ≡ 0 → after ≡ sets out 0 (written (jobOf d)) → record { answer = told; out = after } ≡ writes d out
   unfolding writes
   left-written after none stored =
-      rw (is, none-refused none, stored) (ap (λ (t : List ℕ). record { answer = answer d (length out); out = t }) (sets-front out (written (jobOf d)) (ready d (length out) (none-refused none) .enough)))
+      let enough = ready d (length out) (none-refused none) .enough in
+      rw (is, none-refused none, stored)
+      (ap (λ (t : List ℕ). record { answer = answer d (length out); out = t }) (sets-front out (written (jobOf d)) enough))
 
 -- The file that is left means what the writer was given.
-pub left-means : (d : Draft) (out : List ℕ) → writes d out .answer .number ≡ 0 → meaning (take (writes d out .answer .bytes) (writes d out .out)) ≡ accepted (jobOf d)
+pub left-means : (d : Draft) (out : List ℕ) → writes d out .answer .number ≡ 0
+    → meaning (take (writes d out .answer .bytes) (writes d out .out)) ≡ accepted (jobOf d)
 unfolding writes answer writeRefusal
 left-means d out none =
+    let file = written (jobOf d) in
     let passes = sym (unfold writeRefusal in answer-number d (length out)) ∙ none in
     let draft = through (draftRefusal d) _ passes .first in
-    rw (passes, take-at (written (jobOf d)) (drop (length (written (jobOf d))) out) (length (written (jobOf d))) refl) (written-draft d draft)
+    rw (passes, take-at file (drop (length file) out) (length file) refl) (written-draft d draft)

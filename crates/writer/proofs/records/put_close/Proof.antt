@@ -1,8 +1,7 @@
 -- `records::put_close`: the mark, the sum of the words up to it, and the balance.
-use Prim.Native.Nat.{_+_}
 use native.Mathlib.Omega.{arith}
 use denote.Ref.{now}
-use lib.Seq.{length-take-le}
+use lib.ListN.{length-take}
 use borrow.Author.Needs.{needs}
 use Rattle.writer.proofs.Sum.{close-stored}
 use Rattle.writer.proofs.records.put_close.Statement.{statement}
@@ -18,10 +17,10 @@ slice-reshare-prefix-word-sum : tie.Need-slice-reshare-prefix-word-sum
 slice-reshare-prefix-word-sum c = search needs
 
 slice-aggregate-word-sum : tie.Need-slice-aggregate-word-sum
-slice-aggregate-word-sum c = omega (arith, length-take-le (c .before .before .before .before .before .before .args .at + 2) (c .before .before .before .put-word .last .0) (omega arith))
+slice-aggregate-word-sum c = simp length-take (omega arith)
 
 word-sum-requires : tie.Need-word-sum-requires
-word-sum-requires c κs = omega (arith, length-take-le (c .before .before .before .before .before .before .args .at + 2) (c .before .before .before .put-word .last .0) (omega arith))
+word-sum-requires c κs = simp length-take (omega arith)
 
 wrapping-sub-u16-requires : tie.Need-wrapping-sub-u16-requires
 wrapping-sub-u16-requires c κs = search needs
