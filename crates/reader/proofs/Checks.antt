@@ -1,19 +1,24 @@
 -- The checks of a file in their order: the first that refuses gives the answer, and where none does, the counts are the job's.
-use mathlib.Core.Path.{_≡_, refl, _∙_, sym, ap}
-use mathlib.Core.List.{List, map}
+--
+--   RequestsRead s q       the length and the header are accepted, and q is what reading the requests gave
+--   RunsRead s q r         the requests are accepted too, and r is what reading the runs gave
+--   CloseRead s q r n      the runs are accepted too, and n is the refusal of the close and the balance
+--   length-answers .. close-answers   the answer where that check refuses
+--   counts-answer          the answer where none does
+--   runs-room, close-room  where the next section starts is within the file
+use mathlib.Core.Path.{_≡_, _∙_, sym, ap}
+use mathlib.Core.List.{List}
 use Prim.Native.Nat.{ℕ, _+_, _*_, _≤_, _<_}
 use native.Mathlib.Omega.{arith}
 use lib.ListN.{length, drop, length-drop, length-map}
 use borrow.Author.Tests.{lt-ltb, le-ltb, ne-eqb}
-use Rattle.jobfile.specs.Format.{mostBytes, requestMark, runMark, word, _then_, lengthRefusal}
+use Rattle.jobfile.specs.Format.{mostBytes, runMark, _then_, lengthRefusal}
 use Rattle.jobfile.specs.Meaning.{records, nodesIn, headsIn, headerRefusal, requestsRefusal, requestAt, runsRefusal, runAt, fullRun, granted, closeRefusal, balanceRefusal, requestRecords, runsStart, runRecords, closeStart, fileRefusal, runsIn, jobIn, refused, meaning}
-use Rattle.jobfile.specs.Written.{longestRuns}
 use Rattle.jobfile.specs.Admitted.{Bytes}
 use Rattle.jobfile.proofs.Passed.{header-passed, requests-fit, runs-fit}
 use Rattle.jobfile.proofs.Backward.{request-section, run-section}
 use Rattle.jobfile.proofs.RoundTrip.{meaning-number, meaning-accepted, meaning-refused}
 use Rattle.jobfile.proofs.Places.{runs-meant}
-use Rattle.reader.specs.declared.Checked.{Checked}
 use Rattle.reader.specs.declared.sections.RequestSection.{RequestSection}
 use Rattle.reader.specs.declared.sections.RunSection.{RunSection}
 use Rattle.reader.specs.Reader.{countsOf, requestSectionOf, runSectionOf}
@@ -40,7 +45,7 @@ pub record RequestsRead (s : List ℕ) (q : RequestSection) : Type 0 where
   pub header : headerRefusal s ≡ 0
   pub read : q ≡ requestSectionOf (nodesIn s) (headsIn s) (requestRecords s)
 
-module _ (s : List ℕ) (q : RequestSection) (h : RequestsRead s q) where
+module _ {s : List ℕ} {q : RequestSection} (h : RequestsRead s q) where
   request-number : q .number ≡ requestsRefusal (nodesIn s) (headsIn s) 0 (requestRecords s)
   unfolding requestSectionOf
   request-number = ap (λ (q : RequestSection). q .number) (h .read)
@@ -65,9 +70,9 @@ pub record RunsRead (s : List ℕ) (q : RequestSection) (r : RunSection) : Type 
   pub requests : q .number ≡ 0
   pub read : r ≡ runSectionOf (headsIn s) (records 4 runMark (drop (6 + 8 * q .count) s))
 
-module _ (s : List ℕ) (q : RequestSection) (r : RunSection) (h : RunsRead s q r) where
+module _ {s : List ℕ} {q : RequestSection} {r : RunSection} (h : RunsRead s q r) where
   run-read : r ≡ runSectionOf (headsIn s) (runRecords s)
-  run-read = rw (request-count s q (h .before) (h .requests)) at (h .read)
+  run-read = rw (request-count (h .before) (h .requests)) at (h .read)
 
   run-number : r .number ≡ runsRefusal (headsIn s) fullRun (runRecords s)
   unfolding runSectionOf
@@ -77,7 +82,7 @@ module _ (s : List ℕ) (q : RequestSection) (r : RunSection) (h : RunsRead s q 
   unfolding fileRefusal
   runs-answer z =
       let b = h .before in
-      refusal-answers s (r .number) (simp (length-passes s (b .short), b .header, ← request-number s q b, h .requests, ← run-number, ne-eqb (r .number) 0 z)) z
+      refusal-answers s (r .number) (simp (length-passes s (b .short), b .header, ← request-number b, h .requests, ← run-number, ne-eqb (r .number) 0 z)) z
 
   run-count : r .number ≡ 0 → r .count ≡ length (runRecords s)
   unfolding runSectionOf
@@ -92,8 +97,8 @@ module _ (s : List ℕ) (q : RequestSection) (r : RunSection) (h : RunsRead s q 
   close-room z =
       omega (
         arith,
-        runs-room s q (h .before) (h .requests),
-        request-count s q (h .before) (h .requests),
+        runs-room (h .before) (h .requests),
+        request-count (h .before) (h .requests),
         run-count z,
         length-drop (runsStart s) s,
         runs-fit (headsIn s) fullRun (run-section s) (sym run-number ∙ z),
@@ -105,15 +110,15 @@ pub record CloseRead (s : List ℕ) (q : RequestSection) (r : RunSection) (n : �
   pub runs : r .number ≡ 0
   pub read : n ≡ (closeRefusal (drop (6 + 8 * q .count + 4 * r .count) s) then balanceRefusal s)
 
-module _ (s : List ℕ) (q : RequestSection) (r : RunSection) (n : ℕ) (h : CloseRead s q r n) where
+module _ {s : List ℕ} {q : RequestSection} {r : RunSection} {n : ℕ} (h : CloseRead s q r n) where
   close-number : n ≡ (closeRefusal (drop (closeStart s) s) then balanceRefusal s)
-  close-number = rw (request-count s q (h .before .before) (h .before .requests), run-count s q r (h .before) (h .runs)) at (h .read)
+  close-number = rw (request-count (h .before .before) (h .before .requests), run-count (h .before) (h .runs)) at (h .read)
 
   file-number : fileRefusal s ≡ n
   unfolding fileRefusal
   file-number =
       let b = h .before .before in
-      simp (length-passes s (b .short), b .header, ← request-number s q b, h .before .requests, ← run-number s q r (h .before), h .runs) (sym close-number)
+      simp (length-passes s (b .short), b .header, ← request-number b, h .before .requests, ← run-number (h .before), h .runs) (sym close-number)
 
   pub close-answers : (n ≡ 0 → ⊥) → countsOf (refused n) ≡ countsOf (meaning s)
   close-answers z = refusal-answers s n file-number z
@@ -124,9 +129,9 @@ module _ (s : List ℕ) (q : RequestSection) (r : RunSection) (n : ℕ) (h : Clo
   counts-answer b z =
       let accepts = meaning-accepted s (file-number ∙ z) in
       let none : meaning s .number ≡ 0 = meaning-number s ∙ file-number ∙ z in
-      let requests = request-count s q (h .before .before) (h .before .requests) in
-      let grants = run-grants s q r (h .before) (h .runs) in
-      let runs = run-count s q r (h .before) (h .runs) in
+      let requests = request-count (h .before .before) (h .before .requests) in
+      let grants = run-grants (h .before) (h .runs) in
+      let runs = run-count (h .before) (h .runs) in
       λ i. record {
         number = sym none i;
         nodes = ap (λ m. m .job .nodes) (sym accepts) i;

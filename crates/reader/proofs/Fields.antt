@@ -1,4 +1,7 @@
 -- The numbers of a record, by the bytes and words that they are read from.
+--
+--   fields-read, request-read, run-read   a record of numbers is the one at that place, if each was read from its bytes
+--   run-numbers            the refusal of a run that is whole, by its numbers
 use mathlib.Core.Path.{_≡_, _∙_, sym, ap}
 use mathlib.Core.Bool.{cond}
 use mathlib.Core.List.{List}
@@ -8,9 +11,7 @@ use lib.ListN.{length, getD, drop}
 use lib.Seq.{getD-drop, drop-drop}
 use borrow.Author.Tests.{le-ltb}
 use Rattle.job.specs.declared.Kind.{Kind}
-use Rattle.job.specs.declared.Request.{Request}
 use Rattle.job.specs.Job.{kindOf}
-use Rattle.jobfile.specs.declared.Fields.{Fields}
 use Rattle.jobfile.specs.declared.Run.{Run}
 use Rattle.jobfile.specs.Format.{word, extends}
 use Rattle.jobfile.specs.Meaning.{fieldsAt, requestAt, runAt, runRefusal}

@@ -2,6 +2,7 @@
 --
 --   word-drop           the word at a place, by its two bytes
 --   Summed s sum at     sum is that of the words before the place `at`, without carries out of 16 bits
+--   sum-start, sum-next, sum-end   it holds at first, after a word, and what it gives at the end
 use mathlib.Core.Path.{_≡_, refl}
 use mathlib.Core.List.{List, [], _∷_}
 use Prim.Native.Nat.{ℕ, _+_, _*_, _%_, _≤_, _<_}
@@ -27,12 +28,12 @@ pub record Summed (s : List ℕ) (sum at : ℕ) : Type 0 where
 pub sum-start : (s : List ℕ) → Summed s 0 0
 sum-start s = record { within = omega arith; fits = omega arith; rest = omega arith }
 
-pub sum-next : (s : List ℕ) (sum at next : ℕ) → Summed s sum at → at < length s → next ≡ (sum + word (drop at s)) % 65536 → Summed s next (at + 2)
-sum-next s sum at next h l e =
+pub sum-next : {s : List ℕ} {sum at : ℕ} (next : ℕ) → Summed s sum at → at < length s → next ≡ (sum + word (drop at s)) % 65536 → Summed s next (at + 2)
+sum-next {s} {sum} {at} next h l e =
     let more : wordSum (drop at s) ≡ word (drop at s) + wordSum (drop (at + 2) s) = rw (← drop-drop) (wordSum-next (drop at s)) in
     record { within = omega arith; fits = omega arith; rest = omega (arith, h .rest) }
 
-pub sum-end : (s : List ℕ) (sum at : ℕ) → Summed s sum at → length s ≤ at → sum ≡ wordSum s % 65536
-sum-end s sum at h l =
+pub sum-end : {s : List ℕ} {sum at : ℕ} → Summed s sum at → length s ≤ at → sum ≡ wordSum s % 65536
+sum-end {s} {sum} {at} h l =
     let none : wordSum (drop at s) ≡ 0 = rw (drop-of-length-le s {i = at} l) in
     omega (arith, h .rest, h .fits)

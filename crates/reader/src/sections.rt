@@ -14,7 +14,7 @@ ghost use mathlib.Core.Path.{_≡_};
 ghost use Prim.Native.Nat.{_+_, _*_, _≤_};
 ghost use lib.ListN.{length, drop};
 ghost use Rattle.jobfile.specs.Format.{mostBytes, requestMark, runMark, _then_};
-ghost use Rattle.jobfile.specs.Meaning.{records, headerRefusal, requestsRefusal, runsRefusal, fullRun, closeRefusal, balanceRefusal};
+ghost use Rattle.jobfile.specs.Meaning.{records, headerRefusal, closeRefusal, balanceRefusal};
 ghost use Rattle.reader.specs.Reader.{requestSectionOf, runSectionOf};
 
 // The requests of a file: how many there are, or their refusal.

@@ -1,93 +1,111 @@
+-- `reader::check_records`: the first section that is refused answers, and where none is, the counts are the job's.
 use mathlib.Core.Path.{_∙_}
 use native.Mathlib.Omega.{arith}
 use denote.Ref.{now}
+use borrow.Author.Needs.{needs}
 use Rattle.jobfile.proofs.Passed.{header-passed}
 use Rattle.reader.proofs.Checks.{RequestsRead, requests-answer, runs-room, RunsRead, runs-answer, close-room, CloseRead, close-answers, counts-answer}
-use borrow.Author.Needs.{needs}
 use Rattle.reader.proofs.check_records.Statement.{statement}
 use Rattle.reader.proofs.check_records.Tie as tie
-use Rattle.reader.proofs.check_records.Reads as reads
-use Rattle.reader.proofs.check_records.Lts as lts
-use Rattle.reader.proofs.bytes.word_at.Reads as word-at-reads
-use Rattle.reader.proofs.refuse.Reads as refuse-reads
-use Rattle.reader.proofs.sections.close_refusal.Reads as close-refusal-reads
-use Rattle.reader.proofs.sections.read_requests.Reads as read-requests-reads
-use Rattle.reader.proofs.sections.read_runs.Reads as read-runs-reads
 
--- src/lib.rt:55:17
 word-at-requires : tie.Need-word-at-requires
 word-at-requires c κs = search needs
 
--- src/lib.rt:55:17
 cast-nodes : tie.Need-cast-nodes
 cast-nodes c = search needs
 
--- src/lib.rt:56:17
 word-at-requires-2 : tie.Need-word-at-requires-2
 word-at-requires-2 c κs = search needs
 
--- src/lib.rt:56:17
 cast-heads : tie.Need-cast-heads
 cast-heads c = search needs
 
--- src/lib.rt:57:9
 read-requests-requires : tie.Need-read-requests-requires
-read-requests-requires c κs = let s = now (c .before .before .before .args .file) in
-    (header-passed s (c .before .before .before .pre .1) .whole, c .before .before .before .pre .0)
+read-requests-requires c κs =
+    let start = c .before .before .before in
+    let s = now (start .args .file) in
+    (header-passed s (start .pre .1) .whole, start .pre .0)
 
--- src/lib.rt:59:9
 refuse-requires : tie.Need-refuse-requires
 refuse-requires c κs = search needs
 
--- src/lib.rt:59:9
 returns : tie.Need-returns
-returns c = let s = now (c .before .before .before .before .before .before .before .args .file) in
-    let requests : RequestsRead s (c .before .before .before .read-requests .result) = record { short = c .before .before .before .before .before .before .before .pre .0; header = c .before .before .before .before .before .before .before .pre .1; read = rw (c .before .before .before .before .before .word-at .ensures, c .before .before .before .before .word-at2 .ensures) at (c .before .before .before .read-requests .ensures) } in
-    c .refuse .ensures ∙ requests-answer s _ requests (c .before .if1 .taken)
+returns c =
+    let start = c .before .before .before .before .before .before .before in
+    let s = now (start .args .file) in
+    let nodes = c .before .before .before .before .before .word-at .ensures in
+    let heads = c .before .before .before .before .word-at2 .ensures in
+    let q = c .before .before .before .read-requests in
+    let requests : RequestsRead s (q .result) = record { short = start .pre .0; header = start .pre .1; read = rw (nodes, heads) at (q .ensures) } in
+    c .refuse .ensures ∙ requests-answer requests (c .before .if1 .taken)
 
--- src/lib.rt:61:9
 read-runs-requires : tie.Need-read-runs-requires
-read-runs-requires c κs = let s = now (c .before .before .before .before .before .before .args .file) in
-    let requests : RequestsRead s (c .before .before .read-requests .result) = record { short = c .before .before .before .before .before .before .pre .0; header = c .before .before .before .before .before .before .pre .1; read = rw (c .before .before .before .before .word-at .ensures, c .before .before .before .word-at2 .ensures) at (c .before .before .read-requests .ensures) } in
-    (runs-room s _ requests (c .if1 .left), c .before .before .before .before .before .before .pre .0)
+read-runs-requires c κs =
+    let start = c .before .before .before .before .before .before in
+    let s = now (start .args .file) in
+    let nodes = c .before .before .before .before .word-at .ensures in
+    let heads = c .before .before .before .word-at2 .ensures in
+    let q = c .before .before .read-requests in
+    let requests : RequestsRead s (q .result) = record { short = start .pre .0; header = start .pre .1; read = rw (nodes, heads) at (q .ensures) } in
+    (runs-room requests (c .if1 .left), start .pre .0)
 
--- src/lib.rt:63:9
 refuse-requires-2 : tie.Need-refuse-requires-2
 refuse-requires-2 c κs = search needs
 
--- src/lib.rt:63:9
 returns-2 : tie.Need-returns-2
-returns-2 c = let s = now (c .before .before .before .before .before .before .before .before .before .before .args .file) in
-    let requests : RequestsRead s (c .before .before .before .before .before .before .read-requests .result) = record { short = c .before .before .before .before .before .before .before .before .before .before .pre .0; header = c .before .before .before .before .before .before .before .before .before .before .pre .1; read = rw (c .before .before .before .before .before .before .before .before .word-at .ensures, c .before .before .before .before .before .before .before .word-at2 .ensures) at (c .before .before .before .before .before .before .read-requests .ensures) } in
-    let runs : RunsRead s (c .before .before .before .before .before .before .read-requests .result) (c .before .before .before .read-runs .result) = record { before = requests; requests = c .before .before .before .before .if1 .left; read = rw (c .before .before .before .before .before .before .before .word-at2 .ensures) at (c .before .before .before .read-runs .ensures) } in
-    c .refuse2 .ensures ∙ runs-answer s _ _ runs (c .before .if2 .taken)
+returns-2 c =
+    let start = c .before .before .before .before .before .before .before .before .before .before in
+    let s = now (start .args .file) in
+    let nodes = c .before .before .before .before .before .before .before .before .word-at .ensures in
+    let heads = c .before .before .before .before .before .before .before .word-at2 .ensures in
+    let q = c .before .before .before .before .before .before .read-requests in
+    let requests : RequestsRead s (q .result) = record { short = start .pre .0; header = start .pre .1; read = rw (nodes, heads) at (q .ensures) } in
+    let r = c .before .before .before .read-runs in
+    let runs : RunsRead s (q .result) (r .result) = record { before = requests; requests = c .before .before .before .before .if1 .left; read = rw heads at (r .ensures) } in
+    c .refuse2 .ensures ∙ runs-answer runs (c .before .if2 .taken)
 
--- src/lib.rt:65:9
 close-refusal-requires : tie.Need-close-refusal-requires
-close-refusal-requires c κs = let s = now (c .before .before .before .before .before .before .before .before .before .args .file) in
-    let requests : RequestsRead s (c .before .before .before .before .before .read-requests .result) = record { short = c .before .before .before .before .before .before .before .before .before .pre .0; header = c .before .before .before .before .before .before .before .before .before .pre .1; read = rw (c .before .before .before .before .before .before .before .word-at .ensures, c .before .before .before .before .before .before .word-at2 .ensures) at (c .before .before .before .before .before .read-requests .ensures) } in
-    let runs : RunsRead s (c .before .before .before .before .before .read-requests .result) (c .before .before .read-runs .result) = record { before = requests; requests = c .before .before .before .if1 .left; read = rw (c .before .before .before .before .before .before .word-at2 .ensures) at (c .before .before .read-runs .ensures) } in
-    (close-room s _ _ runs (c .if2 .left), c .before .before .before .before .before .before .before .before .before .pre .0)
+close-refusal-requires c κs =
+    let start = c .before .before .before .before .before .before .before .before .before in
+    let s = now (start .args .file) in
+    let nodes = c .before .before .before .before .before .before .before .word-at .ensures in
+    let heads = c .before .before .before .before .before .before .word-at2 .ensures in
+    let q = c .before .before .before .before .before .read-requests in
+    let requests : RequestsRead s (q .result) = record { short = start .pre .0; header = start .pre .1; read = rw (nodes, heads) at (q .ensures) } in
+    let r = c .before .before .read-runs in
+    let runs : RunsRead s (q .result) (r .result) = record { before = requests; requests = c .before .before .before .if1 .left; read = rw heads at (r .ensures) } in
+    (close-room runs (c .if2 .left), start .pre .0)
 
--- src/lib.rt:67:9
 refuse-requires-3 : tie.Need-refuse-requires-3
 refuse-requires-3 c κs = search needs
 
--- src/lib.rt:67:9
 returns-3 : tie.Need-returns-3
-returns-3 c = let s = now (c .before .before .before .before .before .before .before .before .before .before .before .before .args .file) in
-    let requests : RequestsRead s (c .before .before .before .before .before .before .before .before .read-requests .result) = record { short = c .before .before .before .before .before .before .before .before .before .before .before .before .pre .0; header = c .before .before .before .before .before .before .before .before .before .before .before .before .pre .1; read = rw (c .before .before .before .before .before .before .before .before .before .before .word-at .ensures, c .before .before .before .before .before .before .before .before .before .word-at2 .ensures) at (c .before .before .before .before .before .before .before .before .read-requests .ensures) } in
-    let runs : RunsRead s (c .before .before .before .before .before .before .before .before .read-requests .result) (c .before .before .before .before .before .read-runs .result) = record { before = requests; requests = c .before .before .before .before .before .before .if1 .left; read = rw (c .before .before .before .before .before .before .before .before .before .word-at2 .ensures) at (c .before .before .before .before .before .read-runs .ensures) } in
-    let close : CloseRead s (c .before .before .before .before .before .before .before .before .read-requests .result) (c .before .before .before .before .before .read-runs .result) (c .before .before .close-refusal .result) = record { before = runs; runs = c .before .before .before .if2 .left; read = c .before .before .close-refusal .ensures } in
-    c .refuse3 .ensures ∙ close-answers s _ _ _ close (c .before .if3 .taken)
+returns-3 c =
+    let start = c .before .before .before .before .before .before .before .before .before .before .before .before in
+    let s = now (start .args .file) in
+    let nodes = c .before .before .before .before .before .before .before .before .before .before .word-at .ensures in
+    let heads = c .before .before .before .before .before .before .before .before .before .word-at2 .ensures in
+    let q = c .before .before .before .before .before .before .before .before .read-requests in
+    let requests : RequestsRead s (q .result) = record { short = start .pre .0; header = start .pre .1; read = rw (nodes, heads) at (q .ensures) } in
+    let r = c .before .before .before .before .before .read-runs in
+    let runs : RunsRead s (q .result) (r .result) = record { before = requests; requests = c .before .before .before .before .before .before .if1 .left; read = rw heads at (r .ensures) } in
+    let n = c .before .before .close-refusal in
+    let close : CloseRead s (q .result) (r .result) (n .result) = record { before = runs; runs = c .before .before .before .if2 .left; read = n .ensures } in
+    c .refuse3 .ensures ∙ close-answers close (c .before .if3 .taken)
 
--- src/lib.rt:50:1
 returns-4 : tie.Need-returns-4
-returns-4 c = let s = now (c .before .before .before .before .before .before .before .before .before .before .before .args .file) in
-    let requests : RequestsRead s (c .before .before .before .before .before .before .before .read-requests .result) = record { short = c .before .before .before .before .before .before .before .before .before .before .before .pre .0; header = c .before .before .before .before .before .before .before .before .before .before .before .pre .1; read = rw (c .before .before .before .before .before .before .before .before .before .word-at .ensures, c .before .before .before .before .before .before .before .before .word-at2 .ensures) at (c .before .before .before .before .before .before .before .read-requests .ensures) } in
-    let runs : RunsRead s (c .before .before .before .before .before .before .before .read-requests .result) (c .before .before .before .before .read-runs .result) = record { before = requests; requests = c .before .before .before .before .before .if1 .left; read = rw (c .before .before .before .before .before .before .before .before .word-at2 .ensures) at (c .before .before .before .before .read-runs .ensures) } in
-    let close : CloseRead s (c .before .before .before .before .before .before .before .read-requests .result) (c .before .before .before .before .read-runs .result) (c .before .close-refusal .result) = record { before = runs; runs = c .before .before .if2 .left; read = c .before .close-refusal .ensures } in
-    rw (c .before .before .before .before .before .before .before .before .before .word-at .ensures, c .before .before .before .before .before .before .before .before .word-at2 .ensures) (counts-answer s _ _ _ close (λ i. omega (arith, c .before .before .before .before .before .before .before .before .before .before .shared-slice-known .given i)) (c .if3 .left))
+returns-4 c =
+    let start = c .before .before .before .before .before .before .before .before .before .before .before in
+    let s = now (start .args .file) in
+    let nodes = c .before .before .before .before .before .before .before .before .before .word-at .ensures in
+    let heads = c .before .before .before .before .before .before .before .before .word-at2 .ensures in
+    let q = c .before .before .before .before .before .before .before .read-requests in
+    let requests : RequestsRead s (q .result) = record { short = start .pre .0; header = start .pre .1; read = rw (nodes, heads) at (q .ensures) } in
+    let r = c .before .before .before .before .read-runs in
+    let runs : RunsRead s (q .result) (r .result) = record { before = requests; requests = c .before .before .before .before .before .if1 .left; read = rw heads at (r .ensures) } in
+    let n = c .before .close-refusal in
+    let close : CloseRead s (q .result) (r .result) (n .result) = record { before = runs; runs = c .before .before .if2 .left; read = n .ensures } in
+    rw (nodes, heads) (counts-answer close (λ i. omega (arith, c .before .before .before .before .before .before .before .before .before .before .shared-slice-known .given i)) (c .if3 .left))
 
 pub check-records-spec : {M : Type 1} → statement M
 check-records-spec =

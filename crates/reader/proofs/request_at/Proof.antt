@@ -1,31 +1,26 @@
+-- `reader::request_at`: request q stands at byte 6 + 8 q.
 use mathlib.Core.Path.{_∙_, sym}
 use native.Mathlib.Omega.{arith}
 use denote.Ref.{now}
-use Rattle.jobfile.specs.Admitted.{Bytes}
-use Rattle.jobfile.proofs.RoundTrip.{admitted-meaning}
-use Rattle.jobfile.proofs.Places.{request-stands}
 use borrow.Author.Needs.{needs}
+use Rattle.jobfile.proofs.Places.{request-stands}
+use Rattle.jobfile.proofs.RoundTrip.{admitted-meaning}
+use Rattle.jobfile.specs.Admitted.{Bytes}
 use Rattle.reader.proofs.request_at.Statement.{statement}
 use Rattle.reader.proofs.request_at.Tie as tie
-use Rattle.reader.proofs.request_at.Reads as reads
-use Rattle.reader.proofs.request_at.Lts as lts
-use Rattle.reader.proofs.records.request_here.Reads as request-here-reads
 
--- src/lib.rt:99:28
 mul-request-here : tie.Need-mul-request-here
 mul-request-here c = search needs
 
--- src/lib.rt:99:24
 add-request-here : tie.Need-add-request-here
 add-request-here c = search needs
 
--- src/lib.rt:99:5
 request-here-requires : tie.Need-request-here-requires
-request-here-requires c κs = let s = now (c .before .args .file) in
+request-here-requires c κs =
+    let s = now (c .before .args .file) in
     let bytes : Bytes s = λ i. omega (arith, c .shared-slice-known .given i) in
     omega (arith, admitted-meaning s bytes (c .before .pre .0) .few-requests)
 
--- src/lib.rt:94:1
 returns : tie.Need-returns
 returns c = λ none.
     let s = now (c .before .before .args .file) in

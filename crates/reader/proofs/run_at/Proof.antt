@@ -1,38 +1,31 @@
+-- `reader::run_at`: a run stands behind the requests and the runs before it.
 use mathlib.Core.Path.{_∙_, sym}
 use native.Mathlib.Omega.{arith}
 use denote.Ref.{now}
-use Rattle.jobfile.specs.Admitted.{Bytes}
-use Rattle.jobfile.proofs.Places.{file-length, file-short, run-stands}
 use borrow.Author.Needs.{needs}
+use Rattle.jobfile.proofs.Places.{file-length, file-short, run-stands}
+use Rattle.jobfile.specs.Admitted.{Bytes}
 use Rattle.reader.proofs.run_at.Statement.{statement}
 use Rattle.reader.proofs.run_at.Tie as tie
-use Rattle.reader.proofs.run_at.Reads as reads
-use Rattle.reader.proofs.run_at.Lts as lts
-use Rattle.reader.proofs.records.run_here.Reads as run-here-reads
 
--- src/lib.rt:109:24
 mul-run-here : tie.Need-mul-run-here
 mul-run-here c = search needs
 
--- src/lib.rt:109:20
 add-run-here : tie.Need-add-run-here
 add-run-here c = search needs
 
--- src/lib.rt:109:50
 mul-run-here-2 : tie.Need-mul-run-here-2
 mul-run-here-2 c = search needs
 
--- src/lib.rt:109:20
 add-run-here-2 : tie.Need-add-run-here-2
 add-run-here-2 c = search needs
 
--- src/lib.rt:109:5
 run-here-requires : tie.Need-run-here-requires
-run-here-requires c κs = let s = now (c .before .args .file) in
+run-here-requires c κs =
+    let s = now (c .before .args .file) in
     let bytes : Bytes s = λ i. omega (arith, c .shared-slice-known .given i) in
     omega (arith, file-length s bytes (c .before .pre .0), file-short s bytes (c .before .pre .0))
 
--- src/lib.rt:103:1
 returns : tie.Need-returns
 returns c = λ none.
     let s = now (c .before .before .args .file) in

@@ -1,21 +1,17 @@
+-- `bytes::byte_at`: a place past the end has the default.
 use mathlib.Core.Path.{sym}
 use denote.Ref.{now}
 use lib.ListN.{List·getD-eq-default}
 use borrow.Author.Needs.{needs}
 use Rattle.reader.proofs.bytes.byte_at.Statement.{statement}
 use Rattle.reader.proofs.bytes.byte_at.Tie as tie
-use Rattle.reader.proofs.bytes.byte_at.Reads as reads
-use Rattle.reader.proofs.bytes.byte_at.Lts as lts
 
--- src/bytes.rt:12:9
 shared-slice-read-result : tie.Need-shared-slice-read-result
 shared-slice-read-result c = search needs
 
--- src/bytes.rt:8:1
 returns : tie.Need-returns
 returns c = search needs
 
--- src/bytes.rt:8:1
 returns-2 : tie.Need-returns-2
 returns-2 c = sym (List·getD-eq-default (now (c .before .args .file)) 0 (c .if1 .left))
 

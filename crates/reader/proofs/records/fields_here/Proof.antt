@@ -1,64 +1,50 @@
+-- `records::fields_here`: each number from its bytes.
 use denote.Ref.{now}
-use Rattle.reader.proofs.Fields.{fields-read}
 use borrow.Author.Needs.{needs}
+use Rattle.reader.proofs.Fields.{fields-read}
 use Rattle.reader.proofs.records.fields_here.Statement.{statement}
 use Rattle.reader.proofs.records.fields_here.Tie as tie
-use Rattle.reader.proofs.records.fields_here.Reads as reads
-use Rattle.reader.proofs.records.fields_here.Lts as lts
-use Rattle.reader.proofs.bytes.byte_at.Reads as byte-at-reads
-use Rattle.reader.proofs.bytes.word_at.Reads as word-at-reads
 
--- src/records.rt:50:30
 add-byte-at : tie.Need-add-byte-at
 add-byte-at c = search needs
 
--- src/records.rt:50:9
 byte-at-requires : tie.Need-byte-at-requires
 byte-at-requires c κs = search needs
 
--- src/records.rt:51:30
 add-byte-at-2 : tie.Need-add-byte-at-2
 add-byte-at-2 c = search needs
 
--- src/records.rt:51:9
 byte-at-requires-2 : tie.Need-byte-at-requires-2
 byte-at-requires-2 c κs = search needs
 
--- src/records.rt:52:27
 add-word-at : tie.Need-add-word-at
 add-word-at c = search needs
 
--- src/records.rt:52:9
 word-at-requires : tie.Need-word-at-requires
 word-at-requires c κs = search needs
 
--- src/records.rt:53:27
 add-word-at-2 : tie.Need-add-word-at-2
 add-word-at-2 c = search needs
 
--- src/records.rt:53:9
 word-at-requires-2 : tie.Need-word-at-requires-2
 word-at-requires-2 c κs = search needs
 
--- src/records.rt:55:15
 cast-t8 : tie.Need-cast-t8
 cast-t8 c = search needs
 
--- src/records.rt:56:15
 cast-t9 : tie.Need-cast-t9
 cast-t9 c = search needs
 
--- src/records.rt:57:12
 cast-t10 : tie.Need-cast-t10
 cast-t10 c = search needs
 
--- src/records.rt:58:12
 cast-t11 : tie.Need-cast-t11
 cast-t11 c = search needs
 
--- src/records.rt:46:1
 returns : tie.Need-returns
-returns c = let a = c .before .before .before .before .before .args in fields-read (now (a .file)) (a .at) _ _ _ _ (c .before .before .before .byte-at .ensures) (c .before .before .byte-at2 .ensures) (c .before .word-at .ensures) (c .word-at2 .ensures)
+returns c =
+    let a = c .before .before .before .before .before .args in
+    fields-read (now (a .file)) (a .at) _ _ _ _ (c .before .before .before .byte-at .ensures) (c .before .before .byte-at2 .ensures) (c .before .word-at .ensures) (c .word-at2 .ensures)
 
 pub fields-here-spec : {M : Type 1} → statement M
 fields-here-spec =

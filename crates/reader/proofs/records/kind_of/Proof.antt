@@ -1,14 +1,11 @@
+-- `records::kind_of` tests for a union.
 use borrow.Author.Tests.{eq-eqb, ne-eqb}
 use Rattle.reader.proofs.records.kind_of.Statement.{statement}
 use Rattle.reader.proofs.records.kind_of.Tie as tie
-use Rattle.reader.proofs.records.kind_of.Reads as reads
-use Rattle.reader.proofs.records.kind_of.Lts as lts
 
--- src/records.rt:18:1
 returns : tie.Need-returns
 returns c = simp (eq-eqb _ _ (c .if1 .taken))
 
--- src/records.rt:18:1
 returns-2 : tie.Need-returns-2
 returns-2 c = simp (ne-eqb _ _ (c .if1 .left))
 

@@ -1,37 +1,28 @@
+-- `records::request_refusal`: one test a line of the definition.
 use lib.ListN.{length-drop}
+use borrow.Author.Needs.{needs}
 use borrow.Author.Tests.{lt-ltb, le-ltb, le-leb, lt-leb}
 use Rattle.jobfile.specs.Meaning.{requestRefusal}
-use borrow.Author.Needs.{needs}
 use Rattle.reader.proofs.records.request_refusal.Statement.{statement}
 use Rattle.reader.proofs.records.request_refusal.Tie as tie
-use Rattle.reader.proofs.records.request_refusal.Reads as reads
-use Rattle.reader.proofs.records.request_refusal.Lts as lts
-use Rattle.jobfile.proofs.fields_refusal.Reads as fields-refusal-reads
-use Rattle.reader.proofs.records.fields_here.Reads as fields-here-reads
 
--- src/records.rt:68:8
 sub-if1 : tie.Need-sub-if1
 sub-if1 c = search needs
 
--- src/records.rt:69:9
 returns : tie.Need-returns
 unfolding requestRefusal
 returns c = simp (length-drop, lt-ltb _ _ (c .if1 .taken))
 
--- src/records.rt:72:9
 returns-2 : tie.Need-returns-2
 unfolding requestRefusal
 returns-2 c = simp (length-drop, le-ltb _ _ (c .before .if1 .left), le-leb _ _ (c .if2 .taken))
 
--- src/records.rt:74:34
 fields-here-requires : tie.Need-fields-here-requires
 fields-here-requires c κs = search needs
 
--- src/records.rt:74:5
 fields-refusal-requires : tie.Need-fields-refusal-requires
 fields-refusal-requires c κs = search needs
 
--- src/records.rt:63:1
 returns-3 : tie.Need-returns-3
 unfolding requestRefusal
 returns-3 c = simp (length-drop, le-ltb _ _ (c .before .before .before .if1 .left), lt-leb _ _ (c .before .before .if2 .left), c .fields-refusal .ensures, c .before .fields-here .ensures)

@@ -1,69 +1,53 @@
+-- `sections::close_refusal`: one test a line of the two definitions.
 use mathlib.Core.Path.{_∙_, sym}
 use lib.ListN.{length-drop}
+use borrow.Author.Needs.{needs}
 use borrow.Author.Tests.{lt-ltb, le-ltb, eq-eqb, ne-eqb}
 use Rattle.jobfile.specs.Meaning.{closeRefusal, balanceRefusal}
-use borrow.Author.Needs.{needs}
 use Rattle.reader.proofs.sections.close_refusal.Statement.{statement}
 use Rattle.reader.proofs.sections.close_refusal.Tie as tie
-use Rattle.reader.proofs.sections.close_refusal.Reads as reads
-use Rattle.reader.proofs.sections.close_refusal.Lts as lts
-use Rattle.reader.proofs.bytes.sum_words.Reads as sum-words-reads
-use Rattle.reader.proofs.bytes.word_at.Reads as word-at-reads
 
--- src/sections.rt:114:18
 mul-at : tie.Need-mul-at
 mul-at c = search needs
 
--- src/sections.rt:114:14
 add-at : tie.Need-add-at
 add-at c = search needs
 
--- src/sections.rt:114:44
 mul-at-2 : tie.Need-mul-at-2
 mul-at-2 c = search needs
 
--- src/sections.rt:114:14
 add-at-2 : tie.Need-add-at-2
 add-at-2 c = search needs
 
--- src/sections.rt:115:16
 sub-left : tie.Need-sub-left
 sub-left c = search needs
 
--- src/sections.rt:117:9
 returns : tie.Need-returns
 unfolding closeRefusal balanceRefusal
 returns c = simp (length-drop, lt-ltb _ _ (c .if1 .taken))
 
--- src/sections.rt:119:8
 word-at-requires : tie.Need-word-at-requires
 word-at-requires c κs = search needs
 
--- src/sections.rt:120:9
 returns-2 : tie.Need-returns-2
 unfolding closeRefusal balanceRefusal
 returns-2 c = simp (length-drop, le-ltb _ _ (c .before .before .if1 .left), ← c .before .word-at .ensures, ne-eqb _ _ (c .if2 .taken))
 
--- src/sections.rt:123:9
 returns-3 : tie.Need-returns-3
 unfolding closeRefusal balanceRefusal
 returns-3 c = simp (length-drop, le-ltb _ _ (c .before .before .before .if1 .left), eq-eqb _ _ (sym (c .before .before .word-at .ensures) ∙ c .before .if2 .left), lt-ltb _ _ (c .if3 .taken))
 
--- src/sections.rt:126:9
 returns-4 : tie.Need-returns-4
 unfolding closeRefusal balanceRefusal
 returns-4 c = simp (length-drop, le-ltb _ _ (c .before .before .before .before .if1 .left), eq-eqb _ _ (sym (c .before .before .before .word-at .ensures) ∙ c .before .before .if2 .left), le-ltb _ _ (c .before .if3 .left), lt-ltb _ _ (c .if4 .taken))
 
--- src/sections.rt:128:8
 sum-words-requires : tie.Need-sum-words-requires
 sum-words-requires c κs = search needs
 
--- src/sections.rt:129:9
 returns-5 : tie.Need-returns-5
 unfolding closeRefusal balanceRefusal
 returns-5 c = simp (length-drop, le-ltb _ _ (c .before .before .before .before .before .before .if1 .left), eq-eqb _ _ (sym (c .before .before .before .before .before .word-at .ensures) ∙ c .before .before .before .before .if2 .left), le-ltb _ _ (c .before .before .before .if3 .left), le-ltb _ _ (c .before .before .if4 .left), ← c .before .sum-words .ensures, ne-eqb _ _ (c .if5 .taken))
 
--- src/sections.rt:109:1
 returns-6 : tie.Need-returns-6
 unfolding closeRefusal balanceRefusal
 returns-6 c = simp (length-drop, le-ltb _ _ (c .before .before .before .before .before .before .if1 .left), eq-eqb _ _ (sym (c .before .before .before .before .before .word-at .ensures) ∙ c .before .before .before .before .if2 .left), le-ltb _ _ (c .before .before .before .if3 .left), le-ltb _ _ (c .before .before .if4 .left), ← c .before .sum-words .ensures, c .if5 .left)

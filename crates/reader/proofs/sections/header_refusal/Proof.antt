@@ -1,54 +1,41 @@
+-- `sections::header_refusal`: one test a line of the definition.
 use mathlib.Core.Path.{_∙_, sym}
+use borrow.Author.Needs.{needs}
 use borrow.Author.Tests.{lt-ltb, le-ltb, eq-eqb, ne-eqb}
 use Rattle.jobfile.specs.Meaning.{headerRefusal}
-use borrow.Author.Needs.{needs}
 use Rattle.reader.proofs.sections.header_refusal.Statement.{statement}
 use Rattle.reader.proofs.sections.header_refusal.Tie as tie
-use Rattle.reader.proofs.sections.header_refusal.Reads as reads
-use Rattle.reader.proofs.sections.header_refusal.Lts as lts
-use Rattle.jobfile.proofs.sizes_refusal.Reads as sizes-refusal-reads
-use Rattle.reader.proofs.bytes.word_at.Reads as word-at-reads
 
--- src/sections.rt:38:9
 returns : tie.Need-returns
 unfolding headerRefusal
 returns c = simp (lt-ltb _ _ (c .if1 .taken))
 
--- src/sections.rt:40:8
 word-at-requires : tie.Need-word-at-requires
 word-at-requires c κs = search needs
 
--- src/sections.rt:41:9
 returns-2 : tie.Need-returns-2
 unfolding headerRefusal
 returns-2 c = simp (le-ltb _ _ (c .before .before .if1 .left), ne-eqb _ _ (c .if2 .taken), ← c .before .word-at .ensures)
 
--- src/sections.rt:44:9
 returns-3 : tie.Need-returns-3
 unfolding headerRefusal
 returns-3 c = simp (le-ltb _ _ (c .before .before .before .if1 .left), eq-eqb _ _ (sym (c .before .before .word-at .ensures) ∙ c .before .if2 .left), lt-ltb _ _ (c .if3 .taken))
 
--- src/sections.rt:46:19
 word-at-requires-2 : tie.Need-word-at-requires-2
 word-at-requires-2 c κs = search needs
 
--- src/sections.rt:46:19
 cast-sizes-refusal : tie.Need-cast-sizes-refusal
 cast-sizes-refusal c = search needs
 
--- src/sections.rt:46:44
 word-at-requires-3 : tie.Need-word-at-requires-3
 word-at-requires-3 c κs = search needs
 
--- src/sections.rt:46:44
 cast-sizes-refusal-2 : tie.Need-cast-sizes-refusal-2
 cast-sizes-refusal-2 c = search needs
 
--- src/sections.rt:46:5
 sizes-refusal-requires : tie.Need-sizes-refusal-requires
 sizes-refusal-requires c κs = search needs
 
--- src/sections.rt:34:1
 returns-4 : tie.Need-returns-4
 unfolding headerRefusal
 returns-4 c = simp (le-ltb _ _ (c .before .before .before .before .before .before .if1 .left), eq-eqb _ _ (sym (c .before .before .before .before .before .word-at .ensures) ∙ c .before .before .before .before .if2 .left), le-ltb _ _ (c .before .before .before .if3 .left), c .sizes-refusal .ensures, c .before .before .word-at2 .ensures, c .before .word-at3 .ensures)

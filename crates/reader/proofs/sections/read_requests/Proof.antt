@@ -1,15 +1,12 @@
-use mathlib.Core.Path.{_∙_, sym}
-use borrow.Author.Needs.{needs}
-use native.Mathlib.Omega.{arith}
+-- `sections::read_requests`: the requests that are left give what all of them give.
+use mathlib.Core.Path.{_∙_}
 use Prim.Native.Nat.{_+_, _-_}
+use native.Mathlib.Omega.{arith}
 use lib.ListN.{length}
+use borrow.Author.Needs.{needs}
 use Rattle.reader.proofs.Loops.{RequestsTo, requests-start, requests-next, requests-refused, requests-end}
 use Rattle.reader.proofs.sections.read_requests.Statement.{statement}
 use Rattle.reader.proofs.sections.read_requests.Tie as tie
-use Rattle.reader.proofs.sections.read_requests.Reads as reads
-use Rattle.reader.proofs.sections.read_requests.Lts as lts
-use Rattle.reader.proofs.bytes.word_at.Reads as word-at-reads
-use Rattle.reader.proofs.records.request_refusal.Reads as request-refusal-reads
 
 abbrev Inv-loop : tie.InvT-loop
 Inv-loop file nodes heads at₀ count₀ at count = RequestsTo file nodes heads at count
@@ -17,41 +14,32 @@ Inv-loop file nodes heads at₀ count₀ at count = RequestsTo file nodes heads 
 abbrev μ-loop : tie.MeasureT-loop
 μ-loop file nodes heads at₀ count₀ at count = length file + 8 - at
 
--- src/sections.rt:57:5
 loop-holds : tie.Need-loop-holds Inv-loop μ-loop
-loop-holds c = requests-start (c .before .args .file .now) (c .before .args .nodes) (c .before .args .heads) (c .before .pre .0)
+loop-holds c = requests-start _ _ _ (c .before .pre .0)
 
--- src/sections.rt:57:11
 word-at-requires : tie.Need-word-at-requires Inv-loop μ-loop
 word-at-requires c κs = omega arith
 
--- src/sections.rt:58:13
 request-refusal-requires : tie.Need-request-refusal-requires Inv-loop μ-loop
 request-refusal-requires c κs = search needs
 
--- src/sections.rt:60:13
 returns : tie.Need-returns Inv-loop μ-loop
-returns c = requests-refused (c .before .before .before .before .before .before .args .file .now) (c .before .before .before .before .before .before .args .nodes) (c .before .before .before .before .before .before .args .heads) (c .before .before .before .before .loop .at) (c .before .before .before .before .loop .count) (c .before .before .before .before .loop .inv) _ (sym (c .before .before .before .word-at .ensures) ∙ c .before .before .if1 .taken) (c .before .request-refusal .ensures) (c .if2 .taken)
+returns c = requests-refused (c .before .before .before .before .loop .inv) _ (cc) (c .before .request-refusal .ensures) (c .if2 .taken)
 
--- src/sections.rt:65:9
 add-at : tie.Need-add-at Inv-loop μ-loop
 add-at c = omega arith
 
--- src/sections.rt:66:9
 add-count : tie.Need-add-count Inv-loop μ-loop
 add-count c = omega arith
 
--- src/sections.rt:57:5
 loop-less : tie.Need-loop-less Inv-loop μ-loop
 loop-less c = omega arith
 
--- src/sections.rt:57:5
 loop-again : tie.Need-loop-again Inv-loop μ-loop
-loop-again c = requests-next (c .before .before .before .before .before .before .args .file .now) (c .before .before .before .before .before .before .args .nodes) (c .before .before .before .before .before .before .args .heads) (c .before .before .before .before .loop .at) (c .before .before .before .before .loop .count) (c .before .before .before .before .loop .inv) (sym (c .before .before .before .word-at .ensures) ∙ c .before .before .if1 .taken) (sym (c .before .request-refusal .ensures) ∙ c .if2 .left)
+loop-again c = requests-next (c .before .before .before .before .loop .inv) (cc) (cc)
 
--- src/sections.rt:50:1
 returns-2 : tie.Need-returns-2 Inv-loop μ-loop
-returns-2 c = requests-end (c .before .before .before .before .args .file .now) (c .before .before .before .before .args .nodes) (c .before .before .before .before .args .heads) (c .before .before .loop .at) (c .before .before .loop .count) (c .before .before .loop .inv) (λ e. c .if1 .left (c .before .word-at .ensures ∙ e))
+returns-2 c = requests-end (c .before .before .loop .inv) (λ e. c .if1 .left (c .before .word-at .ensures ∙ e))
 
 pub read-requests-spec : {M : Type 1} → statement M
 read-requests-spec =

@@ -1,16 +1,12 @@
-use mathlib.Core.Path.{_∙_, sym}
-use borrow.Author.Needs.{needs}
-use native.Mathlib.Omega.{arith}
+-- `sections::read_runs`: the runs that are left give what all of them give.
+use mathlib.Core.Path.{_∙_}
 use Prim.Native.Nat.{_+_, _*_, _-_}
+use native.Mathlib.Omega.{arith}
 use lib.ListN.{length}
+use borrow.Author.Needs.{needs}
 use Rattle.reader.proofs.Loops.{RunsTo, runs-start, runs-next, runs-refused, runs-end}
 use Rattle.reader.proofs.sections.read_runs.Statement.{statement}
 use Rattle.reader.proofs.sections.read_runs.Tie as tie
-use Rattle.reader.proofs.sections.read_runs.Reads as reads
-use Rattle.reader.proofs.sections.read_runs.Lts as lts
-use Rattle.reader.proofs.bytes.word_at.Reads as word-at-reads
-use Rattle.reader.proofs.records.run_here.Reads as run-here-reads
-use Rattle.reader.proofs.records.run_refusal.Reads as run-refusal-reads
 
 abbrev Inv-loop : tie.InvT-loop
 Inv-loop file heads requests at₀ before₀ count₀ grants₀ at before count grants = RunsTo file heads (6 + 8 * requests) at before count grants
@@ -18,61 +14,47 @@ Inv-loop file heads requests at₀ before₀ count₀ grants₀ at before count 
 abbrev μ-loop : tie.MeasureT-loop
 μ-loop file heads requests at₀ before₀ count₀ grants₀ at before count grants = length file + 4 - at
 
--- src/sections.rt:80:29
 mul-at : tie.Need-mul-at Inv-loop μ-loop
 mul-at c = omega arith
 
--- src/sections.rt:80:25
 add-at : tie.Need-add-at Inv-loop μ-loop
 add-at c = omega arith
 
--- src/sections.rt:87:5
 loop-holds : tie.Need-loop-holds Inv-loop μ-loop
-loop-holds c = runs-start (c .before .args .file .now) (c .before .args .heads) (6 + 8 * c .before .args .requests) (c .before .pre .0)
+loop-holds c = runs-start _ _ _ (c .before .pre .0)
 
--- src/sections.rt:87:11
 word-at-requires : tie.Need-word-at-requires Inv-loop μ-loop
 word-at-requires c κs = omega arith
 
--- src/sections.rt:88:13
 run-refusal-requires : tie.Need-run-refusal-requires Inv-loop μ-loop
 run-refusal-requires c κs = search needs
 
--- src/sections.rt:90:13
 returns : tie.Need-returns Inv-loop μ-loop
-returns c = runs-refused (c .before .before .before .before .before .before .args .file .now) (c .before .before .before .before .before .before .args .heads) (6 + 8 * c .before .before .before .before .before .before .args .requests) (c .before .before .before .before .loop .at) (c .before .before .before .before .loop .before) (c .before .before .before .before .loop .count) (c .before .before .before .before .loop .grants) (c .before .before .before .before .loop .inv) _ (sym (c .before .before .before .word-at .ensures) ∙ c .before .before .if1 .taken) (c .before .run-refusal .ensures) (c .if2 .taken)
+returns c = runs-refused (c .before .before .before .before .loop .inv) _ (cc) (c .before .run-refusal .ensures) (c .if2 .taken)
 
--- src/sections.rt:96:9
 run-here-requires : tie.Need-run-here-requires Inv-loop μ-loop
 run-here-requires c κs = omega arith
 
--- src/sections.rt:97:9
 add-at-2 : tie.Need-add-at-2 Inv-loop μ-loop
 add-at-2 c = omega arith
 
--- src/sections.rt:98:9
 add-count : tie.Need-add-count Inv-loop μ-loop
 add-count c = omega arith
 
--- src/sections.rt:99:19
 cast-grants : tie.Need-cast-grants Inv-loop μ-loop
 cast-grants c = search needs
 
--- src/sections.rt:99:9
 add-grants : tie.Need-add-grants Inv-loop μ-loop
 add-grants c = omega arith
 
--- src/sections.rt:87:5
 loop-less : tie.Need-loop-less Inv-loop μ-loop
 loop-less c = omega arith
 
--- src/sections.rt:87:5
 loop-again : tie.Need-loop-again Inv-loop μ-loop
-loop-again c = runs-next (c .before .before .before .before .before .before .before .before .args .file .now) (c .before .before .before .before .before .before .before .before .args .heads) (6 + 8 * c .before .before .before .before .before .before .before .before .args .requests) (c .before .before .before .before .before .before .loop .at) (c .before .before .before .before .before .before .loop .before) (c .before .before .before .before .before .before .loop .count) (c .before .before .before .before .before .before .loop .grants) (c .before .before .before .before .before .before .loop .inv) (c .before .run-here .result) (sym (c .before .before .before .before .before .word-at .ensures) ∙ c .before .before .before .before .if1 .taken) (sym (c .before .before .before .run-refusal .ensures) ∙ c .before .before .if2 .left) (c .before .run-here .ensures) (omega arith)
+loop-again c = runs-next (c .before .before .before .before .before .before .loop .inv) _ (cc) (cc) (c .before .run-here .ensures) (omega arith)
 
--- src/sections.rt:75:1
 returns-2 : tie.Need-returns-2 Inv-loop μ-loop
-returns-2 c = runs-end (c .before .before .before .before .args .file .now) (c .before .before .before .before .args .heads) (6 + 8 * c .before .before .before .before .args .requests) (c .before .before .loop .at) (c .before .before .loop .before) (c .before .before .loop .count) (c .before .before .loop .grants) (c .before .before .loop .inv) (λ e. c .if1 .left (c .before .word-at .ensures ∙ e))
+returns-2 c = runs-end (c .before .before .loop .inv) (λ e. c .if1 .left (c .before .word-at .ensures ∙ e))
 
 pub read-runs-spec : {M : Type 1} → statement M
 read-runs-spec =

@@ -1,0 +1,5 @@
+-- The laws of texts and of writing them.
+pub mod Text
+pub mod Writing
+pub mod Listing
+pub mod Cases

@@ -1,0 +1,80 @@
+-- `lines::put_fields`: the numbers before i are written, a space before each.
+use Prim.Native.Nat.{_-_}
+use native.Mathlib.Omega.{arith}
+use lib.ListN.{length, take}
+use lib.Seq.{take-length}
+use borrow.Author.Needs.{needs}
+use denote.Ref.{now}
+use Rattle.listing.specs.Text.{fields}
+use Rattle.listing.proofs.Text.{fields-next}
+use Rattle.listing.proofs.Writing.{Through, wrote-nothing, wrote-append, wrote-length, through-next, through-end, fields-room}
+use Rattle.listing.proofs.lines.put_fields.Statement.{statement}
+use Rattle.listing.proofs.lines.put_fields.Tie as tie
+
+abbrev Inv-loop : tie.InvT-loop
+Inv-loop out₀ at numbers next₀ i₀ out next i = Through (λ k. fields (take k numbers)) (length numbers) i at out₀ out next
+
+abbrev μ-loop : tie.MeasureT-loop
+μ-loop out₀ at numbers next₀ i₀ out next i = length numbers - i
+
+loop-holds : tie.Need-loop-holds Inv-loop μ-loop
+unfolding fields
+loop-holds c =
+    record {
+      within = omega arith;
+      wrote = wrote-nothing (c .before .before .args .at) (now (c .before .before .args .out));
+    }
+
+put-byte-requires : tie.Need-put-byte-requires Inv-loop μ-loop
+put-byte-requires c κs =
+    let l = c .before .before .loop in
+    omega (arith, fields-room (now (c .before .before .before .before .before .args .numbers)) (l .i) (l .inv) (omega arith) (c .before .before .before .before .before .pre))
+
+mul-put-decimal : tie.Need-mul-put-decimal Inv-loop μ-loop
+mul-put-decimal c = search needs
+
+shared-slice-read-put-decimal : tie.Need-shared-slice-read-put-decimal Inv-loop μ-loop
+shared-slice-read-put-decimal c = search needs
+
+put-decimal-requires : tie.Need-put-decimal-requires Inv-loop μ-loop
+put-decimal-requires c κs =
+    let l = c .before .before .before .before .before .before .before .loop in
+    omega (arith, fields-room (now (c .before .before .before .before .before .before .before .before .before .before .args .numbers)) (l .i) (l .inv) (omega arith) (c .before .before .before .before .before .before .before .before .before .before .pre))
+
+add-i : tie.Need-add-i Inv-loop μ-loop
+add-i c = search needs
+
+loop-less : tie.Need-loop-less Inv-loop μ-loop
+loop-less c = search needs
+
+loop-again : tie.Need-loop-again Inv-loop μ-loop
+loop-again c =
+    let l = c .before .before .before .before .before .before .before .before .before .before .loop in
+    let numbers = now (c .before .before .before .before .before .before .before .before .before .before .before .before .before .args .numbers) in
+    through-next (l .inv) (omega arith) (fields-next numbers (l .i) (omega arith))
+    (wrote-append (c .before .before .before .before .before .before .before .put-byte .ensures) (c .before .before .put-decimal .ensures))
+
+same-length : tie.Need-same-length Inv-loop μ-loop
+same-length c = wrote-length (c .before .loop .inv .wrote)
+
+returns : tie.Need-returns Inv-loop μ-loop
+returns c =
+    let numbers = now (c .before .before .before .before .args .numbers) in
+    rw (take-length numbers) at (through-end (c .before .loop .inv) (c .loop-test .left))
+
+pub put-fields-spec : {M : Type 1} → statement M
+put-fields-spec =
+    tie.close
+    (tie.spec
+    Inv-loop
+    μ-loop
+    loop-holds
+    put-byte-requires
+    mul-put-decimal
+    shared-slice-read-put-decimal
+    put-decimal-requires
+    add-i
+    loop-less
+    loop-again
+    same-length
+    returns)

@@ -1,0 +1,59 @@
+-- `listing::list`: a buffer of numbers is too short, or `out` is, or the text is written.
+use mathlib.Core.Path.{refl}
+use native.Mathlib.Omega.{arith}
+use borrow.Author.Tests.{lt-ltb, le-ltb}
+use denote.Ref.{now}
+use Rattle.listing.specs.Listing.{listed, printed}
+use Rattle.listing.proofs.Listing.{enough}
+use Rattle.listing.proofs.Writing.{wrote-whole}
+use borrow.Author.Needs.{needs}
+use Rattle.listing.proofs.list.Statement.{statement}
+use Rattle.listing.proofs.list.Tie as tie
+
+any-short-requires : tie.Need-any-short-requires
+any-short-requires c κs = search needs
+
+returns : tie.Need-returns
+unfolding listed printed
+returns c = simp (← c .before .any-short .ensures, c .if1 .taken) (refl, refl)
+
+listing-length-requires : tie.Need-listing-length-requires
+listing-length-requires c κs =
+    let a = c .before .before .before .before .before .before .args in
+    enough (a .played) (now (a .table)) (now (a .report)) (now (a .linearization))
+    (c .before .any-short .ensures) (c .if1 .left)
+
+returns-2 : tie.Need-returns-2
+unfolding listed printed
+returns-2 c =
+    simp (← c .before .before .before .any-short .ensures, c .before .before .if1 .left, ← c .before .listing-length .ensures, lt-ltb _ _ (c .if2 .taken))
+    (refl, refl)
+
+put-listing-requires : tie.Need-put-listing-requires
+put-listing-requires c κs =
+    let a = c .before .before .before .before .before .before .before .before .before .args in
+    enough (a .played) (now (a .table)) (now (a .report)) (now (a .linearization))
+    (c .before .before .before .before .any-short .ensures) (c .before .before .before .if1 .left)
+
+same-length : tie.Need-same-length
+same-length c = search needs
+
+returns-3 : tie.Need-returns-3
+unfolding listed printed
+returns-3 c =
+    let short = c .before .before .before .before .before .before .before .any-short .ensures in
+    let size = c .before .before .before .before .before .listing-length .ensures in
+    simp (← short, c .before .before .before .before .before .before .if1 .left, ← size, le-ltb _ _ (c .before .before .before .before .if2 .left))
+    (refl, rw size (wrote-whole (c .before .before .put-listing .ensures) (omega arith)))
+
+pub list-spec : {M : Type 1} → statement M
+list-spec =
+    tie.close
+    (tie.spec
+    any-short-requires
+    returns
+    listing-length-requires
+    returns-2
+    put-listing-requires
+    same-length
+    returns-3)

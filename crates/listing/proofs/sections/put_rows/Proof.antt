@@ -1,0 +1,69 @@
+-- `sections::put_rows`: the lines before i are written.
+use Prim.Native.Nat.{_+_, _-_}
+use native.Mathlib.Nat.{le-trans, mul-le-mul-left}
+use native.Mathlib.Omega.{arith}
+use borrow.Author.Needs.{needs}
+use denote.Ref.{now}
+use Rattle.listing.specs.Text.{each}
+use Rattle.listing.specs.Listing.{row, rowSize}
+use Rattle.listing.proofs.Text.{each-next, each-within}
+use Rattle.listing.proofs.Writing.{Through, wrote-nothing, wrote-length, through-next, through-room, through-end}
+use Rattle.listing.proofs.sections.put_rows.Statement.{statement}
+use Rattle.listing.proofs.sections.put_rows.Tie as tie
+
+abbrev Inv-loop : tie.InvT-loop
+Inv-loop section buffer count out₀ at next₀ i₀ out next i = Through (each (row section buffer)) count i at out₀ out next
+
+abbrev μ-loop : tie.MeasureT-loop
+μ-loop section buffer count out₀ at next₀ i₀ out next i = count - i
+
+loop-holds : tie.Need-loop-holds Inv-loop μ-loop
+unfolding each
+loop-holds c =
+    record {
+      within = omega arith;
+      wrote = wrote-nothing (c .before .before .args .at) (now (c .before .before .args .out));
+    }
+
+put-row-requires : tie.Need-put-row-requires Inv-loop μ-loop
+put-row-requires c κs =
+    let a = c .before .before .before .before .before .args in
+    let l = c .before .before .loop in
+    let line = row (a .section) (now (a .buffer)) in
+    let within = each-within line (l .i + 1) (a .count) (omega arith) in (
+      le-trans (mul-le-mul-left (rowSize (a .section)) (omega arith)) (c .before .before .before .before .before .pre .0),
+      through-room (l .inv) (line (l .i)) (each line (a .count)) (each-next line (l .i)) within (c .before .before .before .before .before .pre .1),
+    )
+
+add-i : tie.Need-add-i Inv-loop μ-loop
+add-i c = search needs
+
+loop-less : tie.Need-loop-less Inv-loop μ-loop
+loop-less c = search needs
+
+loop-again : tie.Need-loop-again Inv-loop μ-loop
+loop-again c =
+    let a = c .before .before .before .before .before .before .before .before .args in
+    let l = c .before .before .before .before .before .loop in
+    let line = row (a .section) (now (a .buffer)) in
+    through-next (l .inv) (omega arith) (each-next line (l .i)) (c .before .before .put-row .ensures)
+
+same-length : tie.Need-same-length Inv-loop μ-loop
+same-length c = wrote-length (c .before .loop .inv .wrote)
+
+returns : tie.Need-returns Inv-loop μ-loop
+returns c = through-end (c .before .loop .inv) (c .loop-test .left)
+
+pub put-rows-spec : {M : Type 1} → statement M
+put-rows-spec =
+    tie.close
+    (tie.spec
+    Inv-loop
+    μ-loop
+    loop-holds
+    put-row-requires
+    add-i
+    loop-less
+    loop-again
+    same-length
+    returns)

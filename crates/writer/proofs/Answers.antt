@@ -1,0 +1,108 @@
+-- The writer's answer, test by test, and what it says that nothing is refused.
+--
+--   numbersRefusal d    the refusal of the numbers of a draft, before the length of its file
+--   length-file         the length of a draft's file
+--   answer-numbers, answer-length, answer-buffer, answer-written   the four ways that a check ends
+--   Ready d room        what is known of a draft that is not refused
+use mathlib.Core.Path.{_≡_, _∙_, sym}
+use Prim.Native.Nat.{ℕ, _+_, _*_, _-_, _/_, _≤_, _<_}
+use native.Mathlib.Omega.{arith}
+use lib.Dec.{eqb, ltb}
+use lib.ListN.{length, length-map}
+use borrow.Author.Tests.{ne-eqb, lt-ltb, le-ltb, ltb-false}
+use Rattle.jobfile.specs.Format.{mostBytes, mostNodes, mostHeads, mostRequests, _then_, sizesRefusal, lengthRefusal}
+use Rattle.jobfile.specs.Written.{longestRuns, written}
+use Rattle.jobfile.specs.Draft.{Draft, fieldsOf, jobOf, countRefusal, eachRefusal, grantsRefusal, draftRefusal}
+use Rattle.jobfile.proofs.Tests.{split, passed, through, sized}
+use Rattle.jobfile.proofs.Places.{length-written}
+use Rattle.writer.specs.Write.{bufferRefusal, writeRefusal, refused, answer}
+use Rattle.writer.proofs.Requests.{fields-count, each-fits}
+
+abbrev pub numbersRefusal : Draft → ℕ
+numbersRefusal d =
+    sizesRefusal (d .nodes) (d .heads)
+    then countRefusal (length (fieldsOf (d .requests)))
+    then eachRefusal (d .nodes) (d .heads) (fieldsOf (d .requests))
+    then grantsRefusal (d .heads) (d .schedule)
+
+then-then : (a b c : ℕ) → ((a then b) then c) ≡ (a then (b then c))
+then-then a b c = split (eqb a 0) (λ e. rw e) (λ e. rw (e, e))
+
+pub length-file : (d : Draft) → length (written (jobOf d)) ≡ 10 + 8 * (length (d .requests) / 4) + 4 * length (longestRuns (d .schedule))
+unfolding jobOf
+length-file d = length-written (jobOf d) ∙ simp (length-map, fields-count)
+
+module _ (d : Draft) (room : ℕ) where
+  in-order : writeRefusal d room ≡ (numbersRefusal d then lengthRefusal (written (jobOf d)) then bufferRefusal (written (jobOf d)) room)
+  unfolding writeRefusal draftRefusal
+  in-order = simp then-then
+
+  refuses : (n : ℕ) → n ≡ writeRefusal d room → (n ≡ 0 → ⊥) → refused n ≡ answer d room
+  unfolding answer
+  refuses n is some = rw (← is, ne-eqb n 0 some)
+
+  pub answer-numbers : (n : ℕ) → n ≡ numbersRefusal d → (n ≡ 0 → ⊥) → refused n ≡ answer d room
+  answer-numbers n is some = refuses n (rw (in-order, ← is, ne-eqb n 0 some)) some
+
+-- What is asked once the numbers are not refused: the file's length, which is known from the counts, and the buffer.
+module _ (d : Draft) (n : ℕ) (is : n ≡ numbersRefusal d) (none : n ≡ 0) where
+  passes : numbersRefusal d ≡ 0
+  passes = sym is ∙ none
+
+  pub few-requests : length (d .requests) / 4 ≤ mostRequests
+  unfolding countRefusal
+  few-requests =
+      let count = length (fieldsOf (d .requests)) in
+      let few = through (countRefusal count) _ (through (sizesRefusal (d .nodes) (d .heads)) _ passes .second) .first in
+      rw fields-count at (ltb-false mostRequests count (passed (ltb mostRequests count) 8 0 few .test))
+
+  module _ (room runs : ℕ) (counted : runs ≡ length (longestRuns (d .schedule))) where
+    long : (32758 - 8 * (length (d .requests) / 4)) / 4 < runs → mostBytes < length (written (jobOf d))
+    long many = omega (arith, few-requests, length-file d)
+
+    short : runs ≤ (32758 - 8 * (length (d .requests) / 4)) / 4 → length (written (jobOf d)) ≤ mostBytes
+    short few = omega (arith, few-requests, length-file d)
+
+    pub answer-length : (32758 - 8 * (length (d .requests) / 4)) / 4 < runs → refused 1 ≡ answer d room
+    unfolding lengthRefusal
+    answer-length many =
+        refuses d room 1 (rw (in-order d room, passes, lt-ltb mostBytes (length (written (jobOf d))) (long many))) (λ e. omega arith)
+
+    module _ (few : runs ≤ (32758 - 8 * (length (d .requests) / 4)) / 4) where
+      rest : writeRefusal d room ≡ bufferRefusal (written (jobOf d)) room
+      unfolding lengthRefusal
+      rest = rw (in-order d room, passes, le-ltb mostBytes (length (written (jobOf d))) (short few))
+
+      pub answer-buffer : room < 10 + 8 * (length (d .requests) / 4) + 4 * runs → refused 14 ≡ answer d room
+      unfolding bufferRefusal
+      answer-buffer small =
+          refuses d room 14 (rw (rest, lt-ltb room (length (written (jobOf d))) (omega (arith, length-file d)))) (λ e. omega arith)
+
+      pub answer-written : (bytes : ℕ) → bytes ≡ 10 + 8 * (length (d .requests) / 4) + 4 * runs → bytes ≤ room → record { number = 0; bytes = bytes } ≡ answer d room
+      unfolding answer bufferRefusal
+      answer-written bytes is fits =
+          let file : bytes ≡ length (written (jobOf d)) = omega (arith, length-file d) in
+          rw (rest, ← file, le-ltb room bytes fits)
+
+pub record Ready (d : Draft) (room : ℕ) : Type 0 where
+  pub few-nodes : d .nodes ≤ mostNodes
+  pub few-heads : d .heads ≤ mostHeads
+  -- every request fits the largest job
+  pub fits : eachRefusal mostNodes mostHeads (fieldsOf (d .requests)) ≡ 0
+  -- and the file fits the buffer
+  pub enough : length (written (jobOf d)) ≤ room
+
+pub ready : (d : Draft) (room : ℕ) → writeRefusal d room ≡ 0 → Ready d room
+unfolding writeRefusal draftRefusal bufferRefusal
+ready d room passes =
+    let a = through (draftRefusal d) _ passes in
+    let b = through (sizesRefusal (d .nodes) (d .heads)) _ (a .first) in
+    let e = through (countRefusal (length (fieldsOf (d .requests)))) _ (b .second) in
+    let each = through (eachRefusal (d .nodes) (d .heads) (fieldsOf (d .requests))) _ (e .second) .first in
+    let size = sized (d .nodes) (d .heads) (b .first) in
+    record {
+      few-nodes = size .few-nodes;
+      few-heads = size .few-heads;
+      fits = each-fits (d .nodes) (d .heads) (fieldsOf (d .requests)) size each;
+      enough = ltb-false room (length (written (jobOf d))) (passed (ltb room (length (written (jobOf d)))) 13 0 (a .second) .test);
+    }

@@ -1,0 +1,7 @@
+-- The laws of the writer: what it is given, the runs that it makes, and the bytes that it stores.
+mod Requests
+mod Grants
+mod Stores
+mod Sum
+mod Answers
+pub mod File

@@ -1,0 +1,61 @@
+-- `checks::grants_refusal` passes the grants that are for a head of the job, and stops at the first that is not.
+use mathlib.Core.Path.{refl}
+use Prim.Native.Nat.{_-_}
+use native.Mathlib.Omega.{arith}
+use denote.Ref.{now}
+use lib.ListN.{length}
+use borrow.Author.Needs.{needs}
+use Rattle.writer.proofs.Grants.{Serving, serving-stops, serving-on, serving-all}
+use Rattle.writer.proofs.checks.grants_refusal.Statement.{statement}
+use Rattle.writer.proofs.checks.grants_refusal.Tie as tie
+
+abbrev Inv-loop : tie.InvT-loop
+Inv-loop heads grants i₀ i = Serving heads grants i
+
+abbrev μ-loop : tie.MeasureT-loop
+μ-loop heads grants i₀ i = length grants - i
+
+loop-holds : tie.Need-loop-holds Inv-loop μ-loop
+loop-holds c = record { within = omega arith; same = refl }
+
+shared-slice-read-wide : tie.Need-shared-slice-read-wide Inv-loop μ-loop
+shared-slice-read-wide c = search needs
+
+wide-requires : tie.Need-wide-requires Inv-loop μ-loop
+wide-requires c κs = search needs
+
+returns : tie.Need-returns Inv-loop μ-loop
+returns c =
+    let a = c .before .before .before .before .before .before .args in
+    serving-stops (a .heads) (now (a .grants)) (c .before .before .before .before .loop .i) (c .before .before .before .before .loop .inv) (omega arith) (omega arith)
+
+add-i : tie.Need-add-i Inv-loop μ-loop
+add-i c = search needs
+
+loop-less : tie.Need-loop-less Inv-loop μ-loop
+loop-less c = search needs
+
+loop-again : tie.Need-loop-again Inv-loop μ-loop
+loop-again c =
+    let a = c .before .before .before .before .before .before .args in
+    serving-on (a .heads) (now (a .grants)) (c .before .before .before .before .loop .i) (c .before .before .before .before .loop .inv) (omega arith) (omega arith)
+
+returns-2 : tie.Need-returns-2 Inv-loop μ-loop
+returns-2 c =
+    let a = c .before .before .before .args in
+    serving-all (a .heads) (now (a .grants)) (c .before .loop .i) (c .before .loop .inv) (omega arith)
+
+pub grants-refusal-spec : {M : Type 1} → statement M
+grants-refusal-spec =
+    tie.close
+    (tie.spec
+    Inv-loop
+    μ-loop
+    loop-holds
+    shared-slice-read-wide
+    wide-requires
+    returns
+    add-i
+    loop-less
+    loop-again
+    returns-2)

@@ -1,0 +1,65 @@
+-- `checks::requests_refusal` passes the requests that are not refused, and stops at the first that is.
+use mathlib.Core.Path.{refl}
+use Prim.Native.Nat.{_-_}
+use native.Mathlib.Omega.{arith}
+use denote.Ref.{now}
+use lib.ListN.{length}
+use borrow.Author.Needs.{needs}
+use Rattle.writer.proofs.Requests.{Passing, passing-stops, passing-on, passing-all}
+use Rattle.writer.proofs.checks.requests_refusal.Statement.{statement}
+use Rattle.writer.proofs.checks.requests_refusal.Tie as tie
+
+abbrev Inv-loop : tie.InvT-loop
+Inv-loop nodes heads requests at₀ at = Passing nodes heads requests at
+
+abbrev μ-loop : tie.MeasureT-loop
+μ-loop nodes heads requests at₀ at = length requests - at
+
+loop-holds : tie.Need-loop-holds Inv-loop μ-loop
+loop-holds c = record { within = omega arith; same = refl }
+
+sub-loop : tie.Need-sub-loop Inv-loop μ-loop
+sub-loop c = search needs
+
+fields-at-requires : tie.Need-fields-at-requires Inv-loop μ-loop
+fields-at-requires c κs = search needs
+
+fields-refusal-requires : tie.Need-fields-refusal-requires Inv-loop μ-loop
+fields-refusal-requires c κs = search needs
+
+returns : tie.Need-returns Inv-loop μ-loop
+returns c =
+    let a = c .before .before .before .before .before .before .args in
+    passing-stops (a .nodes) (a .heads) (now (a .requests)) (c .before .before .before .before .loop .at) (c .before .before .before .before .loop .inv) (c .before .fields-refusal .result) (omega arith) (cc) (c .if1 .taken)
+
+add-at : tie.Need-add-at Inv-loop μ-loop
+add-at c = search needs
+
+loop-less : tie.Need-loop-less Inv-loop μ-loop
+loop-less c = search needs
+
+loop-again : tie.Need-loop-again Inv-loop μ-loop
+loop-again c =
+    let a = c .before .before .before .before .before .before .args in
+    passing-on (a .nodes) (a .heads) (now (a .requests)) (c .before .before .before .before .loop .at) (c .before .before .before .before .loop .inv) (c .before .fields-refusal .result) (omega arith) (cc) (omega arith)
+
+returns-2 : tie.Need-returns-2 Inv-loop μ-loop
+returns-2 c =
+    let a = c .before .before .before .args in
+    passing-all (a .nodes) (a .heads) (now (a .requests)) (c .before .loop .at) (c .before .loop .inv) (omega arith)
+
+pub requests-refusal-spec : {M : Type 1} → statement M
+requests-refusal-spec =
+    tie.close
+    (tie.spec
+    Inv-loop
+    μ-loop
+    loop-holds
+    sub-loop
+    fields-at-requires
+    fields-refusal-requires
+    returns
+    add-at
+    loop-less
+    loop-again
+    returns-2)

@@ -1,0 +1,80 @@
+-- `checks::run_at`: the run takes in grants as long as they extend it.
+use mathlib.Core.Path.{_∙_, sym}
+use Prim.Native.Nat.{_-_}
+use native.Mathlib.Omega.{arith}
+use denote.Ref.{now}
+use lib.ListN.{length}
+use borrow.Author.Needs.{needs}
+use borrow.Author.Tests.{not-true, not-false}
+use Rattle.writer.proofs.Grants.{extends-under, Growing, growing-first, growing-on, growing-stops, growing-ends}
+use Rattle.writer.proofs.checks.run_at.Statement.{statement}
+use Rattle.writer.proofs.checks.run_at.Tie as tie
+
+abbrev Inv-loop : tie.InvT-loop
+Inv-loop grants at run₀ i₀ run i = Growing grants at i run
+
+abbrev μ-loop : tie.MeasureT-loop
+μ-loop grants at run₀ i₀ run i = length grants - i
+
+shared-slice-read-t6 : tie.Need-shared-slice-read-t6 Inv-loop μ-loop
+shared-slice-read-t6 c = search needs
+
+add-i : tie.Need-add-i Inv-loop μ-loop
+add-i c = search needs
+
+loop-holds : tie.Need-loop-holds Inv-loop μ-loop
+loop-holds c = let a = c .before .before .args in growing-first (now (a .grants)) (a .at) (c .before .before .pre)
+
+shared-slice-read-does-extend : tie.Need-shared-slice-read-does-extend Inv-loop μ-loop
+shared-slice-read-does-extend c = search needs
+
+does-extend-requires : tie.Need-does-extend-requires Inv-loop μ-loop
+does-extend-requires c κs = search needs
+
+returns : tie.Need-returns Inv-loop μ-loop
+returns c =
+    let a = c .before .before .before .before .before .before .before .args in
+    let l = c .before .before .before .before .loop in
+    let extends = c .before .does-extend in
+    growing-stops (now (a .grants)) (a .at) (l .i) (l .run) (l .inv) (omega arith) (sym (extends .ensures) ∙ not-true (extends .result) (c .if1 .taken))
+
+add-run : tie.Need-add-run Inv-loop μ-loop
+add-run c =
+    let extends = c .before .before .does-extend in
+    omega (arith, extends-under (c .before .before .before .before .before .loop .run) _ (sym (extends .ensures) ∙ not-false (extends .result) (c .before .if1 .left)))
+
+add-i-2 : tie.Need-add-i-2 Inv-loop μ-loop
+add-i-2 c = search needs
+
+loop-less : tie.Need-loop-less Inv-loop μ-loop
+loop-less c = search needs
+
+loop-again : tie.Need-loop-again Inv-loop μ-loop
+loop-again c =
+    let a = c .before .before .before .before .before .before .before .before .args in
+    let l = c .before .before .before .before .before .loop in
+    let extends = c .before .before .does-extend in
+    growing-on (now (a .grants)) (a .at) (l .i) (l .run) (l .inv) (omega arith) (sym (extends .ensures) ∙ not-false (extends .result) (c .before .if1 .left))
+
+returns-2 : tie.Need-returns-2 Inv-loop μ-loop
+returns-2 c =
+    let a = c .before .before .before .before .args in
+    growing-ends (now (a .grants)) (a .at) (c .before .loop .i) (c .before .loop .run) (c .before .loop .inv) (omega arith)
+
+pub run-at-spec : {M : Type 1} → statement M
+run-at-spec =
+    tie.close
+    (tie.spec
+    Inv-loop
+    μ-loop
+    shared-slice-read-t6
+    add-i
+    loop-holds
+    shared-slice-read-does-extend
+    does-extend-requires
+    returns
+    add-run
+    add-i-2
+    loop-less
+    loop-again
+    returns-2)

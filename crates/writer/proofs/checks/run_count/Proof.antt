@@ -1,0 +1,64 @@
+-- `checks::run_count` goes from run to run and counts them.
+use mathlib.Core.Path.{ap}
+use native.Mathlib.Omega.{arith}
+use denote.Ref.{now}
+use lib.ListN.{length, drop}
+use borrow.Author.Needs.{needs}
+use Rattle.jobfile.specs.Written.{longestRuns}
+use Rattle.writer.proofs.Grants.{run-taken, Counted, counted-on, counted-few, counted-all}
+use Rattle.writer.proofs.checks.run_count.Statement.{statement}
+use Rattle.writer.proofs.checks.run_count.Tie as tie
+
+abbrev Inv-loop : tie.InvT-loop
+Inv-loop grants runs₀ i₀ runs i = Counted grants i runs
+
+abbrev μ-loop : tie.MeasureT-loop
+μ-loop grants runs₀ i₀ runs i = length (longestRuns (drop i grants))
+
+loop-holds : tie.Need-loop-holds Inv-loop μ-loop
+loop-holds c = record { within = omega arith; same = omega arith }
+
+run-at-requires : tie.Need-run-at-requires Inv-loop μ-loop
+run-at-requires c κs = search needs
+
+cast-i : tie.Need-cast-i Inv-loop μ-loop
+cast-i c = search needs
+
+add-i : tie.Need-add-i Inv-loop μ-loop
+add-i c =
+    let run = c .before .run-at in
+    let l = c .before .before .before .loop in
+    omega (arith, run-taken (now (c .before .before .before .before .before .args .grants)) (l .i) (run .result) (omega arith) (run .ensures))
+
+add-runs : tie.Need-add-runs Inv-loop μ-loop
+add-runs c =
+    let run = c .before .run-at in
+    let l = c .before .before .before .loop in
+    omega (arith, counted-few (now (c .before .before .before .before .before .args .grants)) (l .i) (l .runs) (l .inv) (run .result) (run .ensures))
+
+loop-less : tie.Need-loop-less Inv-loop μ-loop
+loop-less c = omega (arith, ap length (c .before .run-at .ensures))
+
+loop-again : tie.Need-loop-again Inv-loop μ-loop
+loop-again c =
+    let run = c .before .run-at in
+    let l = c .before .before .before .loop in
+    counted-on (now (c .before .before .before .before .before .args .grants)) (l .i) (l .runs) (l .inv) (run .result) (run .ensures)
+
+returns : tie.Need-returns Inv-loop μ-loop
+returns c = let l = c .before .loop in counted-all (now (c .before .before .before .args .grants)) (l .i) (l .runs) (l .inv) (omega arith)
+
+pub run-count-spec : {M : Type 1} → statement M
+run-count-spec =
+    tie.close
+    (tie.spec
+    Inv-loop
+    μ-loop
+    loop-holds
+    run-at-requires
+    cast-i
+    add-i
+    add-runs
+    loop-less
+    loop-again
+    returns)

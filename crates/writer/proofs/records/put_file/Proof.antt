@@ -1,0 +1,78 @@
+-- `records::put_file`: the parts of the file, each behind the one before.
+use native.Mathlib.Omega.{arith}
+use denote.Ref.{now}
+use lib.ListN.{length}
+use borrow.Author.Needs.{needs}
+use Rattle.writer.specs.Write.{given}
+use Rattle.writer.proofs.Requests.{fields-count}
+use Rattle.writer.proofs.Answers.{length-file, ready}
+use Rattle.writer.proofs.File.{file-stored}
+use Rattle.writer.proofs.records.put_file.Statement.{statement}
+use Rattle.writer.proofs.records.put_file.Tie as tie
+
+cast-put-header : tie.Need-cast-put-header
+cast-put-header c =
+    let a = c .before .before .before .before .args in
+    omega (arith, ready (given (a .nodes) (a .heads) (now (a .requests)) (now (a .grants))) (length (now (a .out))) (c .before .before .before .before .pre))
+
+cast-put-header-2 : tie.Need-cast-put-header-2
+cast-put-header-2 c =
+    let a = c .before .before .before .before .args in
+    omega (arith, ready (given (a .nodes) (a .heads) (now (a .requests)) (now (a .grants))) (length (now (a .out))) (c .before .before .before .before .pre))
+
+put-header-requires : tie.Need-put-header-requires
+put-header-requires c κs =
+    let a = c .before .before .before .before .args in
+    let d = given (a .nodes) (a .heads) (now (a .requests)) (now (a .grants)) in
+    omega (arith, length-file d, ready d (length (now (a .out))) (c .before .before .before .before .pre))
+
+put-requests-requires : tie.Need-put-requests-requires
+put-requests-requires c κs =
+    let a = c .before .before .before .before .before .before .before .before .args in
+    let d = given (a .nodes) (a .heads) (now (a .requests)) (now (a .grants)) in
+    let known = ready d (length (now (a .out))) (c .before .before .before .before .before .before .before .before .pre) in
+    (omega (arith, length-file d, fields-count (now (a .requests))), known .fits)
+
+mul-put-runs : tie.Need-mul-put-runs
+mul-put-runs c = search needs
+
+add-put-runs : tie.Need-add-put-runs
+add-put-runs c = search needs
+
+put-runs-requires : tie.Need-put-runs-requires
+put-runs-requires c κs =
+    let a = c .before .before .before .before .before .before .before .before .before .before .before .before .args in
+    let d = given (a .nodes) (a .heads) (now (a .requests)) (now (a .grants)) in
+    omega (arith, length-file d, ready d (length (now (a .out))) (c .before .before .before .before .before .before .before .before .before .before .before .before .pre))
+
+put-close-requires : tie.Need-put-close-requires
+put-close-requires c κs =
+    let a = c .before .before .before .before .before .before .before .before .before .before .before .before .before .before .before .before .args in
+    let d = given (a .nodes) (a .heads) (now (a .requests)) (now (a .grants)) in
+    let known = ready d (length (now (a .out))) (c .before .before .before .before .before .before .before .before .before .before .before .before .before .before .before .before .pre) in
+    (omega arith, omega (arith, length-file d))
+
+same-length : tie.Need-same-length
+same-length c = search needs
+
+returns : tie.Need-returns
+returns c =
+    let a = c .before .before .before .before .before .before .before .before .before .before .before .before .before .before .before .before .before .before .before .args in
+    let d = given (a .nodes) (a .heads) (now (a .requests)) (now (a .grants)) in
+    file-stored d (now (a .out)) _ _ _ _ (c .before .before .before .before .before .before .put-runs .result) (ready d (length (now (a .out))) (c .before .before .before .before .before .before .before .before .before .before .before .before .before .before .before .before .before .before .before .pre) .enough)
+    (c .before .before .before .before .before .before .before .before .before .before .before .before .before .before .put-header .ensures) (c .before .before .before .before .before .before .before .before .before .before .put-requests .ensures) (c .before .before .before .before .before .before .put-runs .ensures .1) (c .before .before .before .before .before .before .put-runs .ensures .0) (c .before .before .put-close .ensures)
+
+pub put-file-spec : {M : Type 1} → statement M
+put-file-spec =
+    tie.close
+    (tie.spec
+    cast-put-header
+    cast-put-header-2
+    put-header-requires
+    put-requests-requires
+    mul-put-runs
+    add-put-runs
+    put-runs-requires
+    put-close-requires
+    same-length
+    returns)

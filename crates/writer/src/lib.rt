@@ -1,0 +1,28 @@
+// The writer of job files: checks all that it is given, then writes the file into a lent buffer.
+mod checks;
+mod records;
+
+use checks::checked;
+use records::put_file;
+ghost use mathlib.Core.Path.{_≡_};
+ghost use Rattle.writer.specs.Write.{given, writes};
+
+// What the writer answers: 0 and the bytes written, or a refusal's number and no bytes.
+pub struct Written {
+    pub number: u32,
+    pub bytes: u32,
+}
+
+// Writes the file of a job. `requests` has four numbers a request (head, kind, x, y), where a rest of fewer than four
+// is no request; `grants` has one head number a grant. A refusal writes nothing, and bytes behind the file stay.
+pub fn write(nodes: u32, heads: u32, requests: &[u32], grants: &[u8], out: &mut [u8]) -> Written
+    ensures { λ r. ⌜ record { answer = r; out = now (out .exit) }
+        ≡ writes (given nodes heads (now (requests .entry)) (now (grants .entry))) (now (out .entry)) ⌝ }
+{
+    let answer = checked(nodes, heads, requests, grants, out.len());
+    if answer.number != 0 {
+        return answer;
+    }
+    put_file(nodes, heads, requests, grants, out);
+    answer
+}

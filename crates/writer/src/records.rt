@@ -1,0 +1,147 @@
+// The records of a job file, written one after the other into a lent buffer.
+use crate::checks::fields_at;
+use crate::checks::run_at;
+use jobfile::Fields;
+use jobfile::Run;
+use std::num::wrapping_add_u16;
+use std::num::wrapping_sub_u16;
+ghost use mathlib.Core.Path.{_≡_};
+ghost use mathlib.Core.List.{[], _∷_, _++_, map};
+ghost use Prim.Native.Nat.{_+_, _*_, _%_, _≤_};
+ghost use lib.ListN.{length, take, drop};
+ghost use lib.Seq.{sets};
+ghost use Rattle.jobfile.specs.Format.{jobMark, mostNodes, mostHeads, word, wordBytes, wordSum, fieldsRefusal, requestOf};
+ghost use Rattle.jobfile.specs.Written.{requestBytes, requestsBytes, runBytes, runsBytes, longestRuns, written};
+ghost use Rattle.jobfile.specs.Draft.{fieldsOf, eachRefusal, jobOf};
+ghost use Rattle.writer.specs.Write.{given, writeRefusal, closeBytes};
+
+// Stores two bytes.
+fn put_bytes(out: &mut [u8], at: usize, low: u8, high: u8)
+    requires { ⌜ at + 2 ≤ length (now out) ⌝ }
+    ensures { λ _. ⌜ now (out .exit) ≡ sets (now (out .entry)) at (low ∷ high ∷ []) ⌝ }
+{
+    out[at] = low;
+    out[at + 1] = high;
+}
+
+// Stores a 16-bit word, low byte first.
+fn put_word(out: &mut [u8], at: usize, word: u16)
+    requires { ⌜ at + 2 ≤ length (now out) ⌝ }
+    ensures { λ _. ⌜ now (out .exit) ≡ sets (now (out .entry)) at (wordBytes word) ⌝ }
+{
+    put_bytes(out, at, (word % 256) as u8, (word / 256) as u8);
+}
+
+// Writes the job's record.
+fn put_header(out: &mut [u8], nodes: u16, heads: u16)
+    requires { ⌜ 6 ≤ length (now out) ⌝ }
+    ensures { λ _. ⌜ now (out .exit) ≡ sets (now (out .entry)) 0 (wordBytes jobMark ++ wordBytes nodes ++ wordBytes heads) ⌝ }
+{
+    put_word(out, 0, 0x4B44);
+    put_word(out, 2, nodes);
+    put_word(out, 4, heads);
+}
+
+// Writes a request whose numbers are admitted in the largest job, so that each fits its field.
+fn put_request(out: &mut [u8], at: usize, fields: Fields)
+    requires { ⌜ at + 8 ≤ length (now out) ⌝ }
+    requires { ⌜ fieldsRefusal mostNodes mostHeads fields ≡ 0 ⌝ }
+    ensures { λ _. ⌜ now (out .exit) ≡ sets (now (out .entry)) at (requestBytes (requestOf fields)) ⌝ }
+{
+    put_word(out, at, 0x5152);
+    put_bytes(out, at + 2, fields.head as u8, fields.kind as u8);
+    put_word(out, at + 4, fields.x as u16);
+    put_word(out, at + 6, fields.y as u16);
+}
+
+// Writes the requests behind the job's record.
+fn put_requests(out: &mut [u8], requests: &[u32])
+    requires { ⌜ 6 + 8 * length (fieldsOf (now requests)) ≤ length (now out) ⌝ }
+    requires { ⌜ eachRefusal mostNodes mostHeads (fieldsOf (now requests)) ≡ 0 ⌝ }
+    ensures { λ _. ⌜ now (out .exit) ≡ sets (now (out .entry)) 6 (requestsBytes (map requestOf (fieldsOf (now (requests .entry))))) ⌝ }
+{
+    let mut at = 0;
+    while 4 <= requests.len() - at {
+        put_request(out, 6 + 2 * at, fields_at(requests, at));
+        at += 4;
+    }
+}
+
+// Writes a run.
+fn put_run(out: &mut [u8], at: usize, run: Run)
+    requires { ⌜ at + 4 ≤ length (now out) ⌝ }
+    ensures { λ _. ⌜ now (out .exit) ≡ sets (now (out .entry)) at (runBytes run) ⌝ }
+{
+    put_word(out, at, 0x5247);
+    put_bytes(out, at + 2, run.head, run.count);
+}
+
+// Writes the longest runs of the grants, and gives the position behind them.
+fn put_runs(out: &mut [u8], start: usize, grants: &[u8]) -> usize
+    requires { ⌜ start + 4 * length (longestRuns (now grants)) ≤ length (now out) ⌝ }
+    ensures { λ r. ⌜ r ≡ start + 4 * length (longestRuns (now (grants .entry))) ⌝ }
+    ensures { λ _. ⌜ now (out .exit) ≡ sets (now (out .entry)) start (runsBytes (longestRuns (now (grants .entry)))) ⌝ }
+{
+    let mut at = start;
+    let mut i = 0;
+    while i < grants.len() {
+        let run = run_at(grants, i);
+        put_run(out, at, run);
+        i += run.count as usize;
+        at += 4;
+    }
+    at
+}
+
+// A byte as a 16-bit number.
+fn wide(byte: u8) -> u16
+    ensures { λ r. ⌜ r ≡ byte ⌝ }
+{
+    byte as u16
+}
+
+// The 16-bit word at a position.
+fn word_at(bytes: &[u8], at: usize) -> u16
+    requires { ⌜ at + 2 ≤ length (now bytes) ⌝ }
+    ensures { λ r. ⌜ r ≡ word (drop at (now (bytes .entry))) ⌝ }
+{
+    wide(bytes[at]) + 256 * wide(bytes[at + 1])
+}
+
+// The sum of the words, when carries out of 16 bits are dropped.
+fn word_sum(bytes: &[u8]) -> u16
+    requires { ⌜ length (now bytes) % 2 ≡ 0 ⌝ }
+    ensures { λ r. ⌜ r ≡ wordSum (now (bytes .entry)) % 65536 ⌝ }
+{
+    let mut sum = 0;
+    let mut at = 0;
+    while at < bytes.len() {
+        sum = wrapping_add_u16(sum, word_at(bytes, at));
+        at += 2;
+    }
+    sum
+}
+
+// Writes the close of a file whose other records end at a position. The balance is the difference from zero of all
+// words before it, the close's mark included.
+fn put_close(out: &mut [u8], at: usize)
+    requires { ⌜ at % 2 ≡ 0 ⌝ }
+    requires { ⌜ at + 4 ≤ length (now out) ⌝ }
+    ensures { λ _. ⌜ now (out .exit) ≡ sets (now (out .entry)) at (closeBytes (take at (now (out .entry)))) ⌝ }
+{
+    put_word(out, at, 0x4C43);
+    let end = at + 2;
+    let sum = word_sum(&out[..end]);
+    put_word(out, end, wrapping_sub_u16(0, sum));
+}
+
+// Writes the file of a job that is admitted, into a buffer that it fits.
+pub fn put_file(nodes: u32, heads: u32, requests: &[u32], grants: &[u8], out: &mut [u8])
+    requires { ⌜ writeRefusal (given nodes heads (now requests) (now grants)) (length (now out)) ≡ 0 ⌝ }
+    ensures { λ _. ⌜ now (out .exit) ≡ sets (now (out .entry)) 0 (written (jobOf (given nodes heads (now (requests .entry)) (now (grants .entry))))) ⌝ }
+{
+    put_header(out, nodes as u16, heads as u16);
+    put_requests(out, requests);
+    let at = put_runs(out, 6 + 8 * (requests.len() / 4), grants);
+    put_close(out, at);
+}
