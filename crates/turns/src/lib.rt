@@ -79,7 +79,7 @@ fn open_run(file: &[u8], requests: u32, cursor: Cursor) -> Cursor
 }
 
 // One grant: the next of the schedule.
-fn turn(
+pub fn turn(
     file: &[u8],
     requests: u32,
     progress: Progress,

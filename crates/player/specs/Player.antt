@@ -1,0 +1,116 @@
+-- What a play leaves in the lent buffers and answers, for any file and any buffers.
+--
+--   refusedWith n       the answer of a refusal
+--   acceptedWith j S    the answer of a play of the job j that ends in the state S
+--   lentRefusal j t r l the refusal of lent buffers of these lengths, 0 for none
+--   playRefusal         the refusal of a play
+--   Left, playedOf      the buffers and the answer
+use mathlib.Core.Path.{_≡_}
+use mathlib.Core.Bool.{cond}
+use mathlib.Core.List.{List, _++_, map}
+use Prim.Native.Nat.{ℕ, _*_, _≤_}
+use lib.Dec.{eqb, ltb}
+use lib.ListN.{length, drop}
+use Rattle.job.specs.declared.Played.{Played}
+use Rattle.job.specs.Job.{Job}
+use Rattle.word.specs.Word.{encode}
+use Rattle.linearization.specs.Entry.{flat}
+use Rattle.jobfile.specs.Format.{_then_}
+use Rattle.jobfile.specs.Meaning.{meaning}
+use Rattle.jobfile.specs.Admitted.{Bytes}
+use Rattle.reader.specs.declared.Checked.{Checked}
+use Rattle.reader.specs.Reader.{countsOf}
+use Rattle.rules.specs.State.{State, tallyOf}
+use Rattle.stepper.specs.Buffers.{flatRows}
+use Rattle.turns.specs.Turns.{runOf}
+
+-- Each refusal gives its number and zero for every count.
+abbrev pub refusedWith : ℕ → Played
+refusedWith n =
+    record {
+      number = n; nodes = 0; heads = 0; requests = 0; grants = 0; entries = 0;
+      tally = record { idle = 0; failed = 0; links = 0; working = 0 };
+    }
+
+abbrev pub acceptedWith : Job → State → Played
+acceptedWith j S =
+    record {
+      number = 0;
+      nodes = j .nodes;
+      heads = j .heads;
+      requests = length (j .requests);
+      grants = length (j .schedule);
+      entries = length (S .entries);
+      tally = tallyOf (j .requests) S;
+    }
+
+-- 14: table shorter than the places, report shorter than four numbers a request, line-up shorter than two.
+unfoldable pub lentRefusal : Job → ℕ → ℕ → ℕ → ℕ
+lentRefusal j table report linearization =
+    cond (ltb table (j .nodes)) 14
+    (cond (ltb report (4 * length (j .requests))) 14
+    (cond (ltb linearization (2 * length (j .requests))) 14 0))
+
+-- The file is checked first, then the lent buffers.
+unfoldable pub playRefusal : List ℕ → ℕ → ℕ → ℕ → ℕ
+playRefusal file table report linearization = meaning file .number then lentRefusal (meaning file .job) table report linearization
+
+pub record Left : Type 0 where
+  pub table : List ℕ
+  pub report : List ℕ
+  pub linearization : List ℕ
+  pub result : Played
+
+-- "Numbers past the table's places, the report's requests and the line-up's entries remain as lent."
+abbrev pub leftAt : Job → State → List ℕ → List ℕ → List ℕ → Left
+leftAt j S table report linearization =
+    record {
+      table = map encode (S .table) ++ drop (j .nodes) table;
+      report = flatRows (S .report) ++ drop (4 * length (j .requests)) report;
+      linearization = flat (S .entries) ++ drop (2 * length (S .entries)) linearization;
+      result = acceptedWith j S;
+    }
+
+abbrev pub cutOf : Job → List ℕ → List ℕ → List ℕ → Left
+cutOf j table report linearization = leftAt j (runOf j) table report linearization
+
+-- Refused: every buffer unchanged. Accepted: what the rules' run of the file's meaning leaves.
+unfoldable pub playedOf : List ℕ → List ℕ → List ℕ → List ℕ → Left
+playedOf file table report linearization =
+    cond (eqb (playRefusal file (length table) (length report) (length linearization)) 0)
+    (cutOf (meaning file .job) table report linearization)
+    (record {
+      table = table; report = report; linearization = linearization;
+      result = refusedWith (playRefusal file (length table) (length report) (length linearization));
+    })
+
+-- ---- for the inner functions
+
+-- A play on a table and a report of exactly the lengths that the job needs.
+abbrev pub wholeAt : Job → State → List ℕ → Left
+wholeAt j S linearization =
+    record {
+      table = map encode (S .table);
+      report = flatRows (S .report);
+      linearization = flat (S .entries) ++ drop (2 * length (S .entries)) linearization;
+      result = acceptedWith j S;
+    }
+
+abbrev pub wholeOf : Job → List ℕ → Left
+wholeOf j linearization = wholeAt j (runOf j) linearization
+
+pub record Checks (file : List ℕ) (checked : Checked) : Type 0 where
+  pub accepted : meaning file .number ≡ 0
+  pub counts : checked ≡ countsOf (meaning file)
+
+pub record Whole (file : List ℕ) (checked : Checked) (table report linearization : ℕ) : Type 0 where
+  pub checks : Checks file checked
+  pub nodes : table ≡ meaning file .job .nodes
+  pub rows : report ≡ 4 * length (meaning file .job .requests)
+  pub room : 2 * length (meaning file .job .requests) ≤ linearization
+
+pub record Roomy (file : List ℕ) (checked : Checked) (table report linearization : ℕ) : Type 0 where
+  pub checks : Checks file checked
+  pub nodes : meaning file .job .nodes ≤ table
+  pub rows : 4 * length (meaning file .job .requests) ≤ report
+  pub room : 2 * length (meaning file .job .requests) ≤ linearization
