@@ -5,3 +5,4 @@ pub mod Refusal
 pub mod Halving
 pub mod Steps
 pub mod Grants
+pub mod Walk

@@ -19,10 +19,10 @@ use Rattle.word.specs.declared.Node.{Node}
 use Rattle.word.specs.Word.{rankOf, parentOf, decode, before, key}
 use Rattle.word.proofs.Laws.{before-key}
 use Rattle.forest.proofs.Forest.{WellFormed}
-use Rattle.rules.specs.Table.{at, parent, rank}
+use Rattle.rules.specs.Table.{parent, rank}
 use Rattle.query.specs.Query.{wordAt, isFaulty, anyFaulty, refusal}
 use Rattle.query.specs.Ready.{Admitted}
-use Rattle.query.proofs.Words.{length-map, at-decoded}
+use Rattle.query.proofs.Words.{length-map, parent-decoded, rank-decoded}
 
 -- ---- chains of tests
 
@@ -101,12 +101,6 @@ module _ {ws : List ℕ} {x y : ℕ} (accepted : Accepted ws x y) where
   abbrev t : List Node
   t = map decode ws
 
-  parent-word : (i : ℕ) → i < length ws → parent t i ≡ parentOf (wordAt ws i)
-  parent-word i l = ap (λ v. v .parent) (at-decoded ws i l)
-
-  rank-word : (i : ℕ) → i < length ws → rank t i ≡ rankOf (wordAt ws i)
-  rank-word i l = ap (λ v. v .rank) (at-decoded ws i l)
-
   sane-at : (i : ℕ) → i < length ws → Sane ws i
   sane-at i l = sane ws i (accepted .words i l)
 
@@ -120,10 +114,10 @@ module _ {ws : List ℕ} {x y : ℕ} (accepted : Accepted ws x y) where
         arith,
         d,
         accepted .few,
-        parent-word i l,
-        rank-word i l,
-        rank-word above inside,
-        ap (rank t) (parent-word i l),
+        parent-decoded ws i l,
+        rank-decoded ws i l,
+        rank-decoded ws above inside,
+        ap (rank t) (parent-decoded ws i l),
         ltb-false (key (rankOf (wordAt ws above)) above) (key (rankOf (wordAt ws i)) i) order,
       )
 
@@ -133,8 +127,8 @@ module _ {ws : List ℕ} {x y : ℕ} (accepted : Accepted ws x y) where
         nodes = length-map decode ws;
         formed = record {
           limit = omega (arith, accepted .few);
-          inside = λ i l. omega (arith, parent-word i l, sane-at i l .inside);
+          inside = λ i l. omega (arith, parent-decoded ws i l, sane-at i l .inside);
           rising = rising;
         };
-        ranks = λ i l. omega (arith, rank-word i l, sane-at i l .rank);
+        ranks = λ i l. omega (arith, rank-decoded ws i l, sane-at i l .rank);
       }

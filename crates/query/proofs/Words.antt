@@ -9,7 +9,7 @@ use lib.ListN.{length, getD, set}
 use Rattle.word.specs.declared.Node.{Node}
 use Rattle.word.specs.Word.{rankOf, parentOf, decode, encode, rankLimit, nodeLimit}
 use Rattle.word.proofs.Laws.{decode-encode, encode-decode}
-use Rattle.rules.specs.Table.{noNode, at}
+use Rattle.rules.specs.Table.{at, parent, rank}
 use Rattle.query.specs.Query.{wordAt}
 
 pub length-map : {A B : Type 0} (f : A → B) (l : List A) → length (map f l) ≡ length l
@@ -26,6 +26,12 @@ pub at-decoded : (ws : List ℕ) (i : ℕ) → i < length ws → at (map decode 
 at-decoded [] i l = absurd (omega arith)
 at-decoded (w ∷ ws) zero l = refl
 at-decoded (w ∷ ws) (suc i) l = at-decoded ws i (omega arith)
+
+pub parent-decoded : (ws : List ℕ) (i : ℕ) → i < length ws → parent (map decode ws) i ≡ parentOf (wordAt ws i)
+parent-decoded ws i l = ap (λ v. v .parent) (at-decoded ws i l)
+
+pub rank-decoded : (ws : List ℕ) (i : ℕ) → i < length ws → rank (map decode ws) i ≡ rankOf (wordAt ws i)
+rank-decoded ws i l = ap (λ v. v .rank) (at-decoded ws i l)
 
 pub record Encodable (t : List Node) : Type 0 where
   pub rank : (i : ℕ) → i < length t → at t i .rank < rankLimit

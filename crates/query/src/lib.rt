@@ -10,6 +10,7 @@ ghost use mathlib.Core.Path.{_≡_};
 ghost use mathlib.Core.List.{map};
 ghost use Prim.Native.Nat.{_<_, _≤_};
 ghost use lib.ListN.{length};
+ghost use Rattle.job.specs.Job.{answerNumber};
 ghost use Rattle.word.specs.Word.{before, decode, encode};
 ghost use Rattle.process.specs.declared.Access.the-variants.{Cas};
 ghost use Rattle.forest.specs.Forest.{Leads};
@@ -172,11 +173,24 @@ fn grant(table: &mut [u32], p: Progress) -> Progress
     let advanced = process::advance(head, found, p.used + 1);
     let next = advanced.head;
     let event = advanced.event;
+    let answer = event.answer;
     Progress {
         head: next,
-        answer: event.answer,
+        answer,
         used: p.used + 1,
         left: p.left - 1,
+    }
+}
+
+// What an enquiry that is over is told.
+fn told(p: Progress) -> Queried
+    ensures { λ r. ⌜ r ≡ record { number = 0; answer = answerNumber (p .answer); used = p .used } ⌝ }
+{
+    let answer = p.answer;
+    Queried {
+        number: 0,
+        answer: job::answer_number(answer),
+        used: p.used,
     }
 }
 
@@ -186,8 +200,7 @@ fn look(table: &mut [u32], p: Progress) -> Queried
     ensures { λ r. ⌜ record { queried = r; table = now (table .exit) } ≡ rest p (map decode (now (table .entry))) ⌝ }
 {
     if is_over(p) {
-        let answer = p.answer;
-        return Queried { number: 0, answer: job::answer_number(answer), used: p.used };
+        return told(p);
     }
     let next = grant(table, p);
     let head = next.head;
@@ -203,8 +216,7 @@ fn move_on(table: &mut [u32], p: Progress) -> Queried
     ensures { λ r. ⌜ record { queried = r; table = now (table .exit) } ≡ rest p (map decode (now (table .entry))) ⌝ }
 {
     if is_over(p) {
-        let answer = p.answer;
-        return Queried { number: 0, answer: job::answer_number(answer), used: p.used };
+        return told(p);
     }
     let read = grant(table, p);
     let swapped = grant(table, read);
