@@ -3,16 +3,17 @@
 --   Going p                 not over: unanswered, with a grant left
 --   Carried ws p ws′ p′    the enquiry p on the words ws has become p′ on ws′ by one grant
 --
--- Main laws: carried, one grant carries an enquiry on; rest-over, the result of one that is over; ready-start, the
--- enquiry at its start.
+-- Main laws: carried, one grant carries an enquiry on; rest-over, the result of one that is over; query-refused and
+-- query-answered, the whole enquiry.
 use mathlib.Core.Path.{_≡_, refl, sym, ap, ap₂, _∙_, subst}
+use mathlib.Core.Logic.{_≢_}
 use mathlib.Core.Bool.{Bool, true, false, cond, true≢false}
 use mathlib.Core.List.{List, map}
 use Prim.Native.Nat.{ℕ, zero, suc, _+_, _-_, _≤_, _<_}
 use native.Mathlib.Omega.{arith}
 use lib.Dec.{eqb}
 use lib.ListN.{length, set}
-use borrow.Author.Tests.{eqb-true, eqb-false}
+use borrow.Author.Tests.{eqb-true, eqb-false, eq-eqb, ne-eqb}
 use Rattle.linearization.proofs.Tests.{split}
 use Rattle.job.specs.declared.Answer.{Answer}
 use Rattle.job.specs.declared.Answer.the-variants.{Unfinished, Joined, Together, Yes, No}
@@ -30,12 +31,12 @@ use Rattle.rules.specs.Report.{isFinal}
 use Rattle.rules.specs.Table.{noNode, at, seen, touched}
 use Rattle.query.specs.declared.Queried.{Queried}
 use Rattle.query.specs.declared.Progress.{Progress}
-use Rattle.query.specs.Query.{wordAt, Result, answered, granted, steps, sameSet}
+use Rattle.query.specs.Query.{wordAt, refusal, Result, answered, granted, steps, sameSet, queried}
 use Rattle.query.specs.Progress.{isOver, advanced, progressed, tableAfter, rest}
 use Rattle.query.specs.Ready.{Admitted, Inner, Touchable, Serving, Ready}
 use Rattle.query.proofs.Words.{length-map, map-set, at-decoded, rank-decoded, Encodable, decode-words, encode-words}
 use Rattle.query.proofs.Labels.{rootLabel, root-labelled}
-use Rattle.query.proofs.Refusal.{Accepted, accepted-admitted}
+use Rattle.query.proofs.Refusal.{Accepted, accepted, accepted-admitted}
 use Rattle.query.proofs.Steps.{serving-step, serving-inner, serving-start}
 
 -- ---- one access, on words
@@ -250,20 +251,43 @@ carried-on {ws} {ws′} {ws″} {p} {p′} {p″} before head table = carried ws
 
 -- ---- the start
 
-abbrev pub startOf : ℕ → ℕ → ℕ → Progress
-startOf x y budget = record { head = begin (sameSet x y) 0; answer = Unfinished; used = 0; left = budget }
-
-pub ready-start : (ws : List ℕ) (x y budget : ℕ) → budget ≤ 65535 → Accepted ws x y → Ready (map decode ws) (startOf x y budget)
-ready-start ws x y budget small accepted =
+ready-start : (ws : List ℕ) (x y budget : ℕ) (h : Head) → h ≡ begin (sameSet x y) 0 → budget ≤ 65535 → Accepted ws x y
+    → Ready (map decode ws) (record { head = h; answer = Unfinished; used = 0; left = budget })
+ready-start ws x y budget h e small good =
     record {
       nodes = length ws;
-      labels = rootLabel (accepted-admitted accepted .formed);
+      labels = rootLabel (accepted-admitted good .formed);
       x = x;
       y = y;
       serving =
-        serving-start
-        (accepted-admitted accepted)
-        (root-labelled (accepted-admitted accepted .formed))
-        (record { x = accepted .left; y = accepted .right });
+        rw e
+        (serving-start
+        (accepted-admitted good)
+        (root-labelled (accepted-admitted good .formed))
+        (record { x = good .left; y = good .right }));
       room = omega (arith, small);
     }
+
+module _ (ws : List ℕ) (x y number : ℕ) (told : number ≡ refusal ws x y) where
+  pub query-refused : number ≢ 0 → (budget : ℕ)
+      → record { queried = record { number = number; answer = 0; used = 0 }; table = ws } ≡ queried ws x y budget
+  unfolding queried
+  query-refused some budget =
+      let test : eqb (refusal ws x y) 0 ≡ false = ne-eqb (refusal ws x y) 0 (λ e. some (told ∙ e)) in
+      rw test (λ i. record { queried = record { number = told i; answer = 0; used = 0 }; table = ws })
+
+  module _ (none : number ≡ 0) where
+    pub query-accepted : Accepted ws x y
+    query-accepted = accepted ws x y (sym told ∙ none)
+
+    module _ (budget : ℕ) (h : Head) (begun : h ≡ begin (sameSet x y) 0) where
+      pub query-ready : budget ≤ 65535 → Ready (map decode ws) (record { head = h; answer = Unfinished; used = 0; left = budget })
+      query-ready small = ready-start ws x y budget h begun small query-accepted
+
+      pub query-answered : (result : Result)
+          → result ≡ rest (record { head = h; answer = Unfinished; used = 0; left = budget }) (map decode ws)
+          → result ≡ queried ws x y budget
+      unfolding queried rest
+      query-answered result e =
+          let test : eqb (refusal ws x y) 0 ≡ true = eq-eqb (refusal ws x y) 0 (sym told ∙ none) in
+          rw test (e ∙ ap (λ k. steps budget 0 k (map decode ws)) begun)

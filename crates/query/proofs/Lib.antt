@@ -6,3 +6,4 @@ pub mod Halving
 pub mod Steps
 pub mod Grants
 pub mod Walk
+pub mod Cases
