@@ -15,8 +15,7 @@ use lib.Dec.{eqb}
 use lib.ListN.{length, set}
 use borrow.Author.Tests.{eqb-true, eqb-false, eq-eqb, ne-eqb}
 use Rattle.linearization.proofs.Tests.{split}
-use Rattle.job.specs.declared.Answer.{Answer}
-use Rattle.job.specs.declared.Answer.the-variants.{Unfinished, Joined, Together, Yes, No}
+use Rattle.job.specs.declared.Answer.the-variants.{Unfinished}
 use Rattle.job.specs.Job.{answerNumber}
 use Rattle.word.specs.declared.Node.{Node}
 use Rattle.word.specs.Word.{decode, encode, same, rankOf, rankLimit}
@@ -37,7 +36,7 @@ use Rattle.query.specs.Ready.{Admitted, Inner, Touchable, Serving, Ready
 use Rattle.query.proofs.Words.{length-map, map-set, at-decoded, rank-decoded, Encodable, decode-words, encode-words}
 use Rattle.query.proofs.Labels.{rootLabel, root-labelled}
 use Rattle.query.proofs.Refusal.{Accepted, accepted, accepted-admitted}
-use Rattle.query.proofs.Steps.{serving-step, serving-inner, serving-start}
+use Rattle.query.proofs.Steps.{unfinished, serving-step, serving-inner, serving-start}
 
 -- ---- one access, on words
 
@@ -196,13 +195,6 @@ rest-step p t =
     split (isOver p)
     (λ e. rw e refl)
     (λ e. rw (e, going p e .unanswered) (sym (steps-going (p .left) (p .used) (p .head) t (going p e .grant))))
-
-unfinished : (answer : Answer) → isFinal answer ≡ false → answer ≡ Unfinished
-unfinished Unfinished e = refl
-unfinished Joined e = absurd (true≢false e)
-unfinished Together e = absurd (true≢false e)
-unfinished Yes e = absurd (true≢false e)
-unfinished No e = absurd (true≢false e)
 
 pub rest-over : (p : Progress) (t : List Node) → isOver p ≡ true → rest p t ≡ answered (p .answer) (p .used) t
 unfolding rest

@@ -6,4 +6,6 @@ pub mod Halving
 pub mod Steps
 pub mod Grants
 pub mod Walk
+pub mod Enough
+pub mod Faithful
 pub mod Cases

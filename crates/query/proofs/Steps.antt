@@ -1,7 +1,7 @@
 -- One step of an enquiry, stage by stage: the table stays admitted, its sets stay, and an answer is right about them.
 --
 -- Main laws: serving-step, what holds of an enquiry holds after one step more; serving-start, it holds at the start.
-use mathlib.Core.Path.{_≡_, refl, sym, ap, _∙_}
+use mathlib.Core.Path.{_≡_, refl, sym, ap, _∙_, subst}
 use mathlib.Core.Logic.{_≢_}
 use mathlib.Core.Bool.{Bool, true, false, cond, true≢false}
 use mathlib.Core.List.{List}
@@ -14,7 +14,7 @@ use borrow.Author.Tests.{eqb-true, eqb-false}
 use Rattle.job.specs.declared.Kind.{Kind}
 use Rattle.job.specs.declared.Kind.the-variants.{Union, SameSet}
 use Rattle.job.specs.declared.Answer.{Answer}
-use Rattle.job.specs.declared.Answer.the-variants.{Unfinished, Yes, No}
+use Rattle.job.specs.declared.Answer.the-variants.{Unfinished, Joined, Together, Yes, No}
 use Rattle.job.specs.Job.{kindNumber}
 use Rattle.word.specs.declared.Node.{Node}
 use Rattle.word.specs.Word.{same}
@@ -40,8 +40,16 @@ use Rattle.query.specs.Query.{granted, sameSet}
 use Rattle.query.specs.Ready.{Admitted, Inner, Says, Serving}
 use Rattle.query.proofs.Halving.{halved-ranks, halved-formed, halved-labelled, halved-later}
 
+-- an answer that is not final is none
+pub unfinished : (answer : Answer) → isFinal answer ≡ false → answer ≡ Unfinished
+unfinished Unfinished e = refl
+unfinished Joined e = absurd (true≢false e)
+unfinished Together e = absurd (true≢false e)
+unfinished Yes e = absurd (true≢false e)
+unfinished No e = absurd (true≢false e)
+
 -- a same-set is no union
-no-union : {A : Type 0} → SameSet ≡ Union → A
+pub no-union : {A : Type 0} → SameSet ≡ Union → A
 no-union e = let z : _≡_ {A = ℕ} 2 1 = ap kindNumber e in absurd (omega arith)
 
 module _ {n : ℕ} {t : List Node} {B : ℕ → ℕ} {a b : ℕ} (admitted : Admitted n t) (labelled : Labelled n (parent t) B)
@@ -191,6 +199,13 @@ module _ {n : ℕ} {t : List Node} {B : ℕ → ℕ} {a b : ℕ} (admitted : Adm
         (λ e. rw e wrote)
         (λ e. rw e (read-on (staged h (ReadAgain k s u)) refl (record { finding = knows .finding; parent = knows .parent })))
 
+    -- the swap keeps every rank
+    halve-ranks : (i : ℕ) → rank (cond (same (at t (nodeAt h s)) (record { rank = r; parent = u })) halved t) i ≡ rank t i
+    halve-ranks i =
+        split (same (at t (nodeAt h s)) (record { rank = r; parent = u }))
+        (λ e. rw e (halved-ranks (admitted .formed) may parents ranks i))
+        (λ e. rw e refl)
+
   read-again : (k : Kind) (s : Side) (u : ℕ)
       → ReadingAgain n (parent t) (rank t) B (sameSet a b) k (h .x) (h .y) (nodeAt h s) u → Next t (moveUp h k s (parent t u))
   read-again k s u knows =
@@ -220,6 +235,19 @@ module _ {n : ℕ} {t : List Node} {B : ℕ → ℕ} {a b : ℕ} (admitted : Adm
   stage-step (Link r e) busy knows = no-union (knows .finding .kind)
   stage-step (Raise r) busy knows = no-union (knows .kind)
 
+  stage-ranks : (st : Stage) → Knows n (parent t) (rank t) B (λ point. B a ≢ B b) used (sameSet a b) h st
+      → (i : ℕ) → rank (touched t (accessAt h st)) i ≡ rank t i
+  stage-ranks Resting knows i = refl
+  stage-ranks (ReadNode k s) knows i = refl
+  stage-ranks (ReadParent k s r u) knows i = refl
+  stage-ranks (Halve k s r u w) knows i = halve-ranks k s r u w knows i
+  stage-ranks (ReadAgain k s u) knows i = refl
+  stage-ranks (RereadX point) knows i = refl
+  stage-ranks ReadRankX knows i = refl
+  stage-ranks (ReadRankY r) knows i = refl
+  stage-ranks (Link r e) knows i = no-union (knows .finding .kind)
+  stage-ranks (Raise r) knows i = no-union (knows .kind)
+
 module _ {n : ℕ} {t : List Node} {B : ℕ → ℕ} {a b used : ℕ} {h : Head} {answer : Answer} (serving : Serving n B a b t used h answer) where
   pub serving-step : isFinal answer ≡ false
       → Serving n B a b (touched t (accessOf h)) (suc used) (granted h t used .head) (granted h t used .event .answer)
@@ -227,6 +255,11 @@ module _ {n : ℕ} {t : List Node} {B : ℕ → ℕ} {a b used : ℕ} {h : Head}
   serving-step unfinished =
       stage-step (serving .admitted) (serving .labelled) (serving .inside) used h (h .stage) (serving .rests ∙ unfinished)
         (serving .knows)
+
+  -- no step changes a rank
+  pub serving-ranks : (i : ℕ) → rank (touched t (accessOf h)) i ≡ rank t i
+  unfolding accessOf
+  serving-ranks = stage-ranks (serving .admitted) (serving .labelled) (serving .inside) used h (h .stage) (serving .knows)
 
   -- ---- what the code needs of the head's stage
 
@@ -260,6 +293,16 @@ module _ {n : ℕ} {t : List Node} {B : ℕ → ℕ} {a b used : ℕ} {h : Head}
 
   pub serving-raisable : Raisable (h .stage)
   serving-raisable = raisable-at (h .stage) (serving .knows)
+
+-- the enquiry goes on where the step gave no answer
+pub serving-goes-on : {n : ℕ} {t : List Node} {B : ℕ → ℕ} {a b used : ℕ} {h : Head} → Serving n B a b t used h Unfinished
+    → isFinal (granted h t used .event .answer) ≡ false
+    → Serving n B a b (touched t (accessOf h)) (suc used) (granted h t used .head) Unfinished
+serving-goes-on {n} {t} {B} {a} {b} {used} {h} serving e =
+    subst
+    (Serving n B a b (touched t (accessOf h)) (suc used) (granted h t used .head))
+    (unfinished (granted h t used .event .answer) e)
+    (serving-step serving refl)
 
 -- an enquiry begins with its own two nodes
 pub serving-start : {n : ℕ} {t : List Node} {B : ℕ → ℕ} {a b : ℕ} → Admitted n t → Labelled n (parent t) B → Inside n (sameSet a b)

@@ -2,3 +2,4 @@
 pub mod Query
 pub mod Progress
 pub mod Ready
+pub mod Faithful

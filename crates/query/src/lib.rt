@@ -17,6 +17,7 @@ ghost use Rattle.forest.specs.Forest.{Leads};
 ghost use Rattle.rules.specs.Table.{parent, seen, touched};
 ghost use Rattle.query.specs.Query.{isFaulty, anyFaulty, refusal, queried};
 ghost use Rattle.query.specs.Progress.{isOver, isClimbing, progressed, tableAfter, rest};
+ghost use Rattle.query.specs.Faithful.{Faithful};
 ghost use Rattle.query.specs.Ready.{Admitted, Touchable, Ready};
 
 // What an enquiry is told: 0, its answer (3 yes, 4 no, 0 spent) and the grants used; or a refusal's number and zeros.
@@ -224,9 +225,11 @@ fn move_on(table: &mut [u32], p: Progress) -> Queried
     look(table, moved)
 }
 
-// Makes an enquiry: are x and y in one set, within a budget of grants? Refused, it writes nothing.
+// Makes an enquiry: are x and y in one set, within a budget of grants? Refused, it writes nothing. Whatever the budget,
+// the sets stay, and yes and no are right.
 pub fn query(table: &mut [u32], x: u32, y: u32, budget: u16) -> Queried
-    ensures { λ r. ⌜ record { queried = r; table = now (table .exit) } ≡ queried (now (table .entry)) x y budget ⌝ }
+    ensures exact { λ r. ⌜ record { queried = r; table = now (table .exit) } ≡ queried (now (table .entry)) x y budget ⌝ }
+    ensures faithful { λ r. ⌜ (r .number ≡ 0 → Faithful (now (table .entry)) x y budget (record { queried = r; table = now (table .exit) })) ⌝ }
 {
     let number = refusal_of(table, x, y);
     if number != 0 {

@@ -3,6 +3,7 @@ use denote.Ref.{now}
 use native.Mathlib.Omega.{arith}
 use borrow.Author.Needs.{needs}
 use Rattle.query.proofs.Grants.{query-refused, query-accepted, query-ready, query-answered}
+use Rattle.query.proofs.Faithful.{told-faithful}
 use Rattle.query.proofs.query.Statement.{statement}
 use Rattle.query.proofs.query.Tie as tie
 
@@ -16,7 +17,8 @@ returns : tie.Need-returns
 returns c =
     let checked = c .before .refusal-of in
     let a = c .before .before .before .before .args in
-    query-refused (now (a .table)) (a .x) (a .y) (checked .result) (checked .ensures) (c .if1 .taken) (a .budget)
+    ( query-refused (now (a .table)) (a .x) (a .y) (checked .result) (checked .ensures) (c .if1 .taken) (a .budget),
+      λ none. absurd (c .if1 .taken none) )
 
 cast-t12 : tie.Need-cast-t12
 cast-t12 c =
@@ -55,8 +57,10 @@ returns-2 c =
     let tested = c .before .before .before .before .before in
     let checked = tested .before .refusal-of in
     let a = tested .before .before .before .before .args in
-    query-answered (now (a .table)) (a .x) (a .y) (checked .result) (checked .ensures) (tested .if1 .left) (a .budget)
-      (begun .result) (begun .ensures) _ (looked .ensures)
+    let exact =
+      query-answered (now (a .table)) (a .x) (a .y) (checked .result) (checked .ensures) (tested .if1 .left) (a .budget)
+        (begun .result) (begun .ensures) _ (looked .ensures) in
+    (exact, told-faithful (now (a .table)) (a .x) (a .y) (a .budget) _ exact)
 
 pub query-spec : {M : Type 1} → statement M
 query-spec =
