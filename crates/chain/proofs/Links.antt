@@ -1,7 +1,7 @@
 -- The loop that fills the table, by what is left to link.
 --
 --   Linking n start table i   the nodes below i are left; linked, they make the chain of n
-use mathlib.Core.Path.{_≡_, refl, sym, ap, _∙_}
+use mathlib.Core.Path.{_≡_, refl, ap, _∙_}
 use mathlib.Core.List.{List}
 use Prim.Native.Nat.{ℕ, zero, suc, _-_, _≤_, _<_}
 use native.Mathlib.Omega.{arith}

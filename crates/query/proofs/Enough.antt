@@ -11,7 +11,7 @@
 -- Main law: steps-enough, an enquiry with enough grants is answered.
 use mathlib.Core.Path.{_≡_, refl, sym, ap, _∙_}
 use mathlib.Core.Logic.{_≢_}
-use mathlib.Core.Bool.{Bool, true, false, cond, true≢false}
+use mathlib.Core.Bool.{true, false, cond, true≢false}
 use mathlib.Core.List.{List}
 use Prim.Native.Nat.{ℕ, zero, suc, _+_, _*_, _≤_, _<_}
 use native.Mathlib.Omega.{arith}
@@ -56,13 +56,13 @@ higher-less n r v u inside before =
     omega (
       arith,
       count-sum
-      (λ i. ltb (key (r u) u) (key (r i) i))
-      (λ i. eqb i u)
-      (λ i. ltb (key (r v) v) (key (r i) i))
-      n
-      (λ i l e. ne-eqb i u (λ d. other i (ltb-true (key (r u) u) (key (r i) i) e) d))
-      (λ i l e. lt-ltb (key (r v) v) (key (r i) i) (omega (arith, before, ltb-true (key (r u) u) (key (r i) i) e)))
-      (λ i l e. lt-ltb (key (r v) v) (key (r i) i) (rw (eqb-true i u e) before)),
+          (λ i. ltb (key (r u) u) (key (r i) i))
+          (λ i. eqb i u)
+          (λ i. ltb (key (r v) v) (key (r i) i))
+          n
+          (λ i l e. ne-eqb i u (λ d. other i (ltb-true (key (r u) u) (key (r i) i) e) d))
+          (λ i l e. lt-ltb (key (r v) v) (key (r i) i) (omega (arith, before, ltb-true (key (r u) u) (key (r i) i) e)))
+          (λ i l e. lt-ltb (key (r v) v) (key (r i) i) (rw (eqb-true i u e) before)),
       count-positive (λ i. eqb i u) n u inside (eq-eqb u u refl),
     )
   where
@@ -75,13 +75,13 @@ higher-below n r v inside =
     omega (
       arith,
       count-sum
-      (λ i. ltb (key (r v) v) (key (r i) i))
-      (λ i. eqb i v)
-      (λ i. true)
-      n
-      (λ i l e. ne-eqb i v (λ d. other i (ltb-true (key (r v) v) (key (r i) i) e) d))
-      (λ i l e. refl)
-      (λ i l e. refl),
+          (λ i. ltb (key (r v) v) (key (r i) i))
+          (λ i. eqb i v)
+          (λ i. true)
+          n
+          (λ i l e. ne-eqb i v (λ d. other i (ltb-true (key (r v) v) (key (r i) i) e) d))
+          (λ i l e. refl)
+          (λ i l e. refl),
       count-positive (λ i. eqb i v) n v inside (eq-eqb v v refl),
       count-le (λ i. true) n,
     )
@@ -157,8 +157,8 @@ module _ {n : ℕ} {t : List Node} (r : ℕ → ℕ) (admitted : Admitted n t) (
   read-node k s kind needs =
       split (eqb (parent t v) v)
       (λ e. rw e
-        (find-ended k s kind (eqb-true (parent t v) v e)
-          (record { fixed = needs .fixed; enough = omega (arith, root-need e, needs .enough) })))
+      (find-ended k s kind (eqb-true (parent t v) v e)
+      (record { fixed = needs .fixed; enough = omega (arith, root-need e, needs .enough) })))
       (λ e. rw e (λ f. climbs e))
     where
       v : ℕ
@@ -198,7 +198,7 @@ module _ {n : ℕ} {t : List Node} (r : ℕ → ℕ) (admitted : Admitted n t) (
       further : parent t (parent t u) ≢ parent t u → higher n r (parent t u) + 1 ≤ higher n r u
       further d =
           higher-less n r u (parent t u) (admitted .formed .inside u (above .node))
-            (omega (arith, admitted .formed .rising u (above .node) (λ e. d (ap (parent t) e)), ranks u, ranks (parent t u)))
+          (omega (arith, admitted .formed .rising u (above .node) (λ e. d (ap (parent t) e)), ranks u, ranks (parent t u)))
 
   read-again : {B : ℕ → ℕ} (k : Kind) (s : Side) (u : ℕ) → Above n (parent t) (rank t) B (nodeAt h s) u
       → Enough n (parent t) r h (ReadAgain k s u) (suc m) → Goes t (moveUp h k s (parent t u))
@@ -267,10 +267,10 @@ module _ {n : ℕ} {B : ℕ → ℕ} {a b : ℕ} (r : ℕ → ℕ) where
       split (isFinal (granted h t used .event .answer))
       (λ e. rw e (final-number (granted h t used .event .answer) e))
       (λ e. rw e
-        (steps-enough m (suc used) (granted h t used .head) (touched t (accessOf h))
-          (serving-goes-on serving e)
-          (λ i. serving-ranks serving i ∙ ranks i)
-          (step-enough used h m serving ranks needs e)))
+      (steps-enough m (suc used) (granted h t used .head) (touched t (accessOf h))
+      (serving-goes-on serving e)
+      (λ i. serving-ranks serving i ∙ ranks i)
+      (step-enough used h m serving ranks needs e)))
 
 -- four grants a node, and three, are enough at the start
 pub start-enough : (n : ℕ) (p r : ℕ → ℕ) (a b budget : ℕ) → a < n → b < n → 4 * n + 3 ≤ budget

@@ -5,7 +5,7 @@
 -- Main law: queried-faithful.
 use mathlib.Core.Path.{_≡_, refl, sym, ap, _∙_, subst}
 use mathlib.Core.Logic.{_≢_, _↔_}
-use mathlib.Core.Bool.{Bool, true, false, cond, true≢false}
+use mathlib.Core.Bool.{true, false, true≢false}
 use mathlib.Core.List.{List, map}
 use Prim.Native.Nat.{ℕ, zero, suc, _+_, _*_, _≤_, _<_}
 use native.Mathlib.Omega.{arith}
@@ -92,11 +92,11 @@ module _ {n : ℕ} {B : ℕ → ℕ} {x y : ℕ} where
   steps-ended (suc budget) used limit h t sum serving =
       split (isFinal (granted h t used .event .answer))
       (λ e. rw e
-        (answered-ended (granted h t used .event .answer) (suc used) limit (granted h t used .head) (touched t (accessOf h))
-          (serving-step serving refl) (omega (arith, sum)) (λ f. absurd (true≢false (sym e ∙ f)))))
+      (answered-ended (granted h t used .event .answer) (suc used) limit (granted h t used .head) (touched t (accessOf h))
+      (serving-step serving refl) (omega (arith, sum)) (λ f. absurd (true≢false (sym e ∙ f)))))
       (λ e. rw e
-        (steps-ended budget (suc used) limit (granted h t used .head) (touched t (accessOf h)) (omega (arith, sum))
-          (serving-goes-on serving e)))
+      (steps-ended budget (suc used) limit (granted h t used .head) (touched t (accessOf h)) (omega (arith, sum))
+      (serving-goes-on serving e)))
 
 -- ---- from labels to sets
 
@@ -119,11 +119,12 @@ module _ (ws : List ℕ) (x y budget : ℕ) (good : Accepted ws x y) where
 
     same-sets : (i j : ℕ) → i < length ws → j < length ws
         → forest.Together (parentsOf ws) i j ↔ forest.Together (parent (end .nodes)) i j
-    same-sets i j li lj =
-        ( λ z. label-together (end .admitted .formed) (end .labelled) i j li lj
-            (together-label (accepted-admitted good .formed) start-labelled i j li lj z),
-          λ z. label-together (accepted-admitted good .formed) start-labelled i j li lj
-            (together-label (end .admitted .formed) (end .labelled) i j li lj z) )
+    same-sets i j li lj = (
+      λ z. label-together (end .admitted .formed) (end .labelled) i j li lj
+          (together-label (accepted-admitted good .formed) start-labelled i j li lj z),
+      λ z. label-together (accepted-admitted good .formed) start-labelled i j li lj
+          (together-label (end .admitted .formed) (end .labelled) i j li lj z),
+    )
 
     ended-faithful : (4 * length ws + 3 ≤ budget → result .queried .answer ≢ 0) → Faithful ws x y budget result
     ended-faithful enough =
@@ -140,9 +141,9 @@ module _ (ws : List ℕ) (x y budget : ℕ) (good : Accepted ws x y) where
   steps-faithful : Faithful ws x y budget (steps budget 0 (begin (sameSet x y) 0) start)
   steps-faithful =
       ended-faithful (steps budget 0 (begin (sameSet x y) 0) start)
-        (steps-ended budget 0 budget (begin (sameSet x y) 0) start (omega arith) start-serving)
-        (λ l. steps-enough (rank start) budget 0 (begin (sameSet x y) 0) start start-serving (λ i. refl)
-          (start-enough (length ws) (parent start) (rank start) x y budget (good .left) (good .right) l))
+      (steps-ended budget 0 budget (begin (sameSet x y) 0) start (omega arith) start-serving)
+      (λ l. steps-enough (rank start) budget 0 (begin (sameSet x y) 0) start start-serving (λ i. refl)
+      (start-enough (length ws) (parent start) (rank start) x y budget (good .left) (good .right) l))
 
 -- an enquiry that is not refused is faithful
 pub queried-faithful : (ws : List ℕ) (x y budget : ℕ) → queried ws x y budget .queried .number ≡ 0

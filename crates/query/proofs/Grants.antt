@@ -7,7 +7,7 @@
 -- query-answered, the whole enquiry.
 use mathlib.Core.Path.{_≡_, refl, sym, ap, ap₂, _∙_, subst}
 use mathlib.Core.Logic.{_≢_}
-use mathlib.Core.Bool.{Bool, true, false, cond, true≢false}
+use mathlib.Core.Bool.{true, false, cond, true≢false}
 use mathlib.Core.List.{List, map}
 use Prim.Native.Nat.{ℕ, zero, suc, _+_, _-_, _≤_, _<_}
 use native.Mathlib.Omega.{arith}
@@ -74,10 +74,11 @@ module _ (ws : List ℕ) (i : ℕ) (expected new : Node) (able : Touchable (map 
 
     pub swap-wrote : same found expected ≡ true → (w : ℕ) → w ≡ encode new → Sees ws (Cas i expected new) found (set ws i w)
     swap-wrote e w written =
-        let test : same (at (map decode ws) i) expected ≡ true = ap (λ v. same v expected) (sym swap-sees) ∙ e in
-        ( swap-sees,
+        let test : same (at (map decode ws) i) expected ≡ true = ap (λ v. same v expected) (sym swap-sees) ∙ e in (
+          swap-sees,
           rw (test, written)
-          (ap (λ l. set l i (encode new)) (words-kept ws (able .admitted)) ∙ sym (map-set encode (map decode ws) i new)) )
+              (ap (λ l. set l i (encode new)) (words-kept ws (able .admitted)) ∙ sym (map-set encode (map decode ws) i new)),
+        )
 
     pub swap-failed : same found expected ≡ false → Sees ws (Cas i expected new) found ws
     swap-failed e =
@@ -144,15 +145,16 @@ grant-touchable p access ready e =
 pub grant-made : (ws : List ℕ) (p : Progress) (access : Access) (found : Node) (ws′ : List ℕ) (next : Advanced) → isOver p ≡ false
     → access ≡ accessOf (p .head) → Sees ws access found ws′ → next ≡ advanceOf (p .head) found (p .used + 1)
     → (record { head = next .head; answer = next .event .answer; used = p .used + 1; left = p .left - 1 } ≡ progressed p (map decode ws))
-      × (ws′ ≡ map encode (tableAfter p (map decode ws)))
+    × (ws′ ≡ map encode (tableAfter p (map decode ws)))
 unfolding progressed tableAfter
 grant-made ws p access found ws′ next more chosen sees made =
     let number : p .used + 1 ≡ suc (p .used) = omega arith in
     let word : found ≡ seen (map decode ws) (accessOf (p .head)) = sees .0 ∙ ap (seen (map decode ws)) chosen in
     let to : next ≡ granted (p .head) (map decode ws) (p .used) = made ∙ ap₂ (advanceOf (p .head)) word number in
-    rw more
-    ( λ i. record { head = to i .head; answer = to i .event .answer; used = p .used + 1; left = p .left - 1 },
-      sees .1 ∙ ap (λ a. map encode (touched (map decode ws) a)) chosen )
+    rw more (
+      λ i. record { head = to i .head; answer = to i .event .answer; used = p .used + 1; left = p .left - 1 },
+      sees .1 ∙ ap (λ a. map encode (touched (map decode ws) a)) chosen,
+    )
 
 pub ready-step : {p : Progress} {t : List Node} → Ready t p → Ready (tableAfter p t) (progressed p t)
 unfolding progressed tableAfter
@@ -167,11 +169,11 @@ ready-step {p} {t} ready = split (isOver p) (λ e. rw e ready) (λ e. rw e (move
           x = ready .x;
           y = ready .y;
           serving =
-            subst
-            (λ used. Serving (ready .nodes) (ready .labels) (ready .x) (ready .y) (touched t (accessOf (p .head))) used
+              subst
+              (λ used. Serving (ready .nodes) (ready .labels) (ready .x) (ready .y) (touched t (accessOf (p .head))) used
               (granted (p .head) t (p .used) .head) (granted (p .head) t (p .used) .event .answer))
-            next
-            (serving-step (ready .serving) (more .unanswered));
+              next
+              (serving-step (ready .serving) (more .unanswered));
           room = omega (arith, ready .room, more .grant);
         }
 
@@ -179,9 +181,9 @@ ready-step {p} {t} ready = split (isOver p) (λ e. rw e ready) (λ e. rw e (move
 
 steps-going : (budget used : ℕ) (h : Head) (t : List Node) → 1 ≤ budget
     → steps budget used h t
-      ≡ cond (isFinal (granted h t used .event .answer))
-        (answered (granted h t used .event .answer) (used + 1) (touched t (accessOf h)))
-        (steps (budget - 1) (used + 1) (granted h t used .head) (touched t (accessOf h)))
+    ≡ cond (isFinal (granted h t used .event .answer))
+    (answered (granted h t used .event .answer) (used + 1) (touched t (accessOf h)))
+    (steps (budget - 1) (used + 1) (granted h t used .head) (touched t (accessOf h)))
 steps-going zero used h t l = absurd (omega arith)
 steps-going (suc budget) used h t l =
     let left : suc budget - 1 ≡ budget = omega arith in
@@ -252,11 +254,11 @@ ready-start ws x y budget h e small good =
       x = x;
       y = y;
       serving =
-        rw e
-        (serving-start
-        (accepted-admitted good)
-        (root-labelled (accepted-admitted good .formed))
-        (record { x = good .left; y = good .right }));
+          rw e
+          (serving-start
+          (accepted-admitted good)
+          (root-labelled (accepted-admitted good .formed))
+          (record { x = good .left; y = good .right }));
       room = omega (arith, small);
     }
 

@@ -2,8 +2,7 @@
 --
 -- Main laws: halved-formed and halved-labelled, the table stays well formed and its sets stay; halved-later, what the
 -- head knows stays.
-use mathlib.Core.Path.{_≡_, refl, sym, ap, _∙_, subst, fun-ext}
-use mathlib.Core.Logic.{_≢_}
+use mathlib.Core.Path.{_≡_, sym, subst, fun-ext}
 use Prim.Native.Nat.{ℕ, _<_}
 use native.Mathlib.Omega.{arith}
 use native.Mathlib.Decide.{ℕ-discrete}

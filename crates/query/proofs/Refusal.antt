@@ -14,11 +14,9 @@ use native.Mathlib.Decide.{ℕ-discrete}
 use lib.Dec.{eqb, ltb, leb}
 use lib.ListN.{length}
 use borrow.Author.Tests.{ltb-false, leb-false}
-use Rattle.linearization.proofs.Tests.{split}
 use Rattle.word.specs.declared.Node.{Node}
 use Rattle.word.specs.Word.{rankOf, parentOf, decode, before, key}
 use Rattle.word.proofs.Laws.{before-key}
-use Rattle.forest.proofs.Forest.{WellFormed}
 use Rattle.rules.specs.Table.{parent, rank}
 use Rattle.query.specs.Query.{wordAt, isFaulty, anyFaulty, refusal}
 use Rattle.query.specs.Ready.{Admitted}

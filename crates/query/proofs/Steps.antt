@@ -3,13 +3,13 @@
 -- Main laws: serving-step, what holds of an enquiry holds after one step more; serving-start, it holds at the start.
 use mathlib.Core.Path.{_≡_, refl, sym, ap, _∙_, subst}
 use mathlib.Core.Logic.{_≢_}
-use mathlib.Core.Bool.{Bool, true, false, cond, true≢false}
+use mathlib.Core.Bool.{true, false, cond, true≢false}
 use mathlib.Core.List.{List}
-use Prim.Native.Nat.{ℕ, suc, _≤_, _<_}
+use Prim.Native.Nat.{ℕ, suc, _<_}
 use native.Mathlib.Omega.{arith}
 use native.Mathlib.Decide.{ℕ-discrete}
 use lib.Dec.{eqb}
-use lib.ListN.{length, set, length-set}
+use lib.ListN.{set, length-set}
 use borrow.Author.Tests.{eqb-true, eqb-false}
 use Rattle.job.specs.declared.Kind.{Kind}
 use Rattle.job.specs.declared.Kind.the-variants.{Union, SameSet}
@@ -27,7 +27,7 @@ use Rattle.process.specs.declared.Advanced.{Advanced}
 use Rattle.process.specs.Process.{isResting, restingAt, nodeAt, staged, movedTo, restart, begin}
 use Rattle.process.specs.Access.{accessAt, accessOf, Raisable}
 use Rattle.process.specs.Advance.{ended, readNode, moveUp, reread, attempt, continue, advanceAt, advanceOf}
-use Rattle.forest.proofs.Forest.{WellFormed, Labelled}
+use Rattle.forest.proofs.Forest.{Labelled}
 use Rattle.forest.proofs.Writes.{Changed}
 use Rattle.forest.proofs.Halving as forest-halving
 use Rattle.linearization.proofs.Tests.{split}
@@ -104,13 +104,13 @@ module _ {n : ℕ} {t : List Node} {B : ℕ → ℕ} {a b : ℕ} (admitted : Adm
   two-nodes SameSet f root e =
       rw e
       (read-on (staged h (RereadX (suc used))) refl
-        (record {
-          finding = f;
-          positive = omega arith;
-          until = omega arith;
-          apart = λ r. ends-two (f .ends)
+      (record {
+        finding = f;
+        positive = omega arith;
+        until = omega arith;
+        apart = λ r. ends-two (f .ends)
             (λ s. eqb-false (h .x) (h .y) e (labelled .apart (h .x) (h .y) (f .left) (f .right) r root s));
-        }))
+      }))
 
   one-node : (k : Kind) → Finding n B (sameSet a b) k (h .x) (h .y) → eqb (h .x) (h .y) ≡ true → Next t (ended h k Y (suc used))
   one-node Union f e = no-union (f .kind)
@@ -129,8 +129,8 @@ module _ {n : ℕ} {t : List Node} {B : ℕ → ℕ} {a b : ℕ} (admitted : Adm
       split (eqb (parent t v) v)
       (λ e. rw e (find-ended k s f (eqb-true (parent t v) v e)))
       (λ e. rw e
-        (read-on (staged h (ReadParent k s (rank t v) (parent t v))) refl
-          (record { finding = f; parent = own-parent v (side-node h f s) (eqb-false (parent t v) v e); rank = refl })))
+      (read-on (staged h (ReadParent k s (rank t v) (parent t v))) refl
+      (record { finding = f; parent = own-parent v (side-node h f s) (eqb-false (parent t v) v e); rank = refl })))
     where
       v : ℕ
       v = nodeAt h s
@@ -140,12 +140,12 @@ module _ {n : ℕ} {t : List Node} {B : ℕ → ℕ} {a b : ℕ} (admitted : Adm
       → Next t (continue h (Halve k s r u (parent t u)))
   read-parent k s r u knows =
       read-on (staged h (Halve k s r u (parent t u))) refl
-        (record {
-          finding = knows .finding;
-          parent = knows .parent;
-          grandparent = above-parent (knows .parent);
-          rank = knows .rank;
-        })
+      (record {
+        finding = knows .finding;
+        parent = knows .parent;
+        grandparent = above-parent (knows .parent);
+        rank = knows .rank;
+      })
 
   module _ (k : Kind) (s : Side) (r u w : ℕ)
       (knows : Halving n (parent t) (rank t) B (sameSet a b) k (h .x) (h .y) (nodeAt h s) r u w) where
@@ -184,7 +184,7 @@ module _ {n : ℕ} {t : List Node} {B : ℕ → ℕ} {a b : ℕ} (admitted : Adm
           labelled = halved-labelled (admitted .formed) may parents ranks labelled;
           inside = inside;
           knows =
-            knows-later (halved-later (admitted .formed) may parents ranks) inside
+              knows-later (halved-later (admitted .formed) may parents ranks) inside
               {Apart = λ point. B a ≢ B b} {Apart′ = λ point. B a ≢ B b} {now = used} {now′ = suc used}
               (omega arith) (λ point l z. z) h (ReadAgain k s u)
               (record { finding = knows .finding; parent = knows .parent });
@@ -210,8 +210,8 @@ module _ {n : ℕ} {t : List Node} {B : ℕ → ℕ} {a b : ℕ} (admitted : Adm
       → ReadingAgain n (parent t) (rank t) B (sameSet a b) k (h .x) (h .y) (nodeAt h s) u → Next t (moveUp h k s (parent t u))
   read-again k s u knows =
       read-on (staged (movedTo h s (parent t u)) (ReadNode k s)) refl
-        (finding-moved h s (parent t u) (knows .finding) (admitted .formed .inside u (knows .parent .node))
-          (labelled .along u (knows .parent .node) ∙ knows .parent .same))
+      (finding-moved h s (parent t u) (knows .finding) (admitted .formed .inside u (knows .parent .node))
+      (labelled .along u (knows .parent .node) ∙ knows .parent .same))
 
   reread-x : (point : ℕ) → Rereading n (parent t) B (λ point. B a ≢ B b) used (sameSet a b) (h .x) (h .y) point
       → Next t (reread h point (at t (h .x)))
@@ -254,7 +254,7 @@ module _ {n : ℕ} {t : List Node} {B : ℕ → ℕ} {a b used : ℕ} {h : Head}
   unfolding accessOf advanceOf
   serving-step unfinished =
       stage-step (serving .admitted) (serving .labelled) (serving .inside) used h (h .stage) (serving .rests ∙ unfinished)
-        (serving .knows)
+      (serving .knows)
 
   -- no step changes a rank
   pub serving-ranks : (i : ℕ) → rank (touched t (accessOf h)) i ≡ rank t i

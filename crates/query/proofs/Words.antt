@@ -1,11 +1,11 @@
 -- A table as words and as nodes: from one to the other and back, and one word read or written.
 --
 --   Encodable t   every node of t has a word
-use mathlib.Core.Path.{_≡_, refl, ap, _∙_}
+use mathlib.Core.Path.{_≡_, refl, ap}
 use mathlib.Core.List.{List, [], _∷_, map}
-use Prim.Native.Nat.{ℕ, zero, suc, _≤_, _<_}
+use Prim.Native.Nat.{ℕ, zero, suc, _<_}
 use native.Mathlib.Omega.{arith}
-use lib.ListN.{length, getD, set}
+use lib.ListN.{length, set}
 use Rattle.word.specs.declared.Node.{Node}
 use Rattle.word.specs.Word.{rankOf, parentOf, decode, encode, rankLimit, nodeLimit}
 use Rattle.word.proofs.Laws.{decode-encode, encode-decode}

@@ -7,7 +7,7 @@
 --   rest p t          the result of the enquiry from here on
 use mathlib.Core.Bool.{Bool, true, false, cond}
 use mathlib.Core.List.{List}
-use Prim.Native.Nat.{ℕ, _+_, _-_}
+use Prim.Native.Nat.{_+_, _-_}
 use lib.Dec.{eqb}
 use Rattle.word.specs.declared.Node.{Node}
 use Rattle.process.specs.declared.Stage.{Stage}

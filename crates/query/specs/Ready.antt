@@ -2,7 +2,8 @@
 -- Everywhere n is the number of nodes, and B gives each node a label: two nodes have one label when they share a set.
 --
 --   Admitted n t             a table whose words were admitted
---   Touchable t access       the access is to a node of an admitted table
+--   Inner n access           the access is to one of n nodes
+--   Touchable t access       the access is to a node of the admitted table t
 --   Says B x y answer        the answer is right about the sets of x and y
 --   Serving n B x y t used   what holds of the enquiry about x and y after so many grants
 --   Ready t p                what holds of an enquiry that may go on

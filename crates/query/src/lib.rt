@@ -59,7 +59,12 @@ fn is_faulty(table: &[u32], i: u32) -> bool
     if 12 < word::rank(word) {
         return true;
     }
-    stands_before(word::rank(table[parent as usize]), parent, word::rank(word), i)
+    stands_before(
+        word::rank(table[parent as usize]),
+        parent,
+        word::rank(word),
+        i,
+    )
 }
 
 // Whether any word cannot stand in this table.
@@ -233,11 +238,28 @@ pub fn query(table: &mut [u32], x: u32, y: u32, budget: u16) -> Queried
 {
     let number = refusal_of(table, x, y);
     if number != 0 {
-        return Queried { number, answer: 0, used: 0 };
+        return Queried {
+            number,
+            answer: 0,
+            used: 0,
+        };
     }
-    let request = Request { head: 0, kind: Kind::SameSet, x: x as u16, y: y as u16 };
+    let request = Request {
+        head: 0,
+        kind: Kind::SameSet,
+        x: x as u16,
+        y: y as u16,
+    };
     let head = process::begun(request, 0);
-    look(table, Progress { head, answer: Answer::Unfinished, used: 0, left: budget })
+    look(
+        table,
+        Progress {
+            head,
+            answer: Answer::Unfinished,
+            used: 0,
+            left: budget,
+        },
+    )
 }
 
 // The root that a node of an admitted table leads to, by a plain walk.

@@ -84,11 +84,11 @@ look-returns : (t : ℕ) → look-lts.Need-returns (
   look-below t,
   look.Post,
 ) (look-at t) look.Post
-look-returns t c = 
+look-returns t c =
     let tested = c .before in
     let start = tested .before .before .before in
     told-over (now (start .args .table)) (start .args .p) (c .told .result) (start .pre .1)
-      (sym (tested .before .is-over .ensures) ∙ tested .if1 .taken) (c .told .ensures)
+    (sym (tested .before .is-over .ensures) ∙ tested .if1 .taken) (c .told .ensures)
 
 look-grant-requires : (t : ℕ) → look-lts.Need-grant-requires (
   is-over-reads.Asked,
@@ -136,7 +136,7 @@ look-move-on-requires : (t : ℕ) → look-lts.Need-move-on-requires (
   look-below t,
   look.Post,
 ) (look-at t) look.Post
-look-move-on-requires t c κs = 
+look-move-on-requires t c κs =
     let granted = c .before .before .before .before .before .before in
     let tested = granted .before .before in
     let start = tested .before .before .before in
@@ -173,7 +173,7 @@ look-returns-2 : (t : ℕ) → look-lts.Need-returns-2 (
   look-below t,
   look.Post,
 ) (look-at t) look.Post
-look-returns-2 t c = 
+look-returns-2 t c =
     let granted = c .before .before .before .before .before .before .before .before .before in
     let tested = granted .before .before in
     let start = tested .before .before .before in
@@ -194,7 +194,7 @@ look-look-requires : (t : ℕ) → look-lts.Need-look-requires (
   look-below t,
   look.Post,
 ) (look-at t) look.Post
-look-look-requires t c κs = 
+look-look-requires t c κs =
     let granted = c .before .before .before .before .before .before in
     let tested = granted .before .before in
     let start = tested .before .before .before in
@@ -231,7 +231,7 @@ look-returns-3 : (t : ℕ) → look-lts.Need-returns-3 (
   look-below t,
   look.Post,
 ) (look-at t) look.Post
-look-returns-3 t c = 
+look-returns-3 t c =
     let granted = c .before .before .before .before .before .before .before .before .before in
     let tested = granted .before .before in
     let start = tested .before .before .before in
@@ -272,11 +272,11 @@ move-on-returns : (t : ℕ) → move-on-lts.Need-returns (
   look-below t,
   look.Post,
 ) (move-on-at t) move-on.Post
-move-on-returns t c = 
+move-on-returns t c =
     let tested = c .before in
     let start = tested .before .before .before in
     told-over (now (start .args .table)) (start .args .p) (c .told .result) (start .pre .1)
-      (sym (tested .before .is-over .ensures) ∙ tested .if1 .taken) (c .told .ensures)
+    (sym (tested .before .is-over .ensures) ∙ tested .if1 .taken) (c .told .ensures)
 
 move-on-grant-requires : (t : ℕ) → move-on-lts.Need-grant-requires (
   is-over-reads.Asked,
@@ -300,7 +300,7 @@ move-on-grant-requires-2 : (t : ℕ) → move-on-lts.Need-grant-requires-2 (
   look-below t,
   look.Post,
 ) (move-on-at t) move-on.Post
-move-on-grant-requires-2 t c κs = 
+move-on-grant-requires-2 t c κs =
     let granted = c .before .before .before in
     let tested = granted .before .before in
     let start = tested .before .before .before in
@@ -317,7 +317,7 @@ move-on-grant-requires-3 : (t : ℕ) → move-on-lts.Need-grant-requires-3 (
   look-below t,
   look.Post,
 ) (move-on-at t) move-on.Post
-move-on-grant-requires-3 t c κs = 
+move-on-grant-requires-3 t c κs =
     let granted = c .before .before .before .before .before .before .before in
     let tested = granted .before .before in
     let start = tested .before .before .before in
@@ -335,21 +335,22 @@ move-on-look-requires : (t : ℕ) → move-on-lts.Need-look-requires (
   look-below t,
   look.Post,
 ) (move-on-at t) move-on.Post
-move-on-look-requires t c κs = 
+move-on-look-requires t c κs =
     let granted = c .before .before .before .before .before .before .before .before .before .before .before in
     let tested = granted .before .before in
     let start = tested .before .before .before in
     let read = carried (now (start .args .table)) _ (start .args .p) _ (start .pre .1) (granted .grant .ensures .0) (granted .grant .ensures .1) in
     let swapped = carried-on read (c .before .before .before .before .before .before .before .grant2 .ensures .0) (c .before .before .before .before .before .before .before .grant2 .ensures .1) in
-    let moved = carried-on swapped (c .before .before .before .grant3 .ensures .0) (c .before .before .before .grant3 .ensures .1) in
-    ( omega (
+    let moved = carried-on swapped (c .before .before .before .grant3 .ensures .0) (c .before .before .before .grant3 .ensures .1) in (
+      omega (
         arith,
         start .pre .0,
         read .falls (sym (tested .before .is-over .ensures) ∙ tested .if1 .left),
         swapped .keeps,
         moved .keeps,
       ),
-      moved .ready )
+      moved .ready,
+    )
 
 move-on-same-length : (t : ℕ) → move-on-lts.Need-same-length (
   is-over-reads.Asked,
@@ -373,7 +374,7 @@ move-on-returns-2 : (t : ℕ) → move-on-lts.Need-returns-2 (
   look-below t,
   look.Post,
 ) (move-on-at t) move-on.Post
-move-on-returns-2 t c = 
+move-on-returns-2 t c =
     let granted = c .before .before .before .before .before .before .before .before .before .before .before .before .before .before in
     let tested = granted .before .before in
     let start = tested .before .before .before in

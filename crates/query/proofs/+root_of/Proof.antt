@@ -55,7 +55,7 @@ root-of-returns : (t : ℕ) → root-of-lts.Need-returns (
 root-of-returns t c =
     let start = c .before .before .before .before in
     walk-ends (now (start .args .table)) (start .args .node) (start .pre .1 .0) (start .pre .1 .1) (c .before .parent .result)
-      (c .before .parent .ensures) (c .if1 .taken)
+    (c .before .parent .ensures) (c .if1 .taken)
 
 root-of-root-of-requires : (t : ℕ) → root-of-lts.Need-root-of-requires (
   parent-reads.Asked,
@@ -66,9 +66,10 @@ root-of-root-of-requires : (t : ℕ) → root-of-lts.Need-root-of-requires (
 root-of-root-of-requires t c κs =
     let start = c .before .before .before .before in
     let ws = now (start .args .table) in
-    let above = c .before .parent in
-    ( omega (arith, start .pre .0, walk-falls ws (start .args .node) (start .pre .1 .0) (start .pre .1 .1) (above .result) (above .ensures) (c .if1 .left)),
-      (start .pre .1 .0, walk-inside ws (start .args .node) (start .pre .1 .0) (start .pre .1 .1) (above .result) (above .ensures)) )
+    let above = c .before .parent in (
+      omega (arith, start .pre .0, walk-falls ws (start .args .node) (start .pre .1 .0) (start .pre .1 .1) (above .result) (above .ensures) (c .if1 .left)),
+      (start .pre .1 .0, walk-inside ws (start .args .node) (start .pre .1 .0) (start .pre .1 .1) (above .result) (above .ensures)),
+    )
 
 root-of-returns-2 : (t : ℕ) → root-of-lts.Need-returns-2 (
   parent-reads.Asked,
@@ -80,7 +81,7 @@ root-of-returns-2 t c =
     let above = c .before .before .parent in
     let start = c .before .before .before .before .before in
     walk-goes-on (now (start .args .table)) (start .args .node) (start .pre .1 .0) (start .pre .1 .1) (above .result)
-      (above .ensures) (c .before .if1 .left) (c .root-of .result) (c .root-of .ensures)
+    (above .ensures) (c .before .if1 .left) (c .root-of .result) (c .root-of .ensures)
 
 pub +root-of-spec : {M : Type 1} → statement M
 +root-of-spec = close μ-root-of λ t. root-of-lts.spec (

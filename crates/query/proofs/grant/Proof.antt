@@ -55,8 +55,8 @@ returns-2 c =
     let tested = chosen .before .before in
     let start = tested .before .before .before in
     grant-made (now (start .args .table)) (start .args .p) (chosen .next-access .result) (touched .touch .result) _
-      (moved .advance .result) (sym (tested .before .is-over .ensures) ∙ tested .if1 .left) (chosen .next-access .ensures)
-      (touched .touch .ensures) (moved .advance .ensures)
+    (moved .advance .result) (sym (tested .before .is-over .ensures) ∙ tested .if1 .left) (chosen .next-access .ensures)
+    (touched .touch .ensures) (moved .advance .ensures)
 
 pub grant-spec : {M : Type 1} → statement M
 grant-spec =

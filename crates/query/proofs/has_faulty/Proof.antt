@@ -9,9 +9,6 @@ use Rattle.query.specs.Query.{anyFaulty}
 use Rattle.query.proofs.Refusal.{any-faulty-step}
 use Rattle.query.proofs.has_faulty.Statement.{statement}
 use Rattle.query.proofs.has_faulty.Tie as tie
-use Rattle.query.proofs.has_faulty.Reads as reads
-use Rattle.query.proofs.has_faulty.Lts as lts
-use Rattle.query.proofs.is_faulty.Reads as is-faulty-reads
 
 abbrev Inv-loop : tie.InvT-loop
 Inv-loop table i₀ i = (i ≤ length table) × (anyFaulty table i ≡ anyFaulty table (length table))
@@ -19,41 +16,33 @@ Inv-loop table i₀ i = (i ≤ length table) × (anyFaulty table i ≡ anyFaulty
 abbrev μ-loop : tie.MeasureT-loop
 μ-loop table i₀ i = i
 
--- src/lib.rt:47:17
 cast-i : tie.Need-cast-i Inv-loop μ-loop
 cast-i c = omega (arith, c .before .pre)
 
--- src/lib.rt:48:5
 loop-holds : tie.Need-loop-holds Inv-loop μ-loop
 loop-holds c = (omega arith, refl)
 
--- src/lib.rt:49:9
 sub-i : tie.Need-sub-i Inv-loop μ-loop
 sub-i c = search needs
 
--- src/lib.rt:50:12
 is-faulty-requires : tie.Need-is-faulty-requires Inv-loop μ-loop
 is-faulty-requires c κs = omega (arith, c .before .loop .inv .0)
 
--- src/lib.rt:51:13
 returns : tie.Need-returns Inv-loop μ-loop
 returns c =
     let l = c .before .before in
     let ws = now (l .before .before .before .args .table) in
     sym (any-faulty-step ws (l .before .loop .i) (omega arith) ∙ rw (← c .before .is-faulty .ensures, c .if1 .taken) refl) ∙ l .before .loop .inv .1
 
--- src/lib.rt:48:5
 loop-less : tie.Need-loop-less Inv-loop μ-loop
 loop-less c = search needs
 
--- src/lib.rt:48:5
 loop-again : tie.Need-loop-again Inv-loop μ-loop
 loop-again c =
     let l = c .before .before in
     let ws = now (l .before .before .before .args .table) in
     (omega (arith, l .before .loop .inv .0), sym (any-faulty-step ws (l .before .loop .i) (omega arith) ∙ rw (← c .before .is-faulty .ensures, c .if1 .left) refl) ∙ l .before .loop .inv .1)
 
--- src/lib.rt:43:1
 returns-2 : tie.Need-returns-2 Inv-loop μ-loop
 returns-2 c =
     let l = c .before .loop in

@@ -3,67 +3,48 @@ use borrow.Author.Tests.{lt-ltb, le-ltb, le-leb, lt-leb}
 use borrow.Author.Needs.{needs}
 use Rattle.query.proofs.is_faulty.Statement.{statement}
 use Rattle.query.proofs.is_faulty.Tie as tie
-use Rattle.query.proofs.is_faulty.Reads as reads
-use Rattle.query.proofs.is_faulty.Lts as lts
-use Rattle.query.proofs.stands_before.Reads as stands-before-reads
-use Rattle.word.proofs.parent.Reads as parent-reads
-use Rattle.word.proofs.rank.Reads as rank-reads
 
--- src/lib.rt:31:16
 mul-word : tie.Need-mul-word
 mul-word c = search needs
 
--- src/lib.rt:31:16
 shared-slice-read-word : tie.Need-shared-slice-read-word
 shared-slice-read-word c = search needs
 
--- src/lib.rt:32:9
 parent-requires : tie.Need-parent-requires
 parent-requires c κs = search needs
 
--- src/lib.rt:33:24
 cast-if1 : tie.Need-cast-if1
 cast-if1 c = search needs
 
--- src/lib.rt:34:9
 returns : tie.Need-returns
 returns c = simp (← c .before .parent .ensures, le-leb _ _ (c .if1 .taken))
 
--- src/lib.rt:36:13
 rank-requires : tie.Need-rank-requires
 rank-requires c κs = search needs
 
--- src/lib.rt:37:9
 returns-2 : tie.Need-returns-2
 returns-2 c =
     let b = c .before .before in
     simp (← c .before .rank .ensures, ← b .before .parent .ensures, lt-leb _ _ (b .if1 .left), lt-ltb _ _ (c .if2 .taken))
 
--- src/lib.rt:39:36
 cast-rank : tie.Need-cast-rank
 cast-rank c = search needs
 
--- src/lib.rt:39:30
 mul-rank : tie.Need-mul-rank
 mul-rank c = search needs
 
--- src/lib.rt:39:30
 shared-slice-read-rank : tie.Need-shared-slice-read-rank
 shared-slice-read-rank c = search needs
 
--- src/lib.rt:39:19
 rank-requires-2 : tie.Need-rank-requires-2
 rank-requires-2 c κs = search needs
 
--- src/lib.rt:39:63
 rank-requires-3 : tie.Need-rank-requires-3
 rank-requires-3 c κs = search needs
 
--- src/lib.rt:39:5
 stands-before-requires : tie.Need-stands-before-requires
 stands-before-requires c κs = search needs
 
--- src/lib.rt:27:1
 returns-3 : tie.Need-returns-3
 returns-3 c =
     let r = c .before .before in

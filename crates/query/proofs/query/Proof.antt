@@ -16,9 +16,10 @@ same-length c = search needs
 returns : tie.Need-returns
 returns c =
     let checked = c .before .refusal-of in
-    let a = c .before .before .before .before .args in
-    ( query-refused (now (a .table)) (a .x) (a .y) (checked .result) (checked .ensures) (c .if1 .taken) (a .budget),
-      λ none. absurd (c .if1 .taken none) )
+    let a = c .before .before .before .before .args in (
+      query-refused (now (a .table)) (a .x) (a .y) (checked .result) (checked .ensures) (c .if1 .taken) (a .budget),
+      λ none. absurd (c .if1 .taken none),
+    )
 
 cast-t12 : tie.Need-cast-t12
 cast-t12 c =
@@ -45,7 +46,7 @@ look-requires c κs =
     let start = tested .before .before .before .before in
     let a = start .args in
     query-ready (now (a .table)) (a .x) (a .y) (checked .result) (checked .ensures) (tested .if1 .left) (a .budget)
-      (begun .result) (begun .ensures) (omega (arith, start .fits .budget))
+    (begun .result) (begun .ensures) (omega (arith, start .fits .budget))
 
 same-length-2 : tie.Need-same-length-2
 same-length-2 c = search needs
@@ -58,8 +59,8 @@ returns-2 c =
     let checked = tested .before .refusal-of in
     let a = tested .before .before .before .before .args in
     let exact =
-      query-answered (now (a .table)) (a .x) (a .y) (checked .result) (checked .ensures) (tested .if1 .left) (a .budget)
-        (begun .result) (begun .ensures) _ (looked .ensures) in
+    query-answered (now (a .table)) (a .x) (a .y) (checked .result) (checked .ensures) (tested .if1 .left) (a .budget)
+    (begun .result) (begun .ensures) _ (looked .ensures) in
     (exact, told-faithful (now (a .table)) (a .x) (a .y) (a .budget) _ exact)
 
 pub query-spec : {M : Type 1} → statement M

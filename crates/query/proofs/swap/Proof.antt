@@ -44,7 +44,7 @@ returns c =
     let start = tested .before .before .before .before in
     let a = start .args in
     swap-wrote (now (a .table)) (a .node) (a .expected) (a .new) (start .pre) (found .result) (found .ensures)
-      (sym (tested .is-same .ensures) ∙ c .before .if1 .taken) _ (c .encoded .ensures)
+    (sym (tested .is-same .ensures) ∙ c .before .if1 .taken) _ (c .encoded .ensures)
 
 returns-2 : tie.Need-returns-2
 returns-2 c =
@@ -53,7 +53,7 @@ returns-2 c =
     let start = tested .before .before .before .before in
     let a = start .args in
     swap-failed (now (a .table)) (a .node) (a .expected) (a .new) (start .pre) (found .result) (found .ensures)
-      (sym (tested .is-same .ensures) ∙ c .if1 .left)
+    (sym (tested .is-same .ensures) ∙ c .if1 .left)
 
 pub swap-spec : {M : Type 1} → statement M
 swap-spec =

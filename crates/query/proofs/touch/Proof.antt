@@ -38,7 +38,7 @@ swap-requires c κs =
     let start = case .before .before .before in
     let values = case .access2 .given .0 in
     cas-touchable (now (start .args .table)) (start .args .access) (start .pre) (values .0) (values .1 .0) (values .1 .1 .0)
-      (case .access2 .given .1)
+    (case .access2 .given .1)
 
 returns : tie.Need-returns
 returns c =
@@ -50,7 +50,7 @@ returns-2 c =
     let case = c .before .before .before in
     let start = case .before .before .before in
     touch-load (now (start .args .table)) (start .args .access) (start .pre) (case .access .given .0 .0) (case .access .given .1)
-      (c .decoded .result) (c .decoded .ensures)
+    (c .decoded .result) (c .decoded .ensures)
 
 same-length : tie.Need-same-length
 same-length c = search needs
@@ -62,7 +62,7 @@ returns-3 c =
     let start = case .before .before .before in
     let values = case .access2 .given .0 in
     touch-cas (now (start .args .table)) (start .args .access) (start .pre) (values .0) (values .1 .0) (values .1 .1 .0)
-      (case .access2 .given .1) _ _ (swapped .ensures)
+    (case .access2 .given .1) _ _ (swapped .ensures)
 
 pub touch-spec : {M : Type 1} → statement M
 touch-spec =
