@@ -134,14 +134,14 @@ fn touch(table: &mut [u32], access: Access) -> Node
 }
 
 // Whether an enquiry is answered or has no grant left.
-fn is_over(p: Progress) -> bool
-    ensures { λ r. ⌜ r ≡ isOver p ⌝ }
+fn is_over(progress: Progress) -> bool
+    ensures { λ r. ⌜ r ≡ isOver progress ⌝ }
 {
-    let answer = p.answer;
+    let answer = progress.answer;
     if rules::is_final(answer) {
         true
     } else {
-        p.left == 0
+        progress.left == 0
     }
 }
 
@@ -165,50 +165,50 @@ fn is_climbing(head: Head) -> bool
 }
 
 // One grant more, unless the enquiry is over.
-fn grant(table: &mut [u32], p: Progress) -> Progress
-    requires { ⌜ Ready (map decode (now table)) p ⌝ }
-    ensures head { λ r. ⌜ r ≡ progressed p (map decode (now (table .entry))) ⌝ }
-    ensures leaves { λ _. ⌜ now (table .exit) ≡ map encode (tableAfter p (map decode (now (table .entry)))) ⌝ }
+fn grant(table: &mut [u32], progress: Progress) -> Progress
+    requires { ⌜ Ready (map decode (now table)) progress ⌝ }
+    ensures makes { λ r. ⌜ r ≡ progressed progress (map decode (now (table .entry))) ⌝ }
+    ensures leaves { λ _. ⌜ now (table .exit) ≡ map encode (tableAfter progress (map decode (now (table .entry)))) ⌝ }
 {
-    if is_over(p) {
-        return p;
+    if is_over(progress) {
+        return progress;
     }
-    let head = p.head;
+    let head = progress.head;
     let access = process::next_access(head);
     let found = touch(table, access);
-    let advanced = process::advance(head, found, p.used + 1);
+    let advanced = process::advance(head, found, progress.used + 1);
     let next = advanced.head;
     let event = advanced.event;
     let answer = event.answer;
     Progress {
         head: next,
         answer,
-        used: p.used + 1,
-        left: p.left - 1,
+        used: progress.used + 1,
+        left: progress.left - 1,
     }
 }
 
 // What an enquiry that is over is told.
-fn told(p: Progress) -> Queried
-    ensures { λ r. ⌜ r ≡ record { number = 0; answer = answerNumber (p .answer); used = p .used } ⌝ }
+fn told(progress: Progress) -> Queried
+    ensures { λ r. ⌜ r ≡ record { number = 0; answer = answerNumber (progress .answer); used = progress .used } ⌝ }
 {
-    let answer = p.answer;
+    let answer = progress.answer;
     Queried {
         number: 0,
         answer: job::answer_number(answer),
-        used: p.used,
+        used: progress.used,
     }
 }
 
 // Looks at the node at hand: one grant, after which the enquiry is over, moves on from the node, or looks at the next.
-fn look(table: &mut [u32], p: Progress) -> Queried
-    requires { ⌜ Ready (map decode (now table)) p ⌝ }
-    ensures { λ r. ⌜ record { queried = r; table = now (table .exit) } ≡ rest p (map decode (now (table .entry))) ⌝ }
+fn look(table: &mut [u32], progress: Progress) -> Queried
+    requires { ⌜ Ready (map decode (now table)) progress ⌝ }
+    ensures { λ r. ⌜ record { queried = r; table = now (table .exit) } ≡ rest progress (map decode (now (table .entry))) ⌝ }
 {
-    if is_over(p) {
-        return told(p);
+    if is_over(progress) {
+        return told(progress);
     }
-    let next = grant(table, p);
+    let next = grant(table, progress);
     let head = next.head;
     if is_climbing(head) {
         return move_on(table, next);
@@ -217,14 +217,14 @@ fn look(table: &mut [u32], p: Progress) -> Queried
 }
 
 // Moves on from the node at hand, which is no root: reads its parent, swaps, reads the parent again, and looks there.
-fn move_on(table: &mut [u32], p: Progress) -> Queried
-    requires { ⌜ Ready (map decode (now table)) p ⌝ }
-    ensures { λ r. ⌜ record { queried = r; table = now (table .exit) } ≡ rest p (map decode (now (table .entry))) ⌝ }
+fn move_on(table: &mut [u32], progress: Progress) -> Queried
+    requires { ⌜ Ready (map decode (now table)) progress ⌝ }
+    ensures { λ r. ⌜ record { queried = r; table = now (table .exit) } ≡ rest progress (map decode (now (table .entry))) ⌝ }
 {
-    if is_over(p) {
-        return told(p);
+    if is_over(progress) {
+        return told(progress);
     }
-    let read = grant(table, p);
+    let read = grant(table, progress);
     let swapped = grant(table, read);
     let moved = grant(table, swapped);
     look(table, moved)

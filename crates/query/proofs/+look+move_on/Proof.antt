@@ -87,7 +87,7 @@ look-returns : (t : ℕ) → look-lts.Need-returns (
 look-returns t c =
     let tested = c .before in
     let start = tested .before .before .before in
-    told-over (now (start .args .table)) (start .args .p) (c .told .result) (start .pre .1)
+    told-over (now (start .args .table)) (start .args .progress) (c .told .result) (start .pre .1)
     (sym (tested .before .is-over .ensures) ∙ tested .if1 .taken) (c .told .ensures)
 
 look-grant-requires : (t : ℕ) → look-lts.Need-grant-requires (
@@ -140,7 +140,7 @@ look-move-on-requires t c κs =
     let granted = c .before .before .before .before .before .before in
     let tested = granted .before .before in
     let start = tested .before .before .before in
-    let on = carried (now (start .args .table)) _ (start .args .p) _ (start .pre .1) (granted .grant .ensures .0) (granted .grant .ensures .1) in
+    let on = carried (now (start .args .table)) _ (start .args .progress) _ (start .pre .1) (granted .grant .ensures .0) (granted .grant .ensures .1) in
     (omega (arith, start .pre .0, on .falls (sym (tested .before .is-over .ensures) ∙ tested .if1 .left)), on .ready)
 
 look-same-length : (t : ℕ) → look-lts.Need-same-length (
@@ -177,7 +177,7 @@ look-returns-2 t c =
     let granted = c .before .before .before .before .before .before .before .before .before in
     let tested = granted .before .before in
     let start = tested .before .before .before in
-    let on = carried (now (start .args .table)) _ (start .args .p) _ (start .pre .1) (granted .grant .ensures .0) (granted .grant .ensures .1) in
+    let on = carried (now (start .args .table)) _ (start .args .progress) _ (start .pre .1) (granted .grant .ensures .0) (granted .grant .ensures .1) in
     c .before .before .move-on .ensures ∙ on .same
 
 look-look-requires : (t : ℕ) → look-lts.Need-look-requires (
@@ -198,7 +198,7 @@ look-look-requires t c κs =
     let granted = c .before .before .before .before .before .before in
     let tested = granted .before .before in
     let start = tested .before .before .before in
-    let on = carried (now (start .args .table)) _ (start .args .p) _ (start .pre .1) (granted .grant .ensures .0) (granted .grant .ensures .1) in
+    let on = carried (now (start .args .table)) _ (start .args .progress) _ (start .pre .1) (granted .grant .ensures .0) (granted .grant .ensures .1) in
     (omega (arith, start .pre .0, on .falls (sym (tested .before .is-over .ensures) ∙ tested .if1 .left)), on .ready)
 
 look-same-length-2 : (t : ℕ) → look-lts.Need-same-length-2 (
@@ -235,7 +235,7 @@ look-returns-3 t c =
     let granted = c .before .before .before .before .before .before .before .before .before in
     let tested = granted .before .before in
     let start = tested .before .before .before in
-    let on = carried (now (start .args .table)) _ (start .args .p) _ (start .pre .1) (granted .grant .ensures .0) (granted .grant .ensures .1) in
+    let on = carried (now (start .args .table)) _ (start .args .progress) _ (start .pre .1) (granted .grant .ensures .0) (granted .grant .ensures .1) in
     c .before .before .look .ensures ∙ on .same
 
 move-on-is-over-requires : (t : ℕ) → move-on-lts.Need-is-over-requires (
@@ -275,7 +275,7 @@ move-on-returns : (t : ℕ) → move-on-lts.Need-returns (
 move-on-returns t c =
     let tested = c .before in
     let start = tested .before .before .before in
-    told-over (now (start .args .table)) (start .args .p) (c .told .result) (start .pre .1)
+    told-over (now (start .args .table)) (start .args .progress) (c .told .result) (start .pre .1)
     (sym (tested .before .is-over .ensures) ∙ tested .if1 .taken) (c .told .ensures)
 
 move-on-grant-requires : (t : ℕ) → move-on-lts.Need-grant-requires (
@@ -304,7 +304,7 @@ move-on-grant-requires-2 t c κs =
     let granted = c .before .before .before in
     let tested = granted .before .before in
     let start = tested .before .before .before in
-    let read = carried (now (start .args .table)) _ (start .args .p) _ (start .pre .1) (granted .grant .ensures .0) (granted .grant .ensures .1) in
+    let read = carried (now (start .args .table)) _ (start .args .progress) _ (start .pre .1) (granted .grant .ensures .0) (granted .grant .ensures .1) in
     read .ready
 
 move-on-grant-requires-3 : (t : ℕ) → move-on-lts.Need-grant-requires-3 (
@@ -321,7 +321,7 @@ move-on-grant-requires-3 t c κs =
     let granted = c .before .before .before .before .before .before .before in
     let tested = granted .before .before in
     let start = tested .before .before .before in
-    let read = carried (now (start .args .table)) _ (start .args .p) _ (start .pre .1) (granted .grant .ensures .0) (granted .grant .ensures .1) in
+    let read = carried (now (start .args .table)) _ (start .args .progress) _ (start .pre .1) (granted .grant .ensures .0) (granted .grant .ensures .1) in
     let swapped = carried-on read (c .before .before .before .grant2 .ensures .0) (c .before .before .before .grant2 .ensures .1) in
     swapped .ready
 
@@ -339,7 +339,7 @@ move-on-look-requires t c κs =
     let granted = c .before .before .before .before .before .before .before .before .before .before .before in
     let tested = granted .before .before in
     let start = tested .before .before .before in
-    let read = carried (now (start .args .table)) _ (start .args .p) _ (start .pre .1) (granted .grant .ensures .0) (granted .grant .ensures .1) in
+    let read = carried (now (start .args .table)) _ (start .args .progress) _ (start .pre .1) (granted .grant .ensures .0) (granted .grant .ensures .1) in
     let swapped = carried-on read (c .before .before .before .before .before .before .before .grant2 .ensures .0) (c .before .before .before .before .before .before .before .grant2 .ensures .1) in
     let moved = carried-on swapped (c .before .before .before .grant3 .ensures .0) (c .before .before .before .grant3 .ensures .1) in (
       omega (
@@ -378,7 +378,7 @@ move-on-returns-2 t c =
     let granted = c .before .before .before .before .before .before .before .before .before .before .before .before .before .before in
     let tested = granted .before .before in
     let start = tested .before .before .before in
-    let read = carried (now (start .args .table)) _ (start .args .p) _ (start .pre .1) (granted .grant .ensures .0) (granted .grant .ensures .1) in
+    let read = carried (now (start .args .table)) _ (start .args .progress) _ (start .pre .1) (granted .grant .ensures .0) (granted .grant .ensures .1) in
     let swapped = carried-on read (c .before .before .before .before .before .before .before .before .before .before .grant2 .ensures .0) (c .before .before .before .before .before .before .before .before .before .before .grant2 .ensures .1) in
     let moved = carried-on swapped (c .before .before .before .before .before .before .grant3 .ensures .0) (c .before .before .before .before .before .before .grant3 .ensures .1) in
     c .before .before .look .ensures ∙ moved .same ∙ swapped .same ∙ read .same

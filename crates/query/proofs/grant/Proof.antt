@@ -14,7 +14,7 @@ is-over-requires c κs = search needs
 returns : tie.Need-returns
 returns c =
     let start = c .before .before .before in
-    grant-over (now (start .args .table)) (start .args .p) (start .pre) (sym (c .before .is-over .ensures) ∙ c .if1 .taken)
+    grant-over (now (start .args .table)) (start .args .progress) (start .pre) (sym (c .before .is-over .ensures) ∙ c .if1 .taken)
 
 next-access-requires : tie.Need-next-access-requires
 next-access-requires c κs = serving-raisable (c .before .before .before .before .pre .serving)
@@ -22,7 +22,7 @@ next-access-requires c κs = serving-raisable (c .before .before .before .before
 touch-requires : tie.Need-touch-requires
 touch-requires c κs =
     let start = c .before .before .before .before .before .before in
-    grant-touchable (start .args .p) _ (start .pre) (c .before .next-access .ensures)
+    grant-touchable (start .args .progress) _ (start .pre) (c .before .next-access .ensures)
 
 add-advance : tie.Need-add-advance
 add-advance c =
@@ -42,7 +42,7 @@ sub-t14 : tie.Need-sub-t14
 sub-t14 c =
     let tested = c .before .before .before .before .before .before .before .before .before .before .before .before in
     let start = tested .before .before .before in
-    going (start .args .p) (sym (tested .before .is-over .ensures) ∙ tested .if1 .left) .grant
+    going (start .args .progress) (sym (tested .before .is-over .ensures) ∙ tested .if1 .left) .grant
 
 same-length : tie.Need-same-length
 same-length c = search needs
@@ -54,7 +54,7 @@ returns-2 c =
     let chosen = touched .before .before in
     let tested = chosen .before .before in
     let start = tested .before .before .before in
-    grant-made (now (start .args .table)) (start .args .p) (chosen .next-access .result) (touched .touch .result) _
+    grant-made (now (start .args .table)) (start .args .progress) (chosen .next-access .result) (touched .touch .result) _
     (moved .advance .result) (sym (tested .before .is-over .ensures) ∙ tested .if1 .left) (chosen .next-access .ensures)
     (touched .touch .ensures) (moved .advance .ensures)
 
