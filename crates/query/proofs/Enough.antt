@@ -6,6 +6,7 @@
 --   findNeed n p r v         the grants that a find from v needs at most
 --   tailNeed n r (h .y) s         the grants that are needed at most after the find of side s
 --   Fixed p h s              in the find from y, x is a root
+--   Needs Root need m        at most m grants are needed, with what is known of x
 --   Enough n p r h stage m   m grants are enough from this stage on
 --
 -- Main law: steps-enough, an enquiry with enough grants is answered.
@@ -50,6 +51,10 @@ use Rattle.query.proofs.Steps.{no-union, serving-goes-on, serving-ranks
 abbrev pub higher : ℕ → (ℕ → ℕ) → ℕ → ℕ
 higher n r v = count (λ i. ltb (key (r v) v) (key (r i) i)) n
 
+-- no node comes after itself
+after-other : (r : ℕ → ℕ) (v i : ℕ) → ltb (key (r v) v) (key (r i) i) ≡ true → eqb i v ≡ false
+after-other r v i e = ne-eqb i v (λ d. absurd (omega (arith, ltb-true (key (r v) v) (key (r i) i) e, d, ap r d)))
+
 -- a node that comes after v has fewer after it
 pub higher-less : (n : ℕ) (r : ℕ → ℕ) (v u : ℕ) → u < n → key (r v) v < key (r u) u → higher n r u + 1 ≤ higher n r v
 higher-less n r v u inside before =
@@ -60,16 +65,13 @@ higher-less n r v u inside before =
           (λ i. eqb i u)
           (λ i. ltb (key (r v) v) (key (r i) i))
           n
-          (λ i l e. ne-eqb i u (λ d. other i (ltb-true (key (r u) u) (key (r i) i) e) d))
+          (λ i l e. after-other r u i e)
           (λ i l e. lt-ltb (key (r v) v) (key (r i) i) (omega (arith, before, ltb-true (key (r u) u) (key (r i) i) e)))
           (λ i l e. lt-ltb (key (r v) v) (key (r i) i) (rw (eqb-true i u e) before)),
       count-positive (λ i. eqb i u) n u inside (eq-eqb u u refl),
     )
-  where
-    other : (i : ℕ) → key (r u) u < key (r i) i → i ≡ u → ⊥
-    other i after e = absurd (omega (arith, after, e, ap r e))
 
--- a node is not after itself
+-- and no node has all after it
 pub higher-below : (n : ℕ) (r : ℕ → ℕ) (v : ℕ) → v < n → higher n r v + 1 ≤ n
 higher-below n r v inside =
     omega (
@@ -79,15 +81,12 @@ higher-below n r v inside =
           (λ i. eqb i v)
           (λ i. true)
           n
-          (λ i l e. ne-eqb i v (λ d. other i (ltb-true (key (r v) v) (key (r i) i) e) d))
+          (λ i l e. after-other r v i e)
           (λ i l e. refl)
           (λ i l e. refl),
       count-positive (λ i. eqb i v) n v inside (eq-eqb v v refl),
       count-le (λ i. true) n,
     )
-  where
-    other : (i : ℕ) → key (r v) v < key (r i) i → i ≡ v → ⊥
-    other i after e = absurd (omega (arith, after, e, ap r e))
 
 -- ---- what is needed, stage by stage
 
@@ -187,7 +186,10 @@ module _ {n : ℕ} {t : List Node} (r : ℕ → ℕ) (admitted : Admitted n t) (
 
   -- x goes up by two nodes, or to a root
   moved-need : {B : ℕ → ℕ} (v u : ℕ) → Above n (parent t) (rank t) B v u → findNeed n (parent t) r (parent t u) + 1 ≤ 2 * higher n r v
-  moved-need {B} v u above = split (eqb (parent t w) w) (λ e. rw e (omega (arith, step))) (λ e. rw e (omega (arith, step, further (eqb-false (parent t w) w e))))
+  moved-need {B} v u above =
+      split (eqb (parent t w) w)
+      (λ e. rw e (omega (arith, step)))
+      (λ e. rw e (omega (arith, step, further (eqb-false (parent t w) w e))))
     where
       w : ℕ
       w = parent t u

@@ -32,7 +32,7 @@ use Rattle.query.proofs.Words.{length-map, decode-words}
 use Rattle.query.proofs.Labels.{rootLabel, root-labelled}
 use Rattle.query.proofs.Refusal.{Accepted, accepted, accepted-admitted}
 use Rattle.query.proofs.Steps.{serving-step, serving-goes-on, serving-start}
-use Rattle.query.proofs.Grants.{admitted-encodable}
+use Rattle.query.proofs.Accesses.{admitted-encodable}
 use Rattle.query.proofs.Enough.{steps-enough, start-enough}
 
 pub record Ended (n : ℕ) (B : ℕ → ℕ) (x y limit : ℕ) (result : Result) : Type 0 where

@@ -1,7 +1,7 @@
 -- An enquiry from grant to grant, on words: what holds of it stays, its result stays, and the grants left fall.
 --
---   Going p                 not over: unanswered, with a grant left
---   Carried ws p ws′ p′    the enquiry p on the words ws has become p′ on ws′ by one grant
+--   Going p               not over: unanswered, with a grant left
+--   Carried ws p ws′ p′   the enquiry p on the words ws has become p′ on ws′ by one grant
 --
 -- Main laws: carried, one grant carries an enquiry on; rest-over, the result of one that is over; query-refused and
 -- query-answered, the whole enquiry.
@@ -12,102 +12,31 @@ use mathlib.Core.List.{List, map}
 use Prim.Native.Nat.{ℕ, zero, suc, _+_, _-_, _≤_, _<_}
 use native.Mathlib.Omega.{arith}
 use lib.Dec.{eqb}
-use lib.ListN.{length, set}
+use lib.ListN.{length}
 use borrow.Author.Tests.{eqb-true, eqb-false, eq-eqb, ne-eqb}
 use Rattle.linearization.proofs.Tests.{split}
 use Rattle.job.specs.declared.Answer.the-variants.{Unfinished}
 use Rattle.job.specs.Job.{answerNumber}
 use Rattle.word.specs.declared.Node.{Node}
-use Rattle.word.specs.Word.{decode, encode, same, rankOf, rankLimit}
+use Rattle.word.specs.Word.{decode, encode}
 use Rattle.process.specs.declared.Access.{Access}
-use Rattle.process.specs.declared.Access.the-variants.{Idle, Load, Cas}
 use Rattle.process.specs.declared.Head.{Head}
 use Rattle.process.specs.declared.Advanced.{Advanced}
 use Rattle.process.specs.Process.{begin}
 use Rattle.process.specs.Access.{accessOf}
 use Rattle.process.specs.Advance.{advanceOf}
 use Rattle.rules.specs.Report.{isFinal}
-use Rattle.rules.specs.Table.{noNode, at, seen, touched}
+use Rattle.rules.specs.Table.{seen, touched}
 use Rattle.query.specs.declared.Queried.{Queried}
 use Rattle.query.specs.declared.Progress.{Progress}
-use Rattle.query.specs.Query.{wordAt, refusal, Result, answered, granted, steps, sameSet, queried}
+use Rattle.query.specs.Query.{refusal, Result, answered, granted, steps, sameSet, queried}
 use Rattle.query.specs.Progress.{isOver, advanced, progressed, tableAfter, rest}
-use Rattle.query.specs.Ready.{Admitted, Inner, Touchable, Serving, Ready}
-use Rattle.query.proofs.Words.{length-map, map-set, at-decoded, rank-decoded, Encodable, decode-words, encode-words}
+use Rattle.query.specs.Ready.{Touchable, Serving, Ready}
+use Rattle.query.proofs.Words.{decode-words}
 use Rattle.query.proofs.Labels.{rootLabel, root-labelled}
 use Rattle.query.proofs.Refusal.{Accepted, accepted, accepted-admitted}
+use Rattle.query.proofs.Accesses.{admitted-encodable, words-kept, Sees}
 use Rattle.query.proofs.Steps.{unfinished, serving-step, serving-inner, serving-start}
-
--- ---- one access, on words
-
-pub admitted-encodable : {n : ℕ} {t : List Node} → Admitted n t → Encodable t
-admitted-encodable admitted =
-    record {
-      rank = λ i l. omega (arith, admitted .ranks i (omega (arith, admitted .nodes)));
-      parent = λ i l. omega (arith, admitted .formed .limit, admitted .formed .inside i (omega (arith, admitted .nodes)));
-    }
-
-module _ (ws : List ℕ) {n : ℕ} (admitted : Admitted n (map decode ws)) where
-  words-kept : ws ≡ map encode (map decode ws)
-  words-kept = sym (encode-words ws (admitted-encodable admitted))
-
-  node-inside : (i : ℕ) → i < n → i < length ws
-  node-inside i l = omega (arith, admitted .nodes, length-map decode ws)
-
-  node-rank : (i : ℕ) → i < n → rankOf (wordAt ws i) < rankLimit
-  node-rank i l = omega (arith, rank-decoded ws i (node-inside i l), admitted .ranks i l)
-
--- what an access sees, and the words after it
-abbrev pub Sees : List ℕ → Access → Node → List ℕ → Type 0
-Sees ws access found ws′ = (found ≡ seen (map decode ws) access) × (ws′ ≡ map encode (touched (map decode ws) access))
-
-module _ (ws : List ℕ) (i : ℕ) (expected new : Node) (able : Touchable (map decode ws) (Cas i expected new)) where
-  pub swap-inside : i < length ws
-  swap-inside = node-inside ws (able .admitted) i (able .inner)
-
-  pub swap-rank : rankOf (wordAt ws i) < rankLimit
-  swap-rank = node-rank ws (able .admitted) i (able .inner)
-
-  module _ (found : Node) (read : found ≡ decode (wordAt ws i)) where
-    swap-sees : found ≡ at (map decode ws) i
-    swap-sees = read ∙ sym (at-decoded ws i swap-inside)
-
-    pub swap-wrote : same found expected ≡ true → (w : ℕ) → w ≡ encode new → Sees ws (Cas i expected new) found (set ws i w)
-    swap-wrote e w written =
-        let test : same (at (map decode ws) i) expected ≡ true = ap (λ v. same v expected) (sym swap-sees) ∙ e in (
-          swap-sees,
-          rw (test, written)
-              (ap (λ l. set l i (encode new)) (words-kept ws (able .admitted)) ∙ sym (map-set encode (map decode ws) i new)),
-        )
-
-    pub swap-failed : same found expected ≡ false → Sees ws (Cas i expected new) found ws
-    swap-failed e =
-        let test : same (at (map decode ws) i) expected ≡ false = ap (λ v. same v expected) (sym swap-sees) ∙ e in
-        (swap-sees, rw test (words-kept ws (able .admitted)))
-
-module _ (ws : List ℕ) (access : Access) (able : Touchable (map decode ws) access) where
-  pub touch-idle : access ≡ Idle → Sees ws access noNode ws
-  touch-idle e = rw e (refl, words-kept ws (able .admitted))
-
-  module _ (i : ℕ) (e : access ≡ Load i) where
-    load-node : i < able .nodes
-    load-node = subst (Inner (able .nodes)) e (able .inner)
-
-    pub load-inside : i < length ws
-    load-inside = node-inside ws (able .admitted) i load-node
-
-    pub load-rank : rankOf (wordAt ws i) < rankLimit
-    load-rank = node-rank ws (able .admitted) i load-node
-
-    pub touch-load : (found : Node) → found ≡ decode (wordAt ws i) → Sees ws access found ws
-    touch-load found read = rw e (read ∙ sym (at-decoded ws i load-inside), words-kept ws (able .admitted))
-
-  module _ (i : ℕ) (expected new : Node) (e : access ≡ Cas i expected new) where
-    pub cas-touchable : Touchable (map decode ws) (Cas i expected new)
-    cas-touchable = subst (Touchable (map decode ws)) e able
-
-    pub touch-cas : (found : Node) (ws′ : List ℕ) → Sees ws (Cas i expected new) found ws′ → Sees ws access found ws′
-    touch-cas found ws′ sees = rw e sees
 
 -- ---- one grant
 

@@ -2,6 +2,7 @@
 pub mod Words
 pub mod Labels
 pub mod Refusal
+pub mod Accesses
 pub mod Halving
 pub mod Steps
 pub mod Grants

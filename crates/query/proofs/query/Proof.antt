@@ -45,7 +45,7 @@ look-requires c κs =
     let checked = tested .before .refusal-of in
     let start = tested .before .before .before .before in
     let a = start .args in
-    query-ready (now (a .table)) (a .x) (a .y) (checked .result) (checked .ensures) (tested .if1 .left) (a .budget)
+    query-ready (now (a .table)) (a .x) (a .y) (checked .result) (checked .ensures) (tested .if1 .left) _
     (begun .result) (begun .ensures) (omega (arith, start .fits .budget))
 
 same-length-2 : tie.Need-same-length-2
@@ -58,10 +58,10 @@ returns-2 c =
     let tested = c .before .before .before .before .before in
     let checked = tested .before .refusal-of in
     let a = tested .before .before .before .before .args in
-    let exact =
-    query-answered (now (a .table)) (a .x) (a .y) (checked .result) (checked .ensures) (tested .if1 .left) (a .budget)
-    (begun .result) (begun .ensures) _ (looked .ensures) in
-    (exact, told-faithful (now (a .table)) (a .x) (a .y) (a .budget) _ exact)
+    let ws = now (a .table) in
+    let answered = query-answered ws (a .x) (a .y) (checked .result) (checked .ensures) (tested .if1 .left) in
+    let exact = answered (a .budget) (begun .result) (begun .ensures) _ (looked .ensures) in
+    (exact, told-faithful ws (a .x) (a .y) (a .budget) _ exact)
 
 pub query-spec : {M : Type 1} → statement M
 query-spec =

@@ -2,7 +2,7 @@
 use denote.Ref.{now}
 use mathlib.Core.Path.{sym, _∙_}
 use borrow.Author.Needs.{needs}
-use Rattle.query.proofs.Grants.{swap-inside, swap-rank, swap-wrote, swap-failed}
+use Rattle.query.proofs.Accesses.{swap-inside, swap-rank, swap-wrote, swap-failed}
 use Rattle.query.proofs.swap.Statement.{statement}
 use Rattle.query.proofs.swap.Tie as tie
 

@@ -1,7 +1,7 @@
 -- `query::touch`: one case an access.
 use denote.Ref.{now}
 use borrow.Author.Needs.{needs}
-use Rattle.query.proofs.Grants.{touch-idle, load-inside, load-rank, touch-load, cas-touchable, touch-cas}
+use Rattle.query.proofs.Accesses.{touch-idle, load-inside, load-rank, touch-load, cas-touchable, touch-cas}
 use Rattle.query.proofs.touch.Statement.{statement}
 use Rattle.query.proofs.touch.Tie as tie
 
