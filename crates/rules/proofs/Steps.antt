@@ -78,11 +78,11 @@ module _ (h : Head) where
 
 -- ---- what x and y say of the request's nodes
 
-ends-one : {B : ℕ → ℕ} {a b x y : ℕ} → Ends B a b x y → x ≡ y → B a ≡ B b
+pub ends-one : {B : ℕ → ℕ} {a b x y : ℕ} → Ends B a b x y → x ≡ y → B a ≡ B b
 ends-one {B} (straight e f) d = sym e ∙ ap B d ∙ f
 ends-one {B} (crossed e f) d = sym f ∙ ap B (sym d) ∙ e
 
-ends-two : {B : ℕ → ℕ} {a b x y : ℕ} → Ends B a b x y → B x ≢ B y → B a ≢ B b
+pub ends-two : {B : ℕ → ℕ} {a b x y : ℕ} → Ends B a b x y → B x ≢ B y → B a ≢ B b
 ends-two (straight e f) d s = d (e ∙ s ∙ sym f)
 ends-two (crossed e f) d s = d (e ∙ sym s ∙ sym f)
 
@@ -98,7 +98,7 @@ ends-left s (straight e f) = straight (s ∙ e) f
 ends-left s (crossed e f) = crossed (s ∙ e) f
 
 -- a side moves to another node of its set
-finding-moved : {n : ℕ} {B : ℕ → ℕ} {q : Request} {k : Kind} (h : Head) (s : Side) (u : ℕ)
+pub finding-moved : {n : ℕ} {B : ℕ → ℕ} {q : Request} {k : Kind} (h : Head) (s : Side) (u : ℕ)
     → Finding n B q k (h .x) (h .y) → u < n → B u ≡ B (nodeAt h s) → Finding n B q k (movedTo h s u .x) (movedTo h s u .y)
 finding-moved h X u f inside one = record { left = inside; right = f .right; ends = ends-left one (f .ends); kind = f .kind }
 finding-moved h Y u f inside one =

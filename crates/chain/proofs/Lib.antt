@@ -1,0 +1,2 @@
+-- The law of the loop that fills the table.
+pub mod Links

@@ -1,0 +1,2 @@
+-- The table that the program asks about.
+pub mod Chain

@@ -1,0 +1,30 @@
+// The longest enquiry known: about the two lowest nodes of one chain of 4,096. It prints the answer and the grants used,
+// and shows that the two functions that call each other run on the default stack.
+ghost use mathlib.Core.Path.{_≡_};
+ghost use Prim.Native.Nat.{_≤_};
+ghost use lib.ListN.{length};
+ghost use Rattle.chain.specs.Chain.{linked};
+
+// Fills a table: each word has rank 0 and the next node as its parent, and the last node is the root.
+fn link_up(table: &mut [u32])
+    requires { ⌜ (1 ≤ length (now table)) × (length (now table) ≤ 4096) ⌝ }
+    ensures { λ _. ⌜ now (table .exit) ≡ linked (length (now (table .entry))) (now (table .entry)) ⌝ }
+{
+    let last = table.len() - 1;
+    table[last] = last as u32;
+    let mut i = last;
+    while 0 < i {
+        table[i - 1] = i as u32;
+        i -= 1;
+    }
+}
+
+fn main() {
+    let mut table = [0u32; 4096];
+    link_up(&mut table);
+    let told = query::query(&mut table, 0, 1, 65535);
+    io::print_decimal(1, told.answer as u64);
+    io::write_all(1, &[b' ']);
+    io::print_decimal(1, told.used as u64);
+    io::write_all(1, &[b'\n']);
+}

@@ -1,0 +1,100 @@
+-- `query::root_of` goes on from the parent; keys rise along parents and are bounded, so the walk ends.
+use denote.Ref.{now}
+use native.Mathlib.Omega.{arith}
+use borrow.Author.Needs.{needs}
+use Rattle.query.proofs.Walk.{height, walk-inside, walk-ends, walk-falls, walk-goes-on}
+use Prim.Native.Nat.{ℕ, _<_}
+use borrow.Fn.Kinds.{In}
+use borrow.Fn.PlainCycle.{Measures, is, falls, and}
+use Rattle.query.proofs.root_of.Reads as root-of
+use Rattle.query.proofs.root_of.Kinds as root-of-kinds
+use Rattle.query.proofs.+root_of.Lts-root_of as root-of-lts
+use Rattle.word.proofs.parent.Reads as parent-reads
+use Rattle.query.proofs.+root_of.{statement}
+use Rattle.query.proofs.+root_of.Tie.{close}
+
+abbrev μ-root-of : Measures 1 root-of-kinds.ps ℕ
+μ-root-of κs a = height (a .0 .now) (a .1 .0)
+
+abbrev root-of-at : ℕ → In 1 root-of-kinds.ps
+root-of-at t = and 1 root-of-kinds.ps (is 1 root-of-kinds.ps μ-root-of t) root-of.Pre
+
+abbrev root-of-below : ℕ → In 1 root-of-kinds.ps
+root-of-below t = and 1 root-of-kinds.ps (falls 1 root-of-kinds.ps _<_ μ-root-of t) root-of.Pre
+
+root-of-mul-parent : (t : ℕ) → root-of-lts.Need-mul-parent (
+  parent-reads.Asked,
+  parent-reads.Learnt,
+  root-of-below t,
+  root-of.Post,
+) (root-of-at t) root-of.Post
+root-of-mul-parent t c = search needs
+
+root-of-shared-slice-read-parent : (t : ℕ) → root-of-lts.Need-shared-slice-read-parent (
+  parent-reads.Asked,
+  parent-reads.Learnt,
+  root-of-below t,
+  root-of.Post,
+) (root-of-at t) root-of.Post
+root-of-shared-slice-read-parent t c = c .before .before .pre .1 .1
+
+root-of-parent-requires : (t : ℕ) → root-of-lts.Need-parent-requires (
+  parent-reads.Asked,
+  parent-reads.Learnt,
+  root-of-below t,
+  root-of.Post,
+) (root-of-at t) root-of.Post
+root-of-parent-requires t c κs = search needs
+
+root-of-returns : (t : ℕ) → root-of-lts.Need-returns (
+  parent-reads.Asked,
+  parent-reads.Learnt,
+  root-of-below t,
+  root-of.Post,
+) (root-of-at t) root-of.Post
+root-of-returns t c =
+    let start = c .before .before .before .before in
+    walk-ends (now (start .args .table)) (start .args .node) (start .pre .1 .0) (start .pre .1 .1) (c .before .parent .result)
+    (c .before .parent .ensures) (c .if1 .taken)
+
+root-of-root-of-requires : (t : ℕ) → root-of-lts.Need-root-of-requires (
+  parent-reads.Asked,
+  parent-reads.Learnt,
+  root-of-below t,
+  root-of.Post,
+) (root-of-at t) root-of.Post
+root-of-root-of-requires t c κs =
+    let start = c .before .before .before .before in
+    let ws = now (start .args .table) in
+    let above = c .before .parent in (
+      omega (arith, start .pre .0, walk-falls ws (start .args .node) (start .pre .1 .0) (start .pre .1 .1) (above .result) (above .ensures) (c .if1 .left)),
+      (start .pre .1 .0, walk-inside ws (start .args .node) (start .pre .1 .0) (start .pre .1 .1) (above .result) (above .ensures)),
+    )
+
+root-of-returns-2 : (t : ℕ) → root-of-lts.Need-returns-2 (
+  parent-reads.Asked,
+  parent-reads.Learnt,
+  root-of-below t,
+  root-of.Post,
+) (root-of-at t) root-of.Post
+root-of-returns-2 t c =
+    let above = c .before .before .parent in
+    let start = c .before .before .before .before .before in
+    walk-goes-on (now (start .args .table)) (start .args .node) (start .pre .1 .0) (start .pre .1 .1) (above .result)
+    (above .ensures) (c .before .if1 .left) (c .root-of .result) (c .root-of .ensures)
+
+pub +root-of-spec : {M : Type 1} → statement M
++root-of-spec = close μ-root-of λ t. root-of-lts.spec (
+  parent-reads.Asked,
+  parent-reads.Learnt,
+  root-of-below t,
+  root-of.Post,
+)
+    (root-of-at t)
+    root-of.Post
+    (root-of-mul-parent t)
+    (root-of-shared-slice-read-parent t)
+    (root-of-parent-requires t)
+    (root-of-returns t)
+    (root-of-root-of-requires t)
+    (root-of-returns-2 t)

@@ -1,0 +1,161 @@
+-- An enquiry keeps the sets and the budget, and its answer is right: by induction over its steps.
+--
+--   Ended n B x y limit result   what holds of a result, told by labels
+--
+-- Main law: queried-faithful.
+use mathlib.Core.Path.{_≡_, refl, sym, ap, _∙_, subst}
+use mathlib.Core.Logic.{_≢_, _↔_}
+use mathlib.Core.Bool.{true, false, true≢false}
+use mathlib.Core.List.{List, map}
+use Prim.Native.Nat.{ℕ, zero, suc, _+_, _*_, _≤_, _<_}
+use native.Mathlib.Omega.{arith}
+use lib.Dec.{eqb}
+use lib.ListN.{length}
+use borrow.Author.Tests.{eqb-true, eqb-false}
+use Rattle.linearization.proofs.Tests.{split}
+use Rattle.job.specs.declared.Answer.{Answer}
+use Rattle.job.specs.declared.Answer.the-variants.{Unfinished, Joined, Together, Yes, No}
+use Rattle.job.specs.Job.{answerNumber}
+use Rattle.word.specs.declared.Node.{Node}
+use Rattle.word.specs.Word.{decode, encode}
+use Rattle.process.specs.declared.Head.{Head}
+use Rattle.process.specs.Process.{begin}
+use Rattle.process.specs.Access.{accessOf}
+use Rattle.forest.specs.Forest as forest
+use Rattle.forest.proofs.Forest.{Labelled, together-label, label-together}
+use Rattle.rules.specs.Report.{isFinal}
+use Rattle.rules.specs.Table.{parent, rank, touched}
+use Rattle.query.specs.Query.{Result, answered, granted, steps, sameSet, refusal, queried}
+use Rattle.query.specs.Ready.{Admitted, Says, Serving}
+use Rattle.query.specs.Faithful.{parentsOf, Faithful}
+use Rattle.query.proofs.Words.{length-map, decode-words}
+use Rattle.query.proofs.Labels.{rootLabel, root-labelled}
+use Rattle.query.proofs.Refusal.{Accepted, accepted, accepted-admitted}
+use Rattle.query.proofs.Steps.{serving-step, serving-goes-on, serving-start}
+use Rattle.query.proofs.Accesses.{admitted-encodable}
+use Rattle.query.proofs.Enough.{steps-enough, start-enough}
+
+pub record Ended (n : ℕ) (B : ℕ → ℕ) (x y limit : ℕ) (result : Result) : Type 0 where
+  -- the nodes of the table at exit
+  pub nodes : List Node
+  pub shown : result .table ≡ map encode nodes
+  pub admitted : Admitted n nodes
+  pub labelled : Labelled n (parent nodes) B
+  pub yes : result .queried .answer ≡ 3 → B x ≡ B y
+  pub no : result .queried .answer ≡ 4 → B x ≢ B y
+  pub within : result .queried .used ≤ limit
+  pub spent : result .queried .answer ≡ 0 → result .queried .used ≡ limit
+
+-- ---- by induction over the steps
+
+module _ (B : ℕ → ℕ) (x y : ℕ) where
+  says-yes : (answer : Answer) → Says B x y answer → answerNumber answer ≡ 3 → B x ≡ B y
+  says-yes Unfinished says e = absurd (omega arith)
+  says-yes Joined says e = absurd says
+  says-yes Together says e = absurd says
+  says-yes Yes says e = says
+  says-yes No says e = absurd (omega arith)
+
+  says-no : (answer : Answer) → Says B x y answer → answerNumber answer ≡ 4 → B x ≢ B y
+  says-no Unfinished says e = absurd (omega arith)
+  says-no Joined says e = absurd says
+  says-no Together says e = absurd says
+  says-no Yes says e = absurd (omega arith)
+  says-no No says e = says
+
+zero-unfinished : (answer : Answer) → answerNumber answer ≡ 0 → isFinal answer ≡ false
+zero-unfinished Unfinished e = refl
+zero-unfinished Joined e = absurd (omega arith)
+zero-unfinished Together e = absurd (omega arith)
+zero-unfinished Yes e = absurd (omega arith)
+zero-unfinished No e = absurd (omega arith)
+
+module _ {n : ℕ} {B : ℕ → ℕ} {x y : ℕ} where
+  answered-ended : (answer : Answer) (used limit : ℕ) (h : Head) (t : List Node) → Serving n B x y t used h answer → used ≤ limit
+      → (isFinal answer ≡ false → used ≡ limit) → Ended n B x y limit (answered answer used t)
+  answered-ended answer used limit h t serving within all =
+      record {
+        nodes = t;
+        shown = refl;
+        admitted = serving .admitted;
+        labelled = serving .labelled;
+        yes = says-yes B x y answer (serving .says);
+        no = says-no B x y answer (serving .says);
+        within = within;
+        spent = λ e. all (zero-unfinished answer e);
+      }
+
+  steps-ended : (budget used limit : ℕ) (h : Head) (t : List Node) → used + budget ≡ limit → Serving n B x y t used h Unfinished
+      → Ended n B x y limit (steps budget used h t)
+  steps-ended zero used limit h t sum serving =
+      answered-ended Unfinished used limit h t serving (omega (arith, sum)) (λ e. omega (arith, sum))
+  steps-ended (suc budget) used limit h t sum serving =
+      split (isFinal (granted h t used .event .answer))
+      (λ e. rw e
+      (answered-ended (granted h t used .event .answer) (suc used) limit (granted h t used .head) (touched t (accessOf h))
+      (serving-step serving refl) (omega (arith, sum)) (λ f. absurd (true≢false (sym e ∙ f)))))
+      (λ e. rw e
+      (steps-ended budget (suc used) limit (granted h t used .head) (touched t (accessOf h)) (omega (arith, sum))
+      (serving-goes-on serving e)))
+
+-- ---- from labels to sets
+
+module _ (ws : List ℕ) (x y budget : ℕ) (good : Accepted ws x y) where
+  abbrev start : List Node
+  start = map decode ws
+
+  abbrev labels : ℕ → ℕ
+  labels = rootLabel (accepted-admitted good .formed)
+
+  start-labelled : Labelled (length ws) (parent start) labels
+  start-labelled = root-labelled (accepted-admitted good .formed)
+
+  start-serving : Serving (length ws) labels x y start 0 (begin (sameSet x y) 0) Unfinished
+  start-serving = serving-start (accepted-admitted good) start-labelled (record { x = good .left; y = good .right })
+
+  module _ (result : Result) (end : Ended (length ws) labels x y budget result) where
+    end-nodes : map decode (result .table) ≡ end .nodes
+    end-nodes = ap (λ l. map decode l) (end .shown) ∙ decode-words (end .nodes) (admitted-encodable (end .admitted))
+
+    same-sets : (i j : ℕ) → i < length ws → j < length ws
+        → forest.Together (parentsOf ws) i j ↔ forest.Together (parent (end .nodes)) i j
+    same-sets i j li lj = (
+      λ z. label-together (end .admitted .formed) (end .labelled) i j li lj
+          (together-label (accepted-admitted good .formed) start-labelled i j li lj z),
+      λ z. label-together (accepted-admitted good .formed) start-labelled i j li lj
+          (together-label (end .admitted .formed) (end .labelled) i j li lj z),
+    )
+
+    ended-faithful : (4 * length ws + 3 ≤ budget → result .queried .answer ≢ 0) → Faithful ws x y budget result
+    ended-faithful enough =
+        record {
+          nodes = sym (length-map decode (result .table)) ∙ ap length end-nodes ∙ end .admitted .nodes;
+          sets = λ i j li lj. subst (λ t. forest.Together (parentsOf ws) i j ↔ forest.Together (parent t) i j) (sym end-nodes) (same-sets i j li lj);
+          yes = λ e. label-together (accepted-admitted good .formed) start-labelled x y (good .left) (good .right) (end .yes e);
+          no = λ e z. end .no e (together-label (accepted-admitted good .formed) start-labelled x y (good .left) (good .right) z);
+          within = end .within;
+          spent = end .spent;
+          enough = enough;
+        }
+
+  steps-faithful : Faithful ws x y budget (steps budget 0 (begin (sameSet x y) 0) start)
+  steps-faithful =
+      ended-faithful (steps budget 0 (begin (sameSet x y) 0) start)
+      (steps-ended budget 0 budget (begin (sameSet x y) 0) start (omega arith) start-serving)
+      (λ l. steps-enough (rank start) budget 0 (begin (sameSet x y) 0) start start-serving (λ i. refl)
+      (start-enough (length ws) (parent start) (rank start) x y budget (good .left) (good .right) l))
+
+-- an enquiry that is not refused is faithful
+pub queried-faithful : (ws : List ℕ) (x y budget : ℕ) → queried ws x y budget .queried .number ≡ 0
+    → Faithful ws x y budget (queried ws x y budget)
+unfolding queried
+queried-faithful ws x y budget =
+    split (eqb (refusal ws x y) 0)
+    (λ e. rw e (λ z. steps-faithful ws x y budget (accepted ws x y (eqb-true (refusal ws x y) 0 e))))
+    (λ e. rw e (λ z. absurd (eqb-false (refusal ws x y) 0 e z)))
+
+-- and so is what the caller is told of it
+pub told-faithful : (ws : List ℕ) (x y budget : ℕ) (result : Result) → result ≡ queried ws x y budget
+    → result .queried .number ≡ 0 → Faithful ws x y budget result
+told-faithful ws x y budget result e none =
+    subst (Faithful ws x y budget) (sym e) (queried-faithful ws x y budget (ap (λ k. k .queried .number) (sym e) ∙ none))

@@ -1,0 +1,48 @@
+-- A find's swap on a table whose ranks need not be backed by the sizes of its sets: a node gets a parent further up.
+--
+-- Main laws: halved-formed and halved-labelled, the table stays well formed and its sets stay; halved-later, what the
+-- head knows stays.
+use mathlib.Core.Path.{_≡_, sym, subst, fun-ext}
+use Prim.Native.Nat.{ℕ, _<_}
+use native.Mathlib.Omega.{arith}
+use native.Mathlib.Decide.{ℕ-discrete}
+use Rattle.forest.proofs.Forest.{WellFormed, Labelled}
+use Rattle.forest.proofs.Writes.{Changed, changed-same, moved-root, moved-formed}
+use Rattle.forest.proofs.Halving.{Halving}
+use Rattle.forest.proofs.Later.{Later}
+
+module _ {n : ℕ} {p r B p′ r′ : ℕ → ℕ} {v k u : ℕ} (formed : WellFormed n p r) (halving : Halving n p r B v k u)
+    (parents : Changed p p′ v u) (ranks : Changed r r′ v k) where
+  pub halved-ranks : (i : ℕ) → r′ i ≡ r i
+  halved-ranks = changed-same ranks (halving .rank)
+
+  halved-root : (i : ℕ) → p′ i ≡ i → p i ≡ i
+  halved-root = moved-root formed parents (halving .target) (halving .before)
+
+  pub halved-formed : WellFormed n p′ r′
+  halved-formed =
+      subst
+      (λ s. WellFormed n p′ s)
+      (sym (fun-ext halved-ranks))
+      (moved-formed formed parents (halving .target) (halving .before))
+
+  pub halved-labelled : Labelled n p B → Labelled n p′ B
+  halved-labelled labelled =
+      record {
+        along = λ i l. along i l (ℕ-discrete i v);
+        apart = λ i j li lj ri rj. labelled .apart i j li lj (halved-root i ri) (halved-root j rj);
+      }
+    where
+      along : (i : ℕ) → i < n → Dec (i ≡ v) → B (p′ i) ≡ B i
+      along i l (yes e) = rw (e, parents .at) (halving .same)
+      along i l (no e) = rw (parents .other i e) (labelled .along i l)
+
+  pub halved-later : Later n p r B p′ r′ B
+  halved-later =
+      record {
+        root = λ i l. halved-root i;
+        frozen = λ i l d. halved-ranks i;
+        grows = λ i l. omega (arith, halved-ranks i);
+        merges = λ i j li lj e. e;
+        larger = λ i l. omega arith;
+      }

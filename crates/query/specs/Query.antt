@@ -1,0 +1,90 @@
+-- Document 01, "Counter enquiry", and refusals 15 and 16: a same-set alone on a lent table, with a budget of grants
+-- (document 01: allowance).
+--
+--   isFaulty ws i             the word of node i cannot stand in a table
+--   anyFaulty ws k            one of the first k words cannot
+--   refusal ws x y            the refusal's number, 0 for none
+--   Result                    what the caller is told, and the words at exit
+--   answered a used t         the result of an enquiry that was told a after so many grants
+--   steps budget used h t     the steps of head h on the table t, after the grants used so far
+--   sameSet x y               the request that the enquiry serves
+--   queried ws x y budget     the enquiry
+use mathlib.Core.Bool.{Bool, true, false, cond}
+use mathlib.Core.List.{List, map}
+use Prim.Native.Nat.{ℕ, zero, suc}
+use lib.Dec.{eqb, ltb, leb}
+use lib.ListN.{length, getD}
+use Rattle.job.specs.declared.Kind.the-variants.{SameSet}
+use Rattle.job.specs.declared.Answer.{Answer}
+use Rattle.job.specs.declared.Answer.the-variants.{Unfinished}
+use Rattle.job.specs.declared.Request.{Request}
+use Rattle.job.specs.Job.{answerNumber}
+use Rattle.word.specs.declared.Node.{Node}
+use Rattle.word.specs.Word.{rankOf, parentOf, decode, encode, before}
+use Rattle.process.specs.declared.Head.{Head}
+use Rattle.process.specs.declared.Advanced.{Advanced}
+use Rattle.process.specs.Process.{begin}
+use Rattle.process.specs.Access.{accessOf}
+use Rattle.process.specs.Advance.{advanceOf}
+use Rattle.rules.specs.Report.{isFinal}
+use Rattle.rules.specs.Table.{seen, touched}
+use Rattle.query.specs.declared.Queried.{Queried}
+
+abbrev pub wordAt : List ℕ → ℕ → ℕ
+wordAt ws i = getD ws i 0
+
+-- 16: a word has a parent not below the length, a rank above 12, or a parent other than itself that comes before it
+-- (no node comes before itself).
+abbrev pub isFaulty : List ℕ → ℕ → Bool
+isFaulty ws i =
+    cond (leb (length ws) (parentOf (wordAt ws i))) true
+    (cond (ltb 12 (rankOf (wordAt ws i))) true
+    (before (rankOf (wordAt ws (parentOf (wordAt ws i)))) (parentOf (wordAt ws i)) (rankOf (wordAt ws i)) i))
+
+abbrev pub anyFaulty : List ℕ → ℕ → Bool
+anyFaulty ws zero = false
+anyFaulty ws (suc k) = cond (isFaulty ws k) true (anyFaulty ws k)
+
+-- 15: the table is empty or over 4,096, or a place isn't below its length. Checked before 16.
+unfoldable pub refusal : List ℕ → ℕ → ℕ → ℕ
+refusal ws x y =
+    cond (eqb (length ws) 0) 15
+    (cond (ltb 4096 (length ws)) 15
+    (cond (leb (length ws) x) 15
+    (cond (leb (length ws) y) 15
+    (cond (anyFaulty ws (length ws)) 16 0))))
+
+pub record Result : Type 0 where
+  pub queried : Queried
+  pub table : List ℕ
+
+-- Yes and no have the report's numbers, spent is 0: the request is unfinished.
+abbrev pub answered : Answer → ℕ → List Node → Result
+answered a used t = record { queried = record { number = 0; answer = answerNumber a; used = used }; table = map encode t }
+
+-- Where the head's access leads, as the grant after the grants used; grants count from 1.
+abbrev pub granted : Head → List Node → ℕ → Advanced
+granted h t used = advanceOf h (seen t (accessOf h)) (suc used)
+
+-- "Spent" means that it needs more than the allowance; the table then shows exactly the allowed steps. A step is one
+-- grant of the rules: an access of the head, and where it leads.
+abbrev pub steps : ℕ → ℕ → Head → List Node → Result
+steps zero used h t = answered Unfinished used t
+steps (suc budget) used h t =
+    cond (isFinal (granted h t used .event .answer))
+    (answered (granted h t used .event .answer) (suc used) (touched t (accessOf h)))
+    (steps budget (suc used) (granted h t used .head) (touched t (accessOf h)))
+
+-- A same-set alone.
+abbrev pub sameSet : ℕ → ℕ → Request
+sameSet x y = record { head = 0; kind = SameSet; x = x; y = y }
+
+-- A refusal gives its number and zero for every count, and writes nothing.
+abbrev pub refused : ℕ → List ℕ → Result
+refused number ws = record { queried = record { number = number; answer = 0; used = 0 }; table = ws }
+
+unfoldable pub queried : List ℕ → ℕ → ℕ → ℕ → Result
+queried ws x y budget =
+    cond (eqb (refusal ws x y) 0)
+    (steps budget 0 (begin (sameSet x y) 0) (map decode ws))
+    (refused (refusal ws x y) ws)
