@@ -87,7 +87,7 @@ module _ (j : Job) (admitted : Admitted j) where
 
   left-linearized : (table report linearization : List ℕ)
       → Shape (map decode (take (j .nodes) (map encode (runOf j .table) ++ table))) (rowsOf (take (4 * length (j .requests)) (flatRows (runOf j .report) ++ report)))
-        (entriesOf (take (2 * length (runOf j .entries)) (flat (runOf j .entries) ++ linearization)))
+      (entriesOf (take (2 * length (runOf j .entries)) (flat (runOf j .entries) ++ linearization)))
   left-linearized table report linearization =
       subst₃ Shape (sym (table-back table)) (sym (report-back report)) (sym (entries-back linearization)) (fresh-linearized playable)
 
@@ -96,4 +96,4 @@ pub linearized-here : (file : List ℕ) → Admitted (meaning file .job) → (ta
 linearized-here file admitted table report linearization left is =
     subst (λ x. LinearizedHere file (x .result) (x .table) (x .report) (x .linearization)) (sym is)
     (left-linearized (meaning file .job) admitted (drop (meaning file .job .nodes) table) (drop (4 * length (meaning file .job .requests)) report)
-      (drop (2 * length (runOf (meaning file .job) .entries)) linearization))
+    (drop (2 * length (runOf (meaning file .job) .entries)) linearization))

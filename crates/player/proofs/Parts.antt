@@ -53,7 +53,7 @@ module _ {file : List ℕ} {checked : Checked} {n rows : ℕ} (lent : List ℕ) 
         nodes = length-table;
         grants = ap (λ k. k .grants) (w .checks .counts);
         standing = subst₂ (λ k b. Standing (requestsIn file) k 16 b 1 (startOf (meaning file .job)) [] lent) (sym length-table) (sym shows)
-          (start-standing (meaning file .job .nodes) (requestsIn file) lent (omega (arith, whole-nodes, w .nodes)) (w .room));
+            (start-standing (meaning file .job .nodes) (requestsIn file) lent (omega (arith, whole-nodes, w .nodes)) (w .room));
       }
     where
       length-table : length table ≡ meaning file .job .nodes
@@ -65,42 +65,63 @@ module _ {file : List ℕ} {checked : Checked} {n rows : ℕ} (lent : List ℕ) 
       shows :
           _≡_ {A = Buffers} (record { heads = heads; table = table; report = report; linearization = lent; entries = 0; mask = mask })
           (record {
-            heads = headsFrom (requestsIn file) 0 16; table = map encode (fresh (meaning file .job .nodes)); report = replicate (4 * length (requestsIn file)) 0;
-            linearization = lent; entries = 0; mask = maskOf (map (workFlag (length (requestsIn file))) (headsFrom (requestsIn file) 0 16)) })
+            heads = headsFrom (requestsIn file) 0 16;
+            table = map encode (fresh (meaning file .job .nodes));
+            report = replicate (4 * length (requestsIn file)) 0;
+            linearization = lent;
+            entries = 0;
+            mask = maskOf (map (workFlag (length (requestsIn file))) (headsFrom (requestsIn file) 0 16));
+          })
       shows = λ i. record {
-          heads = is-heads i;
-          table = (is-table ∙ ap (λ k. map encode (fresh k)) (w .nodes)) i;
-          report = (is-report ∙ ap (λ k. replicate k 0) (w .rows)) i;
-          linearization = lent;
-          entries = 0;
-          mask = mask-start i }
+        heads = is-heads i;
+        table = (is-table ∙ ap (λ k. map encode (fresh k)) (w .nodes)) i;
+        report = (is-report ∙ ap (λ k. replicate k 0) (w .rows)) i;
+        linearization = lent;
+        entries = 0;
+        mask = mask-start i;
+      }
 
 -- what the loop leaves, with the file's counts
 pub whole-left : {file : List ℕ} {checked : Checked} → Checks file checked → (lent table report linearization : List ℕ) (ended : Ended)
     → record { table = table; report = report; linearization = linearization; ended = ended } ≡ endOf (meaning file .job) lent
     → _≡_ {A = Left} (record {
-        table = table; report = report; linearization = linearization;
-        result = record { number = 0; nodes = checked .nodes; heads = checked .heads; requests = checked .requests; grants = checked .grants; entries = ended .entries; tally = ended .tally } })
-      (wholeOf (meaning file .job) lent)
+      table = table;
+      report = report;
+      linearization = linearization;
+      result = record { number = 0; nodes = checked .nodes; heads = checked .heads; requests = checked .requests; grants = checked .grants; entries = ended .entries; tally = ended .tally };
+    })
+    (wholeOf (meaning file .job) lent)
 whole-left checks lent table report linearization ended e = λ i. record {
-    table = e i .table;
-    report = e i .report;
-    linearization = e i .linearization;
-    result = record {
-      number = 0; nodes = checks .counts i .nodes; heads = checks .counts i .heads; requests = checks .counts i .requests; grants = checks .counts i .grants;
-      entries = e i .ended .entries; tally = e i .ended .tally } }
+  table = e i .table;
+  report = e i .report;
+  linearization = e i .linearization;
+  result = record {
+    number = 0;
+    nodes = checks .counts i .nodes;
+    heads = checks .counts i .heads;
+    requests = checks .counts i .requests;
+    grants = checks .counts i .grants;
+    entries = e i .ended .entries;
+    tally = e i .ended .tally;
+  };
+}
 
 -- what is past the places and the requests stays
 pub cut-left : (j : Job) (nodes rows : ℕ) (table report lent : List ℕ) (left : Left) → nodes ≡ j .nodes → rows ≡ 4 * length (j .requests)
     → left ≡ wholeOf j lent
     → _≡_ {A = Left} (record {
-        table = left .table ++ drop nodes table; report = left .report ++ drop rows report; linearization = left .linearization; result = left .result })
-      (cutOf j table report lent)
+      table = left .table ++ drop nodes table;
+      report = left .report ++ drop rows report;
+      linearization = left .linearization;
+      result = left .result;
+    })
+    (cutOf j table report lent)
 cut-left j nodes rows table report lent left is-nodes is-rows e = λ i. record {
-    table = e i .table ++ drop (is-nodes i) table;
-    report = e i .report ++ drop (is-rows i) report;
-    linearization = e i .linearization;
-    result = e i .result }
+  table = e i .table ++ drop (is-nodes i) table;
+  report = e i .report ++ drop (is-rows i) report;
+  linearization = e i .linearization;
+  result = e i .result;
+}
 
 -- the cut buffers are as long as the job needs
 pub roomy-whole : {file : List ℕ} {checked : Checked} (table report : List ℕ) {l : ℕ} → Roomy file checked (length table) (length report) l

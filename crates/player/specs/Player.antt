@@ -28,7 +28,12 @@ use Rattle.turns.specs.Turns.{runOf}
 abbrev pub refusedWith : ℕ → Played
 refusedWith n =
     record {
-      number = n; nodes = 0; heads = 0; requests = 0; grants = 0; entries = 0;
+      number = n;
+      nodes = 0;
+      heads = 0;
+      requests = 0;
+      grants = 0;
+      entries = 0;
       tally = record { idle = 0; failed = 0; links = 0; working = 0 };
     }
 
@@ -80,7 +85,9 @@ playedOf file table report linearization =
     cond (eqb (playRefusal file (length table) (length report) (length linearization)) 0)
     (cutOf (meaning file .job) table report linearization)
     (record {
-      table = table; report = report; linearization = linearization;
+      table = table;
+      report = report;
+      linearization = linearization;
       result = refusedWith (playRefusal file (length table) (length report) (length linearization));
     })
 

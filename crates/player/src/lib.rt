@@ -48,7 +48,16 @@ fn play_whole(
     clear_report(report);
     let heads = first_heads(file, checked.requests);
     let mask = first_mask(heads, checked.requests);
-    let end = play_grants(file, checked.requests, checked.grants, heads, mask, table, report, linearization);
+    let end = play_grants(
+        file,
+        checked.requests,
+        checked.grants,
+        heads,
+        mask,
+        table,
+        report,
+        linearization,
+    );
     let tally = end.tally;
     Played {
         number: 0,
@@ -74,7 +83,13 @@ fn play_cut(
 {
     let nodes = checked.nodes as usize;
     let rows = 4 * (checked.requests as usize);
-    play_whole(file, checked, &mut table[..nodes], &mut report[..rows], linearization)
+    play_whole(
+        file,
+        checked,
+        &mut table[..nodes],
+        &mut report[..rows],
+        linearization,
+    )
 }
 
 // Plays a job file: any bytes, on any lent buffers. Everything is checked before anything is written.

@@ -67,7 +67,7 @@ final-number Yes f z = omega arith
 final-number No f z = omega arith
 
 module _ (qs : List Request) (n : ℕ) (B : Labels) (roots₀ : ℕ) (S : State) (past : List Happening) (h : ℕ) (head : Head)
-         (inv : Invariant qs n B roots₀ S past) (srv : Serving qs n B S past h head) where
+    (inv : Invariant qs n B roots₀ S past) (srv : Serving qs n B S past h head) where
   abbrev q : ℕ
   q = head .request
 
@@ -118,8 +118,8 @@ module _ (qs : List Request) (n : ℕ) (B : Labels) (roots₀ : ℕ) (S : State)
   entries-stand : occurrences q (S .entries) ≡ 0 → Replayed (operationAt qs) (Placed qs past′) (claim past′) B 0 (S .entries)
   entries-stand none =
       replayed-map (inv .entries)
-        (λ e m p. placed-other (serving-of S head) (other (e .request) (occurrences-absent q none m)) p)
-        (λ e m. ap (λ r. promised (r .answer)) (sym (row-other (e .request) (serving-of S head) past (other (e .request) (occurrences-absent q none m)))))
+      (λ e m p. placed-other (serving-of S head) (other (e .request) (occurrences-absent q none m)) p)
+      (λ e m. ap (λ r. promised (r .answer)) (sym (row-other (e .request) (serving-of S head) past (other (e .request) (occurrences-absent q none m)))))
 
   entries-below : Below (suc (S .now)) (S .entries)
   entries-below e m = omega (arith, replayed-fact (inv .entries) e m .until, inv .clock)
@@ -175,7 +175,7 @@ module _ (qs : List Request) (n : ℕ) (B : Labels) (roots₀ : ℕ) (S : State)
         entries = entries-stand (not-listed (g .unraised));
         others = λ p d. refl;
         after = continues (g .unfinished) (g .busy) (g .knows) timed
-          (unfinished-current (occurrences q (S .entries)) (g .unfinished) (not-listed (g .unraised) ∙ sym (rw (eq-eqb (linkOf q past′) 0 unlinked))));
+            (unfinished-current (occurrences q (S .entries)) (g .unfinished) (not-listed (g .unraised) ∙ sym (rw (eq-eqb (linkOf q past′) 0 unlinked))));
       }
     where
       unlinked : linkOf q past′ ≡ 0
@@ -187,13 +187,13 @@ module _ (qs : List Request) (n : ℕ) (B : Labels) (roots₀ : ℕ) (S : State)
             unlinked = λ e. unlinked;
             linked = λ e. absurd (true≢false (sym e ∙ g .still));
             candidate = λ d.
-              let here : pendingOf (a .head .stage) ≡ suc (length past) = g .proposed d ∙ ap suc (inv .clock) in
-              record {
-                begun = served-first q (a .event) past;
-                since = omega (arith, row-first-bound q past′);
-                last = find-served q (a .event) past (g .found d) ∙ sym here;
-                used = ap (usedFor past′) here ∙ used-now q (a .event) past;
-              };
+                let here : pendingOf (a .head .stage) ≡ suc (length past) = g .proposed d ∙ ap suc (inv .clock) in
+                record {
+                  begun = served-first q (a .event) past;
+                  since = omega (arith, row-first-bound q past′);
+                  last = find-served q (a .event) past (g .found d) ∙ sym here;
+                  used = ap (usedFor past′) here ∙ used-now q (a .event) past;
+                };
           }
 
   -- ---- an entry at this grant: its labels, and the entries with it
@@ -236,16 +236,16 @@ module _ (qs : List Request) (n : ℕ) (B : Labels) (roots₀ : ℕ) (S : State)
     closing-effect =
         record {
           sound = subst (λ C. Sound n (parent t′) (rank t′) C) (sym closing-labels)
-            (subst (λ u. Sound n (parent u) (rank u) B₁) (sym (c .same)) (inv .sound));
+              (subst (λ u. Sound n (parent u) (rank u) B₁) (sym (c .same)) (inv .sound));
           later = subst (λ C. Later n (parent (S .table)) (rank (S .table)) B₁ (parent t′) (rank t′) C) (sym closing-labels)
-            (subst (λ u. Later n (parent (S .table)) (rank (S .table)) B₁ (parent u) (rank u) B₁) (sym (c .same))
+              (subst (λ u. Later n (parent (S .table)) (rank (S .table)) B₁ (parent u) (rank u) B₁) (sym (c .same))
               (later-refl n (parent (S .table)) (rank (S .table)) B₁));
           roots = rw (c .unlinked) (ap (λ u. rootCount (parent u) n + S .links) (c .same) ∙ inv .roots);
           settled = settled-now;
           entries = entries-now (not-listed (c .unraised)) (closing-point (requestAt qs q .kind)) closing-answer;
           others = λ p d. occurrences-other (suc (S .now)) q p (S .entries) (λ e. d (sym e));
           after = finishes final (c .rests)
-            (finished-over (occurrences q (insert (suc (S .now)) q (S .entries))) final
+              (finished-over (occurrences q (insert (suc (S .now)) q (S .entries))) final
               (occurrences-inserted (suc (S .now)) q (S .entries) ∙ ap suc (not-listed (c .unraised))));
         }
       where
@@ -285,13 +285,14 @@ module _ (qs : List Request) (n : ℕ) (B : Labels) (roots₀ : ℕ) (S : State)
         finishes (ap isFinal answer) rests (finished-over (occurrences q (insert (suc (S .now)) q (S .entries))) (ap isFinal answer) listed-once)
     joining-after (raises k answer stage r) =
         continues answer (ap restingAt stage)
-          (subst (λ st. Knows n (parent t′) (rank t′) labels′ (ApartAt qs B es′ q) (suc (S .now)) (requestAt qs q) (a .head) st) (sym stage)
-            (subst (λ C. Raising n (rank t′) C (requestAt qs q) (a .head .y) k) (sym joining-labels) r))
-          (record {
-            unlinked = λ e. absurd (true≢false (sym (ap isRaising stage) ∙ e));
-            linked = λ e. linked-now;
-            candidate = λ d. absurd (d (ap pendingOf stage)) })
-          (unfinished-current (occurrences q es′) answer (listed-once ∙ sym (rw (ne-eqb (linkOf q past′) 0 linked-now))))
+        (subst (λ st. Knows n (parent t′) (rank t′) labels′ (ApartAt qs B es′ q) (suc (S .now)) (requestAt qs q) (a .head) st) (sym stage)
+        (subst (λ C. Raising n (rank t′) C (requestAt qs q) (a .head .y) k) (sym joining-labels) r))
+        (record {
+          unlinked = λ e. absurd (true≢false (sym (ap isRaising stage) ∙ e));
+          linked = λ e. linked-now;
+          candidate = λ d. absurd (d (ap pendingOf stage));
+        })
+        (unfinished-current (occurrences q es′) answer (listed-once ∙ sym (rw (ne-eqb (linkOf q past′) 0 linked-now))))
       where
         es′ : List Entry
         es′ = insert (suc (S .now)) q (S .entries)
@@ -328,15 +329,19 @@ module _ (qs : List Request) (n : ℕ) (B : Labels) (roots₀ : ℕ) (S : State)
     placed-own e is p =
         let first = served-settled q (a .event) past (srv .begun (d .raised)) in
         let here : pointOf (requestAt qs q .kind) q past′ ≡ pointOf (requestAt qs q .kind) q past =
-          ap (λ k. pointOf k q past′) (d .kind)
-          ∙ point-linked q (a .event) past (λ z. was-linked (sym still-linked ∙ z))
-          ∙ still-linked ∙ sym (point-union q past was-linked) ∙ ap (λ k. pointOf k q past) (sym (d .kind)) in
+        ap (λ k. pointOf k q past′) (d .kind)
+        ∙ point-linked q (a .event) past (λ z. was-linked (sym still-linked ∙ z))
+        ∙ still-linked ∙ sym (point-union q past was-linked) ∙ ap (λ k. pointOf k q past) (sym (d .kind)) in
         record {
           known = p .known;
           since = omega (arith, ap (λ k. rowOf k past′ .first) is, first, ap (λ k. rowOf k past .first) is, p .since);
           until = omega (arith, p .until);
-          ended = λ z. omega (arith, ap (λ k. rowOf k past′ .last) is, p .until,
-            served-last q (a .event) past (λ y. z (ap (λ k. rowOf k past′ .last) is ∙ y)));
+          ended = λ z. omega (
+            arith,
+            ap (λ k. rowOf k past′ .last) is,
+            p .until,
+            served-last q (a .event) past (λ y. z (ap (λ k. rowOf k past′ .last) is ∙ y)),
+          );
           point = p .point ∙ ap (λ k. pointOf (requestAt qs k .kind) k past) is ∙ sym here ∙ ap (λ k. pointOf (requestAt qs k .kind) k past′) (sym is);
           used = used-kept (serving-of S head) past (e .point) (p .until) ∙ p .used;
         }
@@ -360,7 +365,7 @@ module _ (qs : List Request) (n : ℕ) (B : Labels) (roots₀ : ℕ) (S : State)
           entries = replayed-map (inv .entries) (λ e m p. placed-either e (ℕ-discrete (e .request) q) p) (λ e m. claim-either (e .request) (ℕ-discrete (e .request) q));
           others = λ p e. refl;
           after = finishes (ap isFinal (d .answer)) (d .rests)
-            (finished-over (occurrences q (S .entries)) (ap isFinal (d .answer)) (srv .listed ∙ rw (ne-eqb (linkOf q past) 0 was-linked)));
+              (finished-over (occurrences q (S .entries)) (ap isFinal (d .answer)) (srv .listed ∙ rw (ne-eqb (linkOf q past) 0 was-linked)));
         }
 
   -- ---- x was still a root
@@ -397,7 +402,7 @@ module _ (qs : List Request) (n : ℕ) (B : Labels) (roots₀ : ℕ) (S : State)
     silent =
         record {
           answered = reply-apart (labelsTo (operationAt qs) point B (S .entries)) (operationAt qs q) (d .two-sets)
-            ∙ ap (λ k. replyTo k false) (d .kind) ∙ sym (ap promised deny-answer);
+              ∙ ap (λ k. replyTo k false) (d .kind) ∙ sym (ap promised deny-answer);
           unchanged = next-same-set (labelsTo (operationAt qs) point B (S .entries)) (operationAt qs q) (d .kind);
         }
 
@@ -408,16 +413,16 @@ module _ (qs : List Request) (n : ℕ) (B : Labels) (roots₀ : ℕ) (S : State)
     denying-effect =
         record {
           sound = subst (λ C. Sound n (parent t′) (rank t′) C) (sym deny-labels)
-            (subst (λ u. Sound n (parent u) (rank u) B₁) (sym (d .same)) (inv .sound));
+              (subst (λ u. Sound n (parent u) (rank u) B₁) (sym (d .same)) (inv .sound));
           later = subst (λ C. Later n (parent (S .table)) (rank (S .table)) B₁ (parent t′) (rank t′) C) (sym deny-labels)
-            (subst (λ u. Later n (parent (S .table)) (rank (S .table)) B₁ (parent u) (rank u) B₁) (sym (d .same))
+              (subst (λ u. Later n (parent (S .table)) (rank (S .table)) B₁ (parent u) (rank u) B₁) (sym (d .same))
               (later-refl n (parent (S .table)) (rank (S .table)) B₁));
           roots = rw (d .unlinked) (ap (λ u. rootCount (parent u) n + S .links) (d .same) ∙ inv .roots);
           settled = λ m l. labelsTo-insert (operationAt qs) point q m B (S .entries) (silent .unchanged);
           entries = replayed-insert point q (entries-stand (not-listed (d .unraised))) (omega (arith, d .positive)) point-free placed-there silent;
           others = λ p e. occurrences-other point q p (S .entries) (λ is. e (sym is));
           after = finishes (ap isFinal (d .answer)) (d .rests)
-            (finished-over (occurrences q (insert point q (S .entries))) (ap isFinal (d .answer))
+              (finished-over (occurrences q (insert point q (S .entries))) (ap isFinal (d .answer))
               (occurrences-inserted point q (S .entries) ∙ ap suc (not-listed (d .unraised))));
         }
 

@@ -51,7 +51,7 @@ module _ {head : Head} {past : List Happening} {times : ℕ} where
   phase-waiting (waiting l r w) b = w
 
 module _ {qs : List Request} {n : ℕ} {B : Labels} {roots₀ : ℕ} {S : State} {past : List Happening}
-         (inside : (q : ℕ) → q < length qs → Inside n (requestAt qs q)) (inv : Invariant qs n B roots₀ S past) where
+    (inside : (q : ℕ) → q < length qs → Inside n (requestAt qs q)) (inv : Invariant qs n B roots₀ S past) where
   -- ---- an idle grant
 
   idle-invariant : Invariant qs n B roots₀ (passed S) (idle ∷ past)
@@ -66,8 +66,8 @@ module _ {qs : List Request} {n : ℕ} {B : Labels} {roots₀ : ℕ} {S : State}
         own = inv .own;
         busy = inv .busy;
         knows = λ h b. knows-later (later-refl n (parent (S .table)) (rank (S .table)) (labels qs B S)) (inside (headAt S h .request) (inv .busy h b .within))
-          {Apart = ApartAt qs B (S .entries) (headAt S h .request)} {Apart′ = ApartAt qs B (S .entries) (headAt S h .request)}
-          {now = S .now} {now′ = suc (S .now)} (omega arith) (λ point l apart. apart) (headAt S h) (headAt S h .stage) (inv .knows h b);
+            {Apart = ApartAt qs B (S .entries) (headAt S h .request)} {Apart′ = ApartAt qs B (S .entries) (headAt S h .request)}
+            {now = S .now} {now′ = suc (S .now)} (omega arith) (λ point l apart. apart) (headAt S h) (headAt S h .stage) (inv .knows h b);
         timed = λ h b. timed-other idle refl (omega (arith, inv .clock, until h b)) (inv .timed h b);
         entries = replayed-map (inv .entries) (λ e m p. placed-other idle refl p) (λ e m. ap (λ r. promised (r .answer)) (sym (row-other (e .request) idle past refl)));
         phases = λ q l. phase-other q past idle refl refl (inv .phases q l);
@@ -75,7 +75,7 @@ module _ {qs : List Request} {n : ℕ} {B : Labels} {roots₀ : ℕ} {S : State}
     where
       until : (h : ℕ) (b : isResting (headAt S h) ≡ false) → pendingOf (headAt S h .stage) ≤ S .now
       until h b = pending-until n (parent (S .table)) (rank (S .table)) (labels qs B S) (ApartAt qs B (S .entries) (headAt S h .request)) (S .now)
-        (requestAt qs (headAt S h .request)) (headAt S h) (headAt S h .stage) (inv .knows h b)
+          (requestAt qs (headAt S h .request)) (headAt S h) (headAt S h .stage) (inv .knows h b)
 
   -- ---- a grant that serves a head
 
@@ -92,19 +92,32 @@ module _ {qs : List Request} {n : ℕ} {B : Labels} {roots₀ : ℕ} {S : State}
       serving-busy busy =
           let c = phase-current own-phase busy in
           record {
-            within = within; own = own-head; position = refl; busy = busy; knows = inv .knows h busy; timed = inv .timed h busy;
-            begun = λ r. c .begun; unfinished = c .unfinished; listed = c .listed }
+            within = within;
+            own = own-head;
+            position = refl;
+            busy = busy;
+            knows = inv .knows h busy;
+            timed = inv .timed h busy;
+            begun = λ r. c .begun;
+            unfinished = c .unfinished;
+            listed = c .listed;
+          }
 
       -- it begins its next request
       serving-begun : isResting (headAt S h) ≡ true → Serving qs n B S past h (begin (requestAt qs (headAt S h .request)) (headAt S h .request))
       serving-begun rests =
           let w = phase-waiting own-phase rests in
           record {
-            within = within; own = own-head; position = refl; busy = refl;
+            within = within;
+            own = own-head;
+            position = refl;
+            busy = refl;
             knows = finding-begin (requestAt qs (headAt S h .request)) (inside (headAt S h .request) within);
             timed = record { unlinked = λ e. w .unlinked; linked = λ e. absurd (true≢false (sym e)); candidate = λ d. absurd (d refl) };
-            begun = λ e. absurd (true≢false (sym e)); unfinished = w .unfinished;
-            listed = w .unlisted ∙ sym (rw (eq-eqb (linkOf (headAt S h .request) past) 0 (w .unlinked))) }
+            begun = λ e. absurd (true≢false (sym e));
+            unfinished = w .unfinished;
+            listed = w .unlisted ∙ sym (rw (eq-eqb (linkOf (headAt S h .request) past) 0 (w .unlinked)));
+          }
 
       pub serving-ready : Serving qs n B S past h (ready qs (headAt S h))
       serving-ready =
@@ -130,13 +143,13 @@ module _ {qs : List Request} {n : ℕ} {B : Labels} {roots₀ : ℕ} {S : State}
 
     pub served-outcome : (head : Head) → Serving qs n B S past h head
         → Outcome n (S .now) (S .table) (touched (S .table) (accessOf head)) (labels qs B S)
-          (join (labels qs B S) (requestAt qs (head .request) .x) (requestAt qs (head .request) .y))
-          (ApartAt qs B (S .entries) (head .request)) (requestAt qs (head .request)) (head .stage) (advanced S head)
+        (join (labels qs B S) (requestAt qs (head .request) .x) (requestAt qs (head .request) .y))
+        (ApartAt qs B (S .entries) (head .request)) (requestAt qs (head .request)) (head .stage) (advanced S head)
     unfolding accessOf advanceOf
     served-outcome head srv =
         step-outcome (S .table) (labels qs B S) (join (labels qs B S) (requestAt qs (head .request) .x) (requestAt qs (head .request) .y)) (S .now)
-          (ApartAt qs B (S .entries) (head .request)) (requestAt qs (head .request)) (inv .nodes) (inside (head .request) (srv .within)) (inv .sound)
-          (union-merged (head .request)) (apart-now (head .request)) head (head .stage) (srv .busy) (srv .knows)
+        (ApartAt qs B (S .entries) (head .request)) (requestAt qs (head .request)) (inv .nodes) (inside (head .request) (srv .within)) (inv .sound)
+        (union-merged (head .request)) (apart-now (head .request)) head (head .stage) (srv .busy) (srv .knows)
 
     served-invariant : (head : Head) → Serving qs n B S past h head → Invariant qs n B roots₀ (served qs S h head) (more S head past)
     served-invariant head srv =

@@ -111,7 +111,7 @@ pub record Invariant (qs : List Request) (n : ℕ) (B : Labels) (roots₀ : ℕ)
   pub busy : (h : ℕ) → isResting (headAt S h) ≡ false → Busy qs h (headAt S h .request)
   pub knows : (h : ℕ) → isResting (headAt S h) ≡ false
       → Knows n (parent (S .table)) (rank (S .table)) (labels qs B S) (ApartAt qs B (S .entries) (headAt S h .request)) (S .now)
-        (requestAt qs (headAt S h .request)) (headAt S h) (headAt S h .stage)
+      (requestAt qs (headAt S h .request)) (headAt S h) (headAt S h .stage)
   pub timed : (h : ℕ) → isResting (headAt S h) ≡ false → Timed (headAt S h .request) past (headAt S h .stage)
   -- entries rise, stand at their points and are answered as reported
   pub entries : Replayed (operationAt qs) (Placed qs past) (claim past) B 0 (S .entries)

@@ -60,7 +60,7 @@ module _ (qs : List Request) (h q : ℕ) where
       let i = seekIn h q (drop q qs) - q in
       let found : seekIn h q (drop q qs) ≡ q + i = omega (arith, seekIn-from h q (drop q qs)) in
       let there : getD (drop q qs) i noRequest .head ≡ h =
-        seekIn-own h q i (drop q qs) found (omega (arith, length-drop q qs, seekIn-from h q (drop q qs))) in
+      seekIn-own h q i (drop q qs) found (omega (arith, length-drop q qs, seekIn-from h q (drop q qs))) in
       ap (λ k. requestAt qs k .head) found ∙ ap (λ r. r .head) (sym (drop-at q i qs)) ∙ there
 
   pub seek-least : (k : ℕ) → q ≤ k → k < length qs → requestAt qs k .head ≡ h → seek qs h q ≤ k
@@ -69,5 +69,5 @@ module _ (qs : List Request) (h q : ℕ) where
       let i = k - q in
       let found : k ≡ q + i = omega arith in
       let there : getD (drop q qs) i noRequest .head ≡ h =
-        ap (λ r. r .head) (drop-at q i qs) ∙ ap (λ j. requestAt qs j .head) (sym found) ∙ own in
+      ap (λ r. r .head) (drop-at q i qs) ∙ ap (λ j. requestAt qs j .head) (sym found) ∙ own in
       omega (arith, seekIn-least h q i (drop q qs) (omega (arith, length-drop q qs)) there)

@@ -54,7 +54,7 @@ pub record Serving (qs : List Request) (n : ℕ) (B : Labels) (S : State) (past 
   pub position : headAt S h .request ≡ head .request
   pub busy : isResting head ≡ false
   pub knows : Knows n (parent (S .table)) (rank (S .table)) (labels qs B S) (ApartAt qs B (S .entries) (head .request)) (S .now)
-    (requestAt qs (head .request)) head (head .stage)
+      (requestAt qs (head .request)) head (head .stage)
   pub timed : Timed (head .request) past (head .stage)
   pub begun : isRaising (head .stage) ≡ true → rowOf (head .request) past .first ≢ 0
   pub unfinished : rowOf (head .request) past .answer ≡ 0
@@ -91,9 +91,9 @@ pub record Effect (qs : List Request) (n : ℕ) (B : Labels) (roots₀ : ℕ) (S
 -- ---- the head that was served
 
 module _ {qs : List Request} {n : ℕ} {B : Labels} {roots₀ : ℕ} {S : State} {past : List Happening} {h : ℕ} {head : Head}
-         (present : h < length (S .heads)) (inside : (q : ℕ) → q < length qs → Inside n (requestAt qs q))
-         (inv : Invariant qs n B roots₀ S past) (serving : Serving qs n B S past h head)
-         (effect : Effect qs n B roots₀ S (served qs S h head) (more S head past) (head .request) (advanced S head)) where
+    (present : h < length (S .heads)) (inside : (q : ℕ) → q < length qs → Inside n (requestAt qs q))
+    (inv : Invariant qs n B roots₀ S past) (serving : Serving qs n B S past h head)
+    (effect : Effect qs n B roots₀ S (served qs S h head) (more S head past) (head .request) (advanced S head)) where
   abbrev q : ℕ
   q = head .request
 
@@ -132,15 +132,15 @@ module _ {qs : List Request} {n : ℕ} {B : Labels} {roots₀ : ℕ} {S : State}
     position-stays = ap (λ a. a .request) stays ∙ keeps
 
     phase-stays : isResting head′ ≡ false → Current q (more S head past) (occurrences q (S′ .entries))
-      → (p : ℕ) → Dec (p ≡ q) → Phase (headAt S h) p past (occurrences p (S .entries))
-      → Phase head′ p (more S head past) (occurrences p (S′ .entries))
+        → (p : ℕ) → Dec (p ≡ q) → Phase (headAt S h) p past (occurrences p (S .entries))
+        → Phase head′ p (more S head past) (occurrences p (S′ .entries))
     phase-stays busy now p (yes e) old = current (e ∙ sym position-stays) busy (rw e now)
     phase-stays busy now p (no d) (over l o) =
         over (omega (arith, serving .position, position-stays)) (over-other p past (serving-of S head) (apart-requests p d) (effect .others p d) o)
     phase-stays busy now p (no d) (current e b c) = absurd (d (e ∙ serving .position))
     phase-stays busy now p (no d) (waiting l r w) =
         waiting (omega (arith, serving .position, position-stays)) (λ e. absurd (d (e ∙ position-stays)))
-          (waiting-other p past (serving-of S head) (apart-requests p d) (effect .others p d) w)
+        (waiting-other p past (serving-of S head) (apart-requests p d) (effect .others p d) w)
 
   -- it has finished it
   module _ (final : isFinal (advanced S head .event .answer) ≡ true) (rests : advanced S head .head .stage ≡ Resting) where
@@ -154,16 +154,16 @@ module _ {qs : List Request} {n : ℕ} {B : Labels} {roots₀ : ℕ} {S : State}
     resting-now = ap (λ a. restingAt (a .stage)) moves ∙ ap restingAt rests
 
     phase-moves : Over q (more S head past) (occurrences q (S′ .entries))
-      → (p : ℕ) → p < length qs → requestAt qs p .head ≡ h → Dec (p ≡ q) → Phase (headAt S h) p past (occurrences p (S .entries))
-      → Phase head′ p (more S head past) (occurrences p (S′ .entries))
+        → (p : ℕ) → p < length qs → requestAt qs p .head ≡ h → Dec (p ≡ q) → Phase (headAt S h) p past (occurrences p (S .entries))
+        → Phase head′ p (more S head past) (occurrences p (S′ .entries))
     phase-moves done p l own (yes e) old = over (omega (arith, position-moves, seek-from qs h (suc q))) (rw e done)
     phase-moves done p l own (no d) (over before o) =
         over (omega (arith, serving .position, position-moves, seek-from qs h (suc q)))
-          (over-other p past (serving-of S head) (apart-requests p d) (effect .others p d) o)
+        (over-other p past (serving-of S head) (apart-requests p d) (effect .others p d) o)
     phase-moves done p l own (no d) (current e b c) = absurd (d (e ∙ serving .position))
     phase-moves done p l own (no d) (waiting from r w) =
         waiting (omega (arith, position-moves, seek-least qs h (suc q) p (omega (arith, serving .position)) l own)) (λ e. resting-now)
-          (waiting-other p past (serving-of S head) (apart-requests p d) (effect .others p d) w)
+        (waiting-other p past (serving-of S head) (apart-requests p d) (effect .others p d) w)
 
   seated : After qs n B S′ (more S head past) q (advanced S head) → Seated
   seated (continues unfinished busy knows timed now) =
@@ -172,9 +172,9 @@ module _ {qs : List Request} {n : ℕ} {B : Labels} {roots₀ : ℕ} {S : State}
         busy = λ b. record { within = omega (arith, position-stays unfinished, serving .within); own = ap (λ p. requestAt qs p .head) (position-stays unfinished) ∙ serving .own };
         knows = λ b. subst (λ a. Known (a .request) a) (sym (stays unfinished)) (subst (λ p. Known p (advanced S head .head)) (sym keeps) knows);
         timed = λ b. subst (λ a. Timed (a .request) (more S head past) (a .stage)) (sym (stays unfinished))
-          (subst (λ p. Timed p (more S head past) (advanced S head .head .stage)) (sym keeps) timed);
+            (subst (λ p. Timed p (more S head past) (advanced S head .head .stage)) (sym keeps) timed);
         phase = λ p l own. phase-stays unfinished (ap isResting (stays unfinished) ∙ busy) now p (ℕ-discrete p q)
-          (subst (λ k. Phase (headAt S k) p past (occurrences p (S .entries))) own (inv .phases p l));
+            (subst (λ k. Phase (headAt S k) p past (occurrences p (S .entries))) own (inv .phases p l));
       }
   seated (finishes final rests done) =
       record {
@@ -183,7 +183,7 @@ module _ {qs : List Request} {n : ℕ} {B : Labels} {roots₀ : ℕ} {S : State}
         knows = λ b. absurd (true≢false (sym (resting-now final rests) ∙ b));
         timed = λ b. absurd (true≢false (sym (resting-now final rests) ∙ b));
         phase = λ p l own. phase-moves final rests done p l own (ℕ-discrete p q)
-          (subst (λ k. Phase (headAt S k) p past (occurrences p (S .entries))) own (inv .phases p l));
+            (subst (λ k. Phase (headAt S k) p past (occurrences p (S .entries))) own (inv .phases p l));
       }
 
   -- ---- the other heads
@@ -199,15 +199,15 @@ module _ {qs : List Request} {n : ℕ} {B : Labels} {roots₀ : ℕ} {S : State}
     knows-other : isResting (headAt S k) ≡ false → Known (headAt S k .request) (headAt S k)
     knows-other b =
         knows-later (effect .later) (inside (headAt S k .request) (inv .busy k b .within))
-          {Apart = ApartAt qs B (S .entries) (headAt S k .request)} {Apart′ = ApartAt qs B (S′ .entries) (headAt S k .request)}
-          {now = S .now} {now′ = suc (S .now)} (omega arith)
-          (λ point l apart. subst (λ C. C (requestAt qs (headAt S k .request) .x) ≢ C (requestAt qs (headAt S k .request) .y)) (sym (effect .settled point l)) apart)
-          (headAt S k) (headAt S k .stage) (inv .knows k b)
+        {Apart = ApartAt qs B (S .entries) (headAt S k .request)} {Apart′ = ApartAt qs B (S′ .entries) (headAt S k .request)}
+        {now = S .now} {now′ = suc (S .now)} (omega arith)
+        (λ point l apart. subst (λ C. C (requestAt qs (headAt S k .request) .x) ≢ C (requestAt qs (headAt S k .request) .y)) (sym (effect .settled point l)) apart)
+        (headAt S k) (headAt S k .stage) (inv .knows k b)
 
     timed-kept : isResting (headAt S k) ≡ false → Timed (headAt S k .request) (more S head past) (headAt S k .stage)
     timed-kept b =
         let until = pending-until n (parent (S .table)) (rank (S .table)) (labels qs B S) (ApartAt qs B (S .entries) (headAt S k .request)) (S .now)
-          (requestAt qs (headAt S k .request)) (headAt S k) (headAt S k .stage) (inv .knows k b) in
+        (requestAt qs (headAt S k .request)) (headAt S k) (headAt S k .stage) (inv .knows k b) in
         timed-other (serving-of S head) (apart-requests (headAt S k .request) (request-other b)) (omega (arith, until, inv .clock)) (inv .timed k b)
 
   head-served : headAt S′ h ≡ head′
@@ -218,7 +218,7 @@ module _ {qs : List Request} {n : ℕ} {B : Labels} {roots₀ : ℕ} {S : State}
   rows-served : (p : ℕ) → p < length qs → Dec (p ≡ q) → getD (S′ .report) p noRow ≡ rowOf p (more S head past)
   rows-served p l (yes e) =
       let there : getD (S′ .report) p noRow ≡ charge (getD (S .report) q noRow) (suc (S .now)) (advanced S head .event .answer) =
-        ap (λ k. getD (S′ .report) k noRow) e ∙ getD-set-same (S .report) q (charge (getD (S .report) q noRow) (suc (S .now)) (advanced S head .event .answer)) noRow (omega (arith, serving .within, inv .reports)) in
+      ap (λ k. getD (S′ .report) k noRow) e ∙ getD-set-same (S .report) q (charge (getD (S .report) q noRow) (suc (S .now)) (advanced S head .event .answer)) noRow (omega (arith, serving .within, inv .reports)) in
       there ∙ ap₂ (λ r g. charge r (suc g) (advanced S head .event .answer)) (inv .rows q (serving .within)) (inv .clock)
       ∙ row-served q (advanced S head .event) past ∙ ap (λ k. rowOf k (more S head past)) (sym e)
   rows-served p l (no d) =

@@ -222,7 +222,7 @@ module _ {n : ℕ} {p r B p′ r′ B′ : ℕ → ℕ} (later : Later n p r B p
         }
 
     module _ {Apart Apart′ : ℕ → Type 0} {now now′ : ℕ} (passes : now ≤ now′)
-             (carried : (point : ℕ) → point ≤ now → Apart point → Apart′ point) where
+        (carried : (point : ℕ) → point ≤ now → Apart point → Apart′ point) where
       rereading-later : {x y point : ℕ} → Rereading n p B Apart now q x y point → Rereading n p′ B′ Apart′ now′ q x y point
       rereading-later {x} {y} {point} a =
           record {

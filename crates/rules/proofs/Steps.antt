@@ -105,8 +105,8 @@ finding-moved h Y u f inside one =
     record { left = f .left; right = inside; ends = ends-exchange (ends-left one (ends-exchange (f .ends))); kind = f .kind }
 
 module _ {n : ℕ} (t : List Node) (B B′ : ℕ → ℕ) (now : ℕ) (Apart : ℕ → Type 0) (q : Request)
-         (nodes : length t ≡ n) (inside : Inside n q) (sound : Sound n (parent t) (rank t) B)
-         (merged : Merged B B′ (q .x) (q .y)) (apart-now : B (q .x) ≢ B (q .y) → Apart (suc now)) (h : Head) where
+    (nodes : length t ≡ n) (inside : Inside n q) (sound : Sound n (parent t) (rank t) B)
+    (merged : Merged B B′ (q .x) (q .y)) (apart-now : B (q .x) ≢ B (q .y) → Apart (suc now)) (h : Head) where
   unchanged : Kept n t t B B
   unchanged = record { sound = sound; later = later-refl n (parent t) (rank t) B }
 
@@ -116,11 +116,21 @@ module _ {n : ℕ} (t : List Node) (B B′ : ℕ → ℕ) (now : ℕ) (Apart : �
       → Kept n t t′ B B → rootCount (parent t′) n ≡ rootCount (parent t) n
       → Knows n (parent t′) (rank t′) B Apart (suc now) q head (head .stage)
       → Outcome n now t t′ B B′ Apart q st
-        (record { head = head; event = record { failed = failed; found = false; linked = false; answer = Unfinished; point = 0 } })
+      (record { head = head; event = record { failed = failed; found = false; linked = false; answer = Unfinished; point = 0 } })
   go-on st head failed unraised busy still none kept roots knows =
       going (record {
-        kept = kept; roots = roots; unraised = unraised; unlinked = refl; unfinished = refl; unplaced = refl;
-        busy = busy; still = still; proposed = λ d. absurd (d none); found = λ d. absurd (d none); knows = knows })
+        kept = kept;
+        roots = roots;
+        unraised = unraised;
+        unlinked = refl;
+        unfinished = refl;
+        unplaced = refl;
+        busy = busy;
+        still = still;
+        proposed = λ d. absurd (d none);
+        found = λ d. absurd (d none);
+        knows = knows;
+      })
 
   -- ---- finds
 
@@ -153,27 +163,55 @@ module _ {n : ℕ} (t : List Node) (B B′ : ℕ → ℕ) (now : ℕ) (Apart : �
   two-roots Union f root d e =
       rw e
       (going (record {
-        kept = unchanged; roots = refl; unraised = refl; unlinked = refl; unfinished = refl; unplaced = refl; busy = refl;
-        still = refl; proposed = λ z. absurd (z refl); found = λ z. absurd (z refl);
-        knows = record { finding = f; distinct = d; rank = omega arith } }))
+        kept = unchanged;
+        roots = refl;
+        unraised = refl;
+        unlinked = refl;
+        unfinished = refl;
+        unplaced = refl;
+        busy = refl;
+        still = refl;
+        proposed = λ z. absurd (z refl);
+        found = λ z. absurd (z refl);
+        knows = record { finding = f; distinct = d; rank = omega arith };
+      }))
   two-roots SameSet f root d e =
       let roots-apart : parent t (h .x) ≡ h .x → B (h .x) ≢ B (h .y) =
-        λ r s. d (sound .labelled .apart (h .x) (h .y) (f .left) (f .right) r root s) in
+      λ r s. d (sound .labelled .apart (h .x) (h .y) (f .left) (f .right) r root s) in
       rw e
       (going (record {
-        kept = unchanged; roots = refl; unraised = refl; unlinked = refl; unfinished = refl; unplaced = refl; busy = refl;
-        still = refl; proposed = λ z. refl; found = λ z. refl;
+        kept = unchanged;
+        roots = refl;
+        unraised = refl;
+        unlinked = refl;
+        unfinished = refl;
+        unplaced = refl;
+        busy = refl;
+        still = refl;
+        proposed = λ z. refl;
+        found = λ z. refl;
         knows = record {
-          finding = f; positive = omega arith; until = omega arith;
-          apart = λ r. apart-now (ends-two (f .ends) (roots-apart r)) } }))
+          finding = f;
+          positive = omega arith;
+          until = omega arith;
+          apart = λ r. apart-now (ends-two (f .ends) (roots-apart r));
+        };
+      }))
 
   one-root : (k : Kind) → Finding n B q k (h .x) (h .y) → h .x ≡ h .y → eqb (h .x) (h .y) ≡ true
       → Outcome n now t t B B′ Apart q (ReadNode k Y) (ended h k Y (suc now))
   one-root k f s e =
       rw e
       (closing (record {
-        same = refl; unraised = refl; unlinked = refl; found = refl; answer = ap together (sym (f .kind)); point = refl;
-        rests = refl; one-set = ends-one (f .ends) s }))
+        same = refl;
+        unraised = refl;
+        unlinked = refl;
+        found = refl;
+        answer = ap together (sym (f .kind));
+        point = refl;
+        rests = refl;
+        one-set = ends-one (f .ends) s;
+      }))
 
   find-ended : (k : Kind) (s : Side) → Finding n B q k (h .x) (h .y) → parent t (nodeAt h s) ≡ nodeAt h s
       → Outcome n now t t B B′ Apart q (ReadNode k s) (ended h k s (suc now))
@@ -189,19 +227,20 @@ module _ {n : ℕ} (t : List Node) (B B′ : ℕ → ℕ) (now : ℕ) (Apart : �
       split (eqb (parent t (nodeAt h s)) (nodeAt h s))
       (λ e. rw e (find-ended k s f (eqb-true (parent t (nodeAt h s)) (nodeAt h s) e)))
       (λ e. rw e
-        (go-on (ReadNode k s) (staged h (ReadParent k s (rank t (nodeAt h s)) (parent t (nodeAt h s)))) false refl refl refl refl
-          unchanged refl
-          (record {
-            finding = f;
-            parent = own-parent (nodeAt h s) (side-node h f s) (eqb-false (parent t (nodeAt h s)) (nodeAt h s) e);
-            rank = refl })))
+      (go-on (ReadNode k s) (staged h (ReadParent k s (rank t (nodeAt h s)) (parent t (nodeAt h s)))) false refl refl refl refl
+      unchanged refl
+      (record {
+        finding = f;
+        parent = own-parent (nodeAt h s) (side-node h f s) (eqb-false (parent t (nodeAt h s)) (nodeAt h s) e);
+        rank = refl;
+      })))
 
   read-parent : (k : Kind) (s : Side) (r u : ℕ) → ReadingParent n (parent t) (rank t) B q k (h .x) (h .y) (nodeAt h s) r u
       → Outcome n now t t B B′ Apart q (ReadParent k s r u)
-        (record { head = staged h (Halve k s r u (parent t u)); event = record { failed = false; found = false; linked = false; answer = Unfinished; point = 0 } })
+      (record { head = staged h (Halve k s r u (parent t u)); event = record { failed = false; found = false; linked = false; answer = Unfinished; point = 0 } })
   read-parent k s r u a =
       go-on (ReadParent k s r u) (staged h (Halve k s r u (parent t u))) false refl refl refl refl unchanged refl
-        (record { finding = a .finding; parent = a .parent; grandparent = above-parent (a .parent); rank = a .rank })
+      (record { finding = a .finding; parent = a .parent; grandparent = above-parent (a .parent); rank = a .rank })
 
   -- the same request, one grant later
   on-again : {t′ : List Node} (k : Kind) (s : Side) (r u w : ℕ) → Kept n t t′ B B
@@ -209,17 +248,17 @@ module _ {n : ℕ} (t : List Node) (B B′ : ℕ → ℕ) (now : ℕ) (Apart : �
       → Knows n (parent t′) (rank t′) B Apart (suc now) q h (ReadAgain k s u)
   on-again k s r u w kept a =
       knows-later (kept .later) inside {Apart = Apart} {Apart′ = Apart} {now = now} {now′ = suc now} (omega arith) (λ point l z. z) h (ReadAgain k s u)
-        (record { finding = a .finding; parent = a .parent })
+      (record { finding = a .finding; parent = a .parent })
 
   halve : (k : Kind) (s : Side) (r u w : ℕ) → Halving n (parent t) (rank t) B q k (h .x) (h .y) (nodeAt h s) r u w
       → Outcome n now t (cond (same (at t (nodeAt h s)) (record { rank = r; parent = u })) (set t (nodeAt h s) (record { rank = r; parent = w })) t)
-        B B′ Apart q (Halve k s r u w) (attempt h (ReadAgain k s u) (at t (nodeAt h s)) (record { rank = r; parent = u }))
+      B B′ Apart q (Halve k s r u w) (attempt h (ReadAgain k s u) (at t (nodeAt h s)) (record { rank = r; parent = u }))
   halve k s r u w a =
       split (same (at t v) (record { rank = r; parent = u }))
       (λ e. rw e (go-on (Halve k s r u w) (staged h (ReadAgain k s u)) false refl refl refl refl kept
-        (halving-roots sound may parents ranks) (on-again k s r u w kept a)))
+      (halving-roots sound may parents ranks) (on-again k s r u w kept a)))
       (λ e. rw e (go-on (Halve k s r u w) (staged h (ReadAgain k s u)) true refl refl refl refl unchanged refl
-        (on-again k s r u w unchanged a)))
+      (on-again k s r u w unchanged a)))
     where
       v : ℕ
       v = nodeAt h s
@@ -227,8 +266,13 @@ module _ {n : ℕ} (t : List Node) (B B′ : ℕ → ℕ) (now : ℕ) (Apart : �
       may : forest-halving.Halving n (parent t) (rank t) B v r w
       may =
           record {
-            node = side-node h (a .finding) s; target = a .grandparent .node; lower = a .parent .lower; rank = sym (a .rank);
-            same = a .grandparent .same; before = a .grandparent .before }
+            node = side-node h (a .finding) s;
+            target = a .grandparent .node;
+            lower = a .parent .lower;
+            rank = sym (a .rank);
+            same = a .grandparent .same;
+            before = a .grandparent .before;
+          }
 
       parents : Changed (parent t) (parent (set t v (record { rank = r; parent = w }))) v w
       parents = parent-changed t v (record { rank = r; parent = w }) (omega (arith, may .node))
@@ -243,8 +287,8 @@ module _ {n : ℕ} (t : List Node) (B B′ : ℕ → ℕ) (now : ℕ) (Apart : �
       → Outcome n now t t B B′ Apart q (ReadAgain k s u) (moveUp h k s (parent t u))
   read-again k s u a =
       go-on (ReadAgain k s u) (staged (movedTo h s (parent t u)) (ReadNode k s)) false refl refl refl refl unchanged refl
-        (finding-moved h s (parent t u) (a .finding) (sound .formed .inside u (a .parent .node))
-          (sound .labelled .along u (a .parent .node) ∙ a .parent .same))
+      (finding-moved h s (parent t u) (a .finding) (sound .formed .inside u (a .parent .node))
+      (sound .labelled .along u (a .parent .node) ∙ a .parent .same))
 
   -- ---- a same-set's last read
 
@@ -253,19 +297,29 @@ module _ {n : ℕ} (t : List Node) (B B′ : ℕ → ℕ) (now : ℕ) (Apart : �
   reread-x point a =
       split (eqb (parent t (h .x)) (h .x))
       (λ e. rw e
-        (denying (record {
-          same = refl; unraised = refl; kind = a .finding .kind; unlinked = refl; unfound = refl; answer = refl; point = refl;
-          rests = refl; positive = a .positive; until = a .until; two-sets = a .apart (eqb-true (parent t (h .x)) (h .x) e) })))
+      (denying (record {
+        same = refl;
+        unraised = refl;
+        kind = a .finding .kind;
+        unlinked = refl;
+        unfound = refl;
+        answer = refl;
+        point = refl;
+        rests = refl;
+        positive = a .positive;
+        until = a .until;
+        two-sets = a .apart (eqb-true (parent t (h .x)) (h .x) e);
+      })))
       (λ e. rw e (go-on (RereadX point) (staged h (restart SameSet)) false refl refl refl refl unchanged refl (a .finding)))
 
   -- ---- a union's ranks and link
 
   read-rank-x : ReadingRanks n (rank t) B q (h .x) (h .y) 0
       → Outcome n now t t B B′ Apart q ReadRankX
-        (record { head = staged h (ReadRankY (rank t (h .x))); event = record { failed = false; found = false; linked = false; answer = Unfinished; point = 0 } })
+      (record { head = staged h (ReadRankY (rank t (h .x))); event = record { failed = false; found = false; linked = false; answer = Unfinished; point = 0 } })
   read-rank-x a =
       go-on ReadRankX (staged h (ReadRankY (rank t (h .x)))) false refl refl refl refl unchanged refl
-        (record { finding = a .finding; distinct = a .distinct; rank = omega arith })
+      (record { finding = a .finding; distinct = a .distinct; rank = omega arith })
 
   -- the order of the ranks read is the order of keys
   ranks-order : (r : ℕ) → Finding n B q Union (h .x) (h .y)
@@ -278,18 +332,20 @@ module _ {n : ℕ} (t : List Node) (B B′ : ℕ → ℕ) (now : ℕ) (Apart : �
   read-rank-y r a =
       split (before (rank t (h .y)) (h .y) r (h .x))
       (λ e.
-        let order : key (rank t (h .y)) (h .y) < key r (h .x) = ltb-true (key (rank t (h .y)) (h .y)) (key r (h .x)) (sym (ranks-order r (a .finding)) ∙ e) in
-        rw e
-        (go-on (ReadRankY r)
-          (record { stage = Link (rank t (h .y)) (eqb r (rank t (h .y))); x = h .y; y = h .x; request = h .request }) false refl refl refl refl unchanged refl
-          (record { finding = finding-exchange (a .finding); rank = omega arith; before = omega (arith, a .rank) })))
+      let order : key (rank t (h .y)) (h .y) < key r (h .x) = ltb-true (key (rank t (h .y)) (h .y)) (key r (h .x)) (sym (ranks-order r (a .finding)) ∙ e) in
+      rw e
+      (go-on (ReadRankY r)
+      (record { stage = Link (rank t (h .y)) (eqb r (rank t (h .y))); x = h .y; y = h .x; request = h .request }) false refl refl refl refl unchanged refl
+      (record { finding = finding-exchange (a .finding); rank = omega arith; before = omega (arith, a .rank) })))
       (λ e.
-        let order : key r (h .x) ≤ key (rank t (h .y)) (h .y) = ltb-false (key (rank t (h .y)) (h .y)) (key r (h .x)) (sym (ranks-order r (a .finding)) ∙ e) in
-        rw e
-        (go-on (ReadRankY r) (staged h (Link r (eqb r (rank t (h .y))))) false refl refl refl refl unchanged refl
-          (record {
-            finding = a .finding; rank = a .rank;
-            before = omega (arith, a .distinct, a .finding .left, a .finding .right, sound .formed .limit) })))
+      let order : key r (h .x) ≤ key (rank t (h .y)) (h .y) = ltb-false (key (rank t (h .y)) (h .y)) (key r (h .x)) (sym (ranks-order r (a .finding)) ∙ e) in
+      rw e
+      (go-on (ReadRankY r) (staged h (Link r (eqb r (rank t (h .y))))) false refl refl refl refl unchanged refl
+      (record {
+        finding = a .finding;
+        rank = a .rank;
+        before = omega (arith, a .distinct, a .finding .left, a .finding .right, sound .formed .limit);
+      })))
 
   -- the link's swap has written: what it did, by whether the ranks read were equal
   module _ (r : ℕ) (a : Linking n (rank t) B q (h .x) (h .y) r) (seen-x : same (at t (h .x)) (record { rank = r; parent = h .x }) ≡ true) where
@@ -299,11 +355,13 @@ module _ {n : ℕ} (t : List Node) (B B′ : ℕ → ℕ) (now : ℕ) (Apart : �
     may-link : forest-linking.Linking n (parent t) (rank t) B B′ (h .x) r (h .y)
     may-link =
         record {
-          node = a .finding .left; target = a .finding .right;
+          node = a .finding .left;
+          target = a .finding .right;
           root = found-parent t (h .x) (record { rank = r; parent = h .x }) seen-x;
           rank = sym (found-rank t (h .x) (record { rank = r; parent = h .x }) seen-x);
           before = omega (arith, a .before, found-rank t (h .x) (record { rank = r; parent = h .x }) seen-x);
-          labels = merged-ends merged (h .x) (h .y) (a .finding .ends) }
+          labels = merged-ends merged (h .x) (h .y) (a .finding .ends);
+        }
 
     link-parents : Changed (parent t) (parent t-linked) (h .x) (h .y)
     link-parents = parent-changed t (h .x) (record { rank = r; parent = h .y }) (omega (arith, a .finding .left))
@@ -315,22 +373,37 @@ module _ {n : ℕ} (t : List Node) (B B′ : ℕ → ℕ) (now : ℕ) (Apart : �
     link-kept =
         record {
           sound = forest-linking.linking-sound sound may-link link-parents link-ranks;
-          later = linking-later sound may-link link-parents link-ranks }
+          later = linking-later sound may-link link-parents link-ranks;
+        }
 
     to-raise : Raising n (rank t-linked) B′ q (h .y) r
     to-raise =
         record {
-          node = a .finding .right; kind = a .finding .kind;
-          rank = omega (arith, a .before, a .finding .left, a .finding .right, sound .formed .limit,
-            forest-linking.linking-ranks sound may-link link-parents link-ranks (h .y));
-          weight = forest-linking.linking-weight sound may-link }
+          node = a .finding .right;
+          kind = a .finding .kind;
+          rank = omega (
+            arith,
+            a .before,
+            a .finding .left,
+            a .finding .right,
+            sound .formed .limit,
+            forest-linking.linking-ranks sound may-link link-parents link-ranks (h .y),
+          );
+          weight = forest-linking.linking-weight sound may-link;
+        }
 
     link-written : (e : Bool) → Outcome n now t t-linked B B′ Apart q (Link r e) (linked h r e (suc now))
     link-written e =
         joining (record {
-          kept = link-kept; roots = linking-roots sound may-link link-parents link-ranks; unraised = refl;
-          kind = a .finding .kind; linked = by-case e; point = at-case e;
-          two-sets = ends-two (a .finding .ends) (forest-linking.linking-apart sound may-link); after = after e })
+          kept = link-kept;
+          roots = linking-roots sound may-link link-parents link-ranks;
+          unraised = refl;
+          kind = a .finding .kind;
+          linked = by-case e;
+          point = at-case e;
+          two-sets = ends-two (a .finding .ends) (forest-linking.linking-apart sound may-link);
+          after = after e;
+        })
       where
         by-case : (e : Bool) → linked h r e (suc now) .event .linked ≡ true
         by-case true = refl
@@ -346,7 +419,7 @@ module _ {n : ℕ} (t : List Node) (B B′ : ℕ → ℕ) (now : ℕ) (Apart : �
 
   link-x : (r : ℕ) (e : Bool) → Linking n (rank t) B q (h .x) (h .y) r
       → Outcome n now t (cond (same (at t (h .x)) (record { rank = r; parent = h .x })) (set t (h .x) (record { rank = r; parent = h .y })) t)
-        B B′ Apart q (Link r e) (link h r e (at t (h .x)) (suc now))
+      B B′ Apart q (Link r e) (link h r e (at t (h .x)) (suc now))
   link-x r e a =
       split (same (at t (h .x)) (record { rank = r; parent = h .x }))
       (λ s. rw s (link-written r a s e))
@@ -359,7 +432,15 @@ module _ {n : ℕ} (t : List Node) (B B′ : ℕ → ℕ) (now : ℕ) (Apart : �
         → Outcome n now t t′ B B′ Apart q (Raise r) (raise h r w)
     raise-ends w kept roots =
         ending (record {
-          kept = kept; roots = roots; raised = refl; kind = a .kind; unlinked = refl; answer = refl; unplaced = refl; rests = refl })
+          kept = kept;
+          roots = roots;
+          raised = refl;
+          kind = a .kind;
+          unlinked = refl;
+          answer = refl;
+          unplaced = refl;
+          rests = refl;
+        })
 
     abbrev t-raised : List Node
     t-raised = set t (h .y) (record { rank = r + 1; parent = h .y })
@@ -368,8 +449,8 @@ module _ {n : ℕ} (t : List Node) (B B′ : ℕ → ℕ) (now : ℕ) (Apart : �
         → Outcome n now t t-raised B B′ Apart q (Raise r) (raise h r w)
     raise-written seen-y w =
         raise-ends w
-          (record { sound = forest-raising.raising-sound sound may parents ranks; later = raising-later sound may parents ranks })
-          (raising-roots sound may parents ranks)
+        (record { sound = forest-raising.raising-sound sound may parents ranks; later = raising-later sound may parents ranks })
+        (raising-roots sound may parents ranks)
       where
         may : forest-raising.Raising n (parent t) (rank t) B (h .y) r
         may =
@@ -377,7 +458,8 @@ module _ {n : ℕ} (t : List Node) (B B′ : ℕ → ℕ) (now : ℕ) (Apart : �
               node = a .node;
               root = found-parent t (h .y) (record { rank = r; parent = h .y }) seen-y;
               rank = sym (found-rank t (h .y) (record { rank = r; parent = h .y }) seen-y);
-              weight = a .weight }
+              weight = a .weight;
+            }
 
         parents : Changed (parent t) (parent t-raised) (h .y) (h .y)
         parents = parent-changed t (h .y) (record { rank = r + 1; parent = h .y }) (omega (arith, a .node))
@@ -390,7 +472,7 @@ module _ {n : ℕ} (t : List Node) (B B′ : ℕ → ℕ) (now : ℕ) (Apart : �
 
     raise-y : (w : Node)
         → Outcome n now t (cond (same (at t (h .y)) (record { rank = r; parent = h .y })) (set t (h .y) (record { rank = r + 1; parent = h .y })) t)
-          B B′ Apart q (Raise r) (raise h r w)
+        B B′ Apart q (Raise r) (raise h r w)
     raise-y w =
         split (same (at t (h .y)) (record { rank = r; parent = h .y }))
         (λ s. rw s (raise-written s w))

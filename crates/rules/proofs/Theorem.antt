@@ -103,7 +103,7 @@ start-invariant {n} {t} {B} qs m begin =
       sound = begin .sound;
       roots = omega arith;
       own = λ h l within. rw (start-head qs m t h (omega (arith, length-heads qs 0 m)))
-        (seek-own qs h 0 (rw (start-head qs m t h (omega (arith, length-heads qs 0 m))) at within));
+          (seek-own qs h 0 (rw (start-head qs m t h (omega (arith, length-heads qs 0 m))) at within));
       busy = λ h b. never-busy (isResting (headAt (start qs m t) h)) (start-resting qs m t h) b;
       knows = λ h b. never-busy (isResting (headAt (start qs m t) h)) (start-resting qs m t h) b;
       timed = λ h b. never-busy (isResting (headAt (start qs m t) h)) (start-resting qs m t h) b;
@@ -126,8 +126,8 @@ module _ {qs : List Request} {n : ℕ} {B : Labels} {roots₀ : ℕ} (inside : (
   run-invariant S past [] granted inv = inv
   run-invariant S past (h ∷ gs) granted inv =
       run-invariant (step qs S h) (happened qs S h ∷ past) gs
-        (λ k m. rw (step-heads qs S h) (granted k (List·Memᴰ·tail m)))
-        (step-invariant inside inv h (granted h (List·Memᴰ·head refl)))
+      (λ k m. rw (step-heads qs S h) (granted k (List·Memᴰ·tail m)))
+      (step-invariant inside inv h (granted h (List·Memᴰ·head refl)))
 
 -- ---- cuts
 
@@ -167,11 +167,15 @@ module _ {qs : List Request} {n : ℕ} {B : Labels} {roots₀ : ℕ} {S : State}
         points = λ e m. placed-entry e m .point;
         requests = λ e m. placed-entry e m .known;
         listed = λ q l. times-listed q (occurrences q (S .entries)) (headAt S (requestAt qs q .head)) (inv .phases q l)
-          ∙ ap (λ r. cond (isListed r (linkOf q past)) 1 0) (sym (inv .rows q l));
+            ∙ ap (λ r. cond (isListed r (linkOf q past)) 1 0) (sym (inv .rows q l));
         ordered = λ e f me mf finished before. ordered e f me mf
-          (λ z. finished (ap (λ r. r .last) (inv .rows (e .request) (placed-entry e me .known)) ∙ z))
-          (omega (arith, before, ap (λ r. r .last) (inv .rows (e .request) (placed-entry e me .known)),
-            ap (λ r. r .first) (inv .rows (f .request) (placed-entry f mf .known))));
+            (λ z. finished (ap (λ r. r .last) (inv .rows (e .request) (placed-entry e me .known)) ∙ z))
+            (omega (
+              arith,
+              before,
+              ap (λ r. r .last) (inv .rows (e .request) (placed-entry e me .known)),
+              ap (λ r. r .first) (inv .rows (f .request) (placed-entry f mf .known)),
+            ));
         answers = replayed-replies reported;
         sets = together-iff-label (inv .sound .formed) (inv .sound .labelled);
       }
@@ -193,7 +197,7 @@ module _ {n m : ℕ} {qs : List Request} {gs : List ℕ} (playable : Playable n 
 
   pub linearized : {t : List Node} {B : Labels} → Startable n t B
       → Linearized B n qs (run qs (start qs m t) gs .table) (run qs (start qs m t) gs .report) (run qs (start qs m t) gs .entries)
-        (history qs (start qs m t) [] gs)
+      (history qs (start qs m t) [] gs)
   linearized begin = invariant-linearized (started-invariant begin)
 
 pub fresh-startable : (n : ℕ) → n ≤ nodeLimit → Startable n (fresh n) apart
@@ -201,5 +205,5 @@ fresh-startable n few = record { nodes = length-fresh 0 n; sound = start-sound (
 
 pub fresh-linearized : {n m : ℕ} {qs : List Request} {gs : List ℕ} → Playable n m qs gs
     → Linearized apart n qs (run qs (start qs m (fresh n)) gs .table) (run qs (start qs m (fresh n)) gs .report)
-      (run qs (start qs m (fresh n)) gs .entries) (history qs (start qs m (fresh n)) [] gs)
+    (run qs (start qs m (fresh n)) gs .entries) (history qs (start qs m (fresh n)) [] gs)
 fresh-linearized {n} playable = linearized playable (fresh-startable n (playable .few))

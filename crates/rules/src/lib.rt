@@ -30,11 +30,7 @@ pub fn is_final(answer: Answer) -> bool
 fn chosen(test: bool, left: u32, right: u32) -> u32
     ensures { λ r. ⌜ r ≡ cond test left right ⌝ }
 {
-    if test {
-        left
-    } else {
-        right
-    }
+    if test { left } else { right }
 }
 
 // The row after one more grant, number now, that gave this answer.

@@ -104,8 +104,8 @@ settled-final qs h moved next t e =
 -- ---- a served grant
 
 module _ {file : List ℕ} {requests h number : ℕ} {b : Buffers} (playing : Playing file requests) (nodes : length (b .table) ≡ meaning file .job .nodes)
-         (present : h < 16) {S : State} {past : List Happening} {lent : List ℕ}
-         (st : Standing (requestsIn file) (length (b .table)) 16 b number S past lent) where
+    (present : h < 16) {S : State} {past : List Happening} {lent : List ℕ}
+    (st : Standing (requestsIn file) (length (b .table)) 16 b number S past lent) where
   abbrev qs : List Request
   qs = requestsIn file
 
@@ -156,11 +156,11 @@ module _ {file : List ℕ} {requests h number : ℕ} {b : Buffers} (playing : Pl
       pub charge-used : number < 4294967296 → rowIn (b .report) (4 * head .request) .used < 4294967295
       charge-used small =
           let row : rowIn (b .report) (4 * head .request) .used ≡ getD (S .report) (ready qs (headAt S h) .request) noRow .used =
-            ap (λ k. rowIn (b .report) (4 * k .request) .used) to-head ∙ ap (λ r. r .used) (row-here st h present srv) in
+          ap (λ k. rowIn (b .report) (4 * k .request) .used) to-head ∙ ap (λ r. r .used) (row-here st h present srv) in
           omega (arith, row, used-bound (st .invariant) (ready qs (headAt S h) .request) (srv .within), st .next)
 
       module _ (a : Access) (is-access : a ≡ accessOf head) (w : Node) (is-seen : w ≡ seenWords (b .table) a)
-               (moved : Advanced) (is-moved : moved ≡ advanceOf head w number) where
+          (moved : Advanced) (is-moved : moved ≡ advanceOf head w number) where
         to-moved : moved ≡ advanceOf (ready qs (headAt S h)) (seenWords (b .table) (accessOf (ready qs (headAt S h)))) number
         to-moved =
             is-moved ∙ ap (λ v. advanceOf head v number) (is-seen ∙ ap (seenWords (b .table)) is-access)
@@ -176,36 +176,40 @@ module _ {file : List ℕ} {requests h number : ℕ} {b : Buffers} (playing : Pl
         entries-after t =
             let S′ = served qs S h (ready qs (headAt S h)) in
             let point : eqb (advanced S (ready qs (headAt S h)) .event .point) 0 ≡ false =
-              ap (λ m. eqb (m .event .point) 0) (sym (to-moved ∙ moved-here st h present srv)) ∙ t in
+            ap (λ m. eqb (m .event .point) 0) (sym (to-moved ∙ moved-here st h present srv)) ∙ t in
             let more : length (S′ .entries) ≡ suc (length (S .entries)) = rw point (length-insert (advanced S (ready qs (headAt S h)) .event .point) (ready qs (headAt S h) .request) (S .entries)) in
-            omega (arith, more, ap (λ T. length (T .entries)) (step-served qs S h work),
-              invariant-few (step-invariant (playing-inside playing nodes) (st .invariant) h (omega (arith, st .heads))))
+            omega (
+              arith,
+              more,
+              ap (λ T. length (T .entries)) (step-served qs S h work),
+              invariant-few (step-invariant (playing-inside playing nodes) (st .invariant) h (omega (arith, st .heads))),
+            )
 
         pub insertable : moved .event .point ≢ 0 → Insertable (b .linearization) (b .entries)
         insertable d =
             subst (λ c. Insertable (c .linearization) (c .entries)) (sym (st .shows))
             (insertable-shown (S .entries) (drop (2 * length (S .entries)) lent)
-              (omega (arith, length-drop (2 * length (S .entries)) lent, st .room, entries-after (ne-eqb (moved .event .point) 0 d)))
-              (replayed-rising (st .invariant .entries)))
+            (omega (arith, length-drop (2 * length (S .entries)) lent, st .room, entries-after (ne-eqb (moved .event .point) 0 d)))
+            (replayed-rising (st .invariant .entries)))
 
         module _ (table′ report′ lin′ : List ℕ) (entries′ mask′ : ℕ) (next : Head)
-                 (is-table : table′ ≡ touchedWords (b .table) a)
-                 (is-report : report′ ≡ stored (b .report) (4 * head .request) (charge (rowIn (b .report) (4 * head .request)) number (moved .event .answer)))
-                 (is-lin : lin′ ≡ cond (eqb (moved .event .point) 0) (b .linearization) (inserted (b .linearization) (b .entries) (moved .event .point) (head .request)))
-                 (is-entries : entries′ ≡ cond (eqb (moved .event .point) 0) (b .entries) (b .entries + 1))
-                 (is-next : next ≡ settled qs h moved)
-                 (is-mask : mask′ ≡ cond (ltb (next .request) requests) (b .mask) (b .mask - 2 ^ h)) where
+            (is-table : table′ ≡ touchedWords (b .table) a)
+            (is-report : report′ ≡ stored (b .report) (4 * head .request) (charge (rowIn (b .report) (4 * head .request)) number (moved .event .answer)))
+            (is-lin : lin′ ≡ cond (eqb (moved .event .point) 0) (b .linearization) (inserted (b .linearization) (b .entries) (moved .event .point) (head .request)))
+            (is-entries : entries′ ≡ cond (eqb (moved .event .point) 0) (b .entries) (b .entries + 1))
+            (is-next : next ≡ settled qs h moved)
+            (is-mask : mask′ ≡ cond (ltb (next .request) requests) (b .mask) (b .mask - 2 ^ h)) where
           pub serve-shown :
               record { heads = set (b .heads) h next; table = table′; report = report′; linearization = lin′; entries = entries′; mask = mask′ }
               ≡ shown qs (step qs S h) lent
           serve-shown =
               served-shown st h present srv moved table′ report′ lin′ entries′ mask′ next to-moved
-                (is-table ∙ ap (touchedWords (b .table)) (is-access ∙ ap accessOf to-head))
-                (is-report ∙ ap (λ k. stored (b .report) (4 * k .request) (charge (rowIn (b .report) (4 * k .request)) number (moved .event .answer))) to-head)
-                (is-lin ∙ ap (λ k. cond (eqb (moved .event .point) 0) (b .linearization) (inserted (b .linearization) (b .entries) (moved .event .point) (k .request))) to-head)
-                is-entries is-next
-                (is-mask ∙ ap (λ k. cond (ltb (next .request) k) (b .mask) (b .mask - 2 ^ h)) (playing .count))
-                work
+              (is-table ∙ ap (touchedWords (b .table)) (is-access ∙ ap accessOf to-head))
+              (is-report ∙ ap (λ k. stored (b .report) (4 * k .request) (charge (rowIn (b .report) (4 * k .request)) number (moved .event .answer))) to-head)
+              (is-lin ∙ ap (λ k. cond (eqb (moved .event .point) 0) (b .linearization) (inserted (b .linearization) (b .entries) (moved .event .point) (k .request))) to-head)
+              is-entries is-next
+              (is-mask ∙ ap (λ k. cond (ltb (next .request) k) (b .mask) (b .mask - 2 ^ h)) (playing .count))
+              work
 
         pub serve-done : (done : Done) → done ≡ record { idle = false; failed = moved .event .failed; linked = moved .event .linked } → done ≡ doneOf (happened qs S h)
         serve-done done is =
@@ -238,7 +242,7 @@ module _ {file : List ℕ} {requests h number : ℕ} {b : Buffers} (r : Ready fi
     ready-used = charge-used (r .playing) (r .nodes) (r .head) (r .standing) bit head is-head
 
     module _ (a : Access) (is-access : a ≡ accessOf head) (w : Node) (is-seen : w ≡ seenWords (b .table) a)
-             (moved : Advanced) (is-moved : moved ≡ advanceOf head w number) where
+        (moved : Advanced) (is-moved : moved ≡ advanceOf head w number) where
       pub ready-insertable : moved .event .point ≢ 0 → Insertable (b .linearization) (b .entries)
       ready-insertable = insertable (r .playing) (r .nodes) (r .head) (r .standing) bit head is-head a is-access w is-seen moved is-moved
 

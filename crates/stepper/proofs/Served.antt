@@ -55,7 +55,7 @@ invariant-worded {n = n} inv =
     }
 
 module _ {qs : List Request} {n : ℕ} {b : Buffers} {number : ℕ} {S : State} {past : List Happening} {lent : List ℕ}
-         (st : Standing qs n 16 b number S past lent) (h : ℕ) (present : h < 16) (srv : Serving qs n apart S past h (ready qs (headAt S h))) where
+    (st : Standing qs n 16 b number S past lent) (h : ℕ) (present : h < 16) (srv : Serving qs n apart S past h (ready qs (headAt S h))) where
   abbrev head : Head
   head = ready qs (headAt S h)
 
@@ -75,7 +75,7 @@ module _ {qs : List Request} {n : ℕ} {b : Buffers} {number : ℕ} {S : State} 
   pub head-raisable : Raisable (head .stage)
   head-raisable =
       stage-raisable n (parent (S .table)) (rank (S .table)) (labels qs apart S) (ApartAt qs apart (S .entries) (head .request)) (S .now) _ head
-        (st .invariant .sound .formed .limit) (head .stage) (srv .knows)
+      (st .invariant .sound .formed .limit) (head .stage) (srv .knows)
 
   seen-here : seenWords (b .table) (accessOf head) ≡ seen (S .table) (accessOf head)
   seen-here = ap (λ c. seenWords (c .table) (accessOf head)) (st .shows) ∙ seen-shown (S .table) (invariant-worded (st .invariant)) (accessOf head) access-here
@@ -88,13 +88,13 @@ module _ {qs : List Request} {n : ℕ} {b : Buffers} {number : ℕ} {S : State} 
 
   -- what each part of the grant left
   module _ (moved : Advanced) (table′ report′ lin′ : List ℕ) (entries′ mask′ : ℕ) (next : Head)
-           (is-moved : moved ≡ advanceOf head (seenWords (b .table) (accessOf head)) number)
-           (is-table : table′ ≡ touchedWords (b .table) (accessOf head))
-           (is-report : report′ ≡ stored (b .report) (4 * head .request) (charge (rowIn (b .report) (4 * head .request)) number (moved .event .answer)))
-           (is-lin : lin′ ≡ cond (eqb (moved .event .point) 0) (b .linearization) (inserted (b .linearization) (b .entries) (moved .event .point) (head .request)))
-           (is-entries : entries′ ≡ cond (eqb (moved .event .point) 0) (b .entries) (b .entries + 1))
-           (is-next : next ≡ settled qs h moved)
-           (is-mask : mask′ ≡ cond (ltb (next .request) (length qs)) (b .mask) (b .mask - 2 ^ h)) where
+      (is-moved : moved ≡ advanceOf head (seenWords (b .table) (accessOf head)) number)
+      (is-table : table′ ≡ touchedWords (b .table) (accessOf head))
+      (is-report : report′ ≡ stored (b .report) (4 * head .request) (charge (rowIn (b .report) (4 * head .request)) number (moved .event .answer)))
+      (is-lin : lin′ ≡ cond (eqb (moved .event .point) 0) (b .linearization) (inserted (b .linearization) (b .entries) (moved .event .point) (head .request)))
+      (is-entries : entries′ ≡ cond (eqb (moved .event .point) 0) (b .entries) (b .entries + 1))
+      (is-next : next ≡ settled qs h moved)
+      (is-mask : mask′ ≡ cond (ltb (next .request) (length qs)) (b .mask) (b .mask - 2 ^ h)) where
     to-advanced : moved ≡ advanced S head
     to-advanced = is-moved ∙ moved-here
 
@@ -107,7 +107,7 @@ module _ {qs : List Request} {n : ℕ} {b : Buffers} {number : ℕ} {S : State} 
     report-shown : report′ ≡ flatRows (set (S .report) (head .request) (charge (getD (S .report) (head .request) noRow) (suc (S .now)) (advanced S head .event .answer)))
     report-shown =
         let row : charge (rowIn (b .report) (4 * head .request)) number (moved .event .answer) ≡ charge (getD (S .report) (head .request) noRow) (suc (S .now)) (advanced S head .event .answer) =
-          ap₂ (λ r g. charge r g (moved .event .answer)) row-here (st .next) ∙ ap (λ m. charge (getD (S .report) (head .request) noRow) (suc (S .now)) (m .event .answer)) to-advanced in
+        ap₂ (λ r g. charge r g (moved .event .answer)) row-here (st .next) ∙ ap (λ m. charge (getD (S .report) (head .request) noRow) (suc (S .now)) (m .event .answer)) to-advanced in
         is-report ∙ ap₂ (λ c r. stored (c .report) (4 * head .request) r) (st .shows) row
         ∙ stored-shown (S .report) (head .request) (charge (getD (S .report) (head .request) noRow) (suc (S .now)) (advanced S head .event .answer)) (omega (arith, srv .within, st .invariant .reports))
 
@@ -127,8 +127,8 @@ module _ {qs : List Request} {n : ℕ} {b : Buffers} {number : ℕ} {S : State} 
     mask-shown work =
         is-mask ∙ ap₂ (λ k c. cond (ltb (k .request) (length qs)) (c .mask) (c .mask - 2 ^ h)) to-next (st .shows)
         ∙ split (hasWork qs (settled qs h (advanced S head)))
-          (λ t. rw t (sym (mask-kept (hasWork qs) (resting 0) (S .heads) h (settled qs h (advanced S head)) (t ∙ sym work))))
-          (λ t. rw t (mask-left (hasWork qs) (resting 0) (S .heads) h (omega (arith, st .heads)) work (settled qs h (advanced S head)) t))
+        (λ t. rw t (sym (mask-kept (hasWork qs) (resting 0) (S .heads) h (settled qs h (advanced S head)) (t ∙ sym work))))
+        (λ t. rw t (mask-left (hasWork qs) (resting 0) (S .heads) h (omega (arith, st .heads)) work (settled qs h (advanced S head)) t))
 
     pub served-shown : hasWork qs (headAt S h) ≡ true
         → record { heads = set (b .heads) h next; table = table′; report = report′; linearization = lin′; entries = entries′; mask = mask′ }
@@ -140,5 +140,6 @@ module _ {qs : List Request} {n : ℕ} {b : Buffers} {number : ℕ} {S : State} 
           report = report-shown i;
           linearization = lin-shown i;
           entries = entries-shown i;
-          mask = mask-shown work i })
+          mask = mask-shown work i;
+        })
         ∙ ap (λ T. shown qs T lent) (sym (step-served qs S h work))

@@ -103,7 +103,18 @@ pub fn grant(
     ensures { λ r. ⌜ ((S : State) (past : List Happening) (lent : List ℕ) → Standing (requestsIn (now (file .entry))) (length (now (table .entry))) 16 (record { heads = heads; table = now (table .entry); report = now (report .entry); linearization = now (linearization .entry); entries = entries; mask = mask }) number S past lent → (record { heads = r .heads; table = now (table .exit); report = now (report .exit); linearization = now (linearization .exit); entries = r .entries; mask = r .mask } ≡ shown (requestsIn (now (file .entry))) (step (requestsIn (now (file .entry))) S h) lent) × (r .done ≡ doneOf (happened (requestsIn (now (file .entry))) S h))) ⌝ }
 {
     if mask::is_set(mask, h) {
-        return serve(file, requests, heads, h, number, table, report, linearization, entries, mask);
+        return serve(
+            file,
+            requests,
+            heads,
+            h,
+            number,
+            table,
+            report,
+            linearization,
+            entries,
+            mask,
+        );
     }
     Granted {
         heads,

@@ -46,10 +46,11 @@ module _ (qs : List Request) (S : State) (h : ℕ) where
 
   pub counted-step : countedOf (tallyOf qs S) (doneOf (happened qs S h)) (maskOf (map (hasWork qs) (step qs S h .heads))) ≡ tallyOf qs (step qs S h)
   counted-step = λ i. record {
-      idle = step-idle i;
-      failed = step-failed i;
-      links = step-links i;
-      working = sym (working-ones qs (step qs S h .heads)) i }
+    idle = step-idle i;
+    failed = step-failed i;
+    links = step-links i;
+    working = sym (working-ones qs (step qs S h .heads)) i;
+  }
 
 -- ---- counters stay small
 

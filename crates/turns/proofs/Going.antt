@@ -50,15 +50,21 @@ pub record Going (file : List ℕ) (requests : ℕ) (lent : List ℕ) (p : Progr
 -- ---- the buffers keep their lengths
 
 module _ {qs : List Request} {n number : ℕ} {b : Buffers} {S : State} {past : List Happening} {lent : List ℕ}
-         (st : Standing qs n 16 b number S past lent) where
+    (st : Standing qs n 16 b number S past lent) where
   pub standing-report : length (b .report) ≡ 4 * length qs
   standing-report = ap (λ c. length (c .report)) (st .shows) ∙ length-rows (S .report) ∙ ap (λ k. 4 * k) (st .invariant .reports)
 
   pub standing-linearization : length (b .linearization) ≡ length lent
   standing-linearization =
       ap (λ c. length (c .linearization)) (st .shows)
-      ∙ omega (arith, length-append (flat (S .entries)) (drop (2 * length (S .entries)) lent), length-flat (S .entries),
-        length-drop (2 * length (S .entries)) lent, invariant-few (st .invariant), st .room)
+      ∙ omega (
+        arith,
+        length-append (flat (S .entries)) (drop (2 * length (S .entries)) lent),
+        length-flat (S .entries),
+        length-drop (2 * length (S .entries)) lent,
+        invariant-few (st .invariant),
+        st .room,
+      )
 
 -- ---- the start
 
@@ -78,16 +84,18 @@ going-start {file} {requests} {count} {mask} {heads} {table} {report} {lineariza
       standing = subst (λ q. Standing (requestsIn file) (length table) 16 (buffersOf q table report linearization) (q .number + 1) (startOf (meaning file .job)) [] linearization) (sym is) (s .standing);
       on = ap (λ q. run (requestsIn file) (startOf (meaning file .job)) (drop (q .number) (meaning file .job .schedule))) is;
       counts = counts ∙ ap (λ w. record { idle = 0; failed = 0; links = 0; working = w })
-        (ap (λ c. ones (c .mask)) (s .standing .shows) ∙ sym (working-ones (requestsIn file) (startOf (meaning file .job) .heads)));
+          (ap (λ c. ones (c .mask)) (s .standing .shows) ∙ sym (working-ones (requestsIn file) (startOf (meaning file .job) .heads)));
       small = record {
-        idle = omega (arith, ap (λ t. t .idle) counts); failed = omega (arith, ap (λ t. t .failed) counts);
-        links = omega (arith, ap (λ t. t .links) counts) };
+        idle = omega (arith, ap (λ t. t .idle) counts);
+        failed = omega (arith, ap (λ t. t .failed) counts);
+        links = omega (arith, ap (λ t. t .links) counts);
+      };
     }
 
 -- ---- one turn
 
 module _ {file : List ℕ} {requests : ℕ} {lent : List ℕ} {p : Progress} {tally : Tally} {table report linearization : List ℕ}
-         (g : Going file requests lent p tally table report linearization) where
+    (g : Going file requests lent p tally table report linearization) where
   abbrev qs : List Request
   qs = requestsIn file
 
@@ -101,14 +109,22 @@ module _ {file : List ℕ} {requests : ℕ} {lent : List ℕ} {p : Progress} {ta
     pub going-turnable : Turnable file requests p table report linearization
     going-turnable =
         record {
-          playing = g .playing; nodes = g .nodes; more = more; left = g .left; state = g .state; past = g .past; lent = lent; standing = g .standing }
+          playing = g .playing;
+          nodes = g .nodes;
+          more = more;
+          left = g .left;
+          state = g .state;
+          past = g .past;
+          lent = lent;
+          standing = g .standing;
+        }
 
     present : h < length (g .state .heads)
     present = omega (arith, playing-admitted (g .playing) .each-grant (p .number) 0 more, playing-admitted (g .playing) .few-heads, g .standing .heads)
 
     module _ (p′ : Progress) (tally′ : Tally) (table′ report′ linearization′ : List ℕ)
-             (turned : Turned file p p′ (buffersOf p′ table′ report′ linearization′) (g .state) lent)
-             (counted : tally′ ≡ countedOf tally (p′ .done) (p′ .mask)) where
+        (turned : Turned file p p′ (buffersOf p′ table′ report′ linearization′) (g .state) lent)
+        (counted : tally′ ≡ countedOf tally (p′ .done) (p′ .mask)) where
       table-after : length table′ ≡ length table
       table-after =
           ap (λ c. length (c .table)) (turned .buffers) ∙ length-mapped encode (step qs (g .state) h .table)
@@ -122,7 +138,8 @@ module _ {file : List ℕ} {requests : ℕ} {lent : List ℕ} {p : Progress} {ta
             heads = step-heads qs (g .state) h ∙ g .standing .heads;
             shows = turned .buffers;
             next = omega (arith, turned .number, g .standing .next, step-now);
-            room = g .standing .room })
+            room = g .standing .room;
+          })
         where
           step-now : step qs (g .state) h .now ≡ suc (g .state .now)
           step-now =
@@ -138,7 +155,7 @@ module _ {file : List ℕ} {requests : ℕ} {lent : List ℕ} {p : Progress} {ta
       pub going-next : Going file requests lent p′ tally′ table′ report′ linearization′
       going-next =
           let cut : drop (p .number) schedule ≡ h ∷ drop (p′ .number) schedule =
-            drop-cons schedule (p .number) 0 more ∙ ap (λ k. h ∷ drop k schedule) next in
+          drop-cons schedule (p .number) 0 more ∙ ap (λ k. h ∷ drop k schedule) next in
           record {
             playing = g .playing;
             nodes = table-after ∙ g .nodes;
@@ -150,7 +167,7 @@ module _ {file : List ℕ} {requests : ℕ} {lent : List ℕ} {p : Progress} {ta
             on = sym (ap (run qs (g .state)) cut) ∙ g .on;
             counts = counts-after;
             small = subst (λ t. Small t (p′ .number)) (sym counted)
-              (subst (λ k. Small (countedOf tally (p′ .done) (p′ .mask)) k) (sym (turned .number)) (counted-small (p′ .done) (p′ .mask) (g .small)));
+                (subst (λ k. Small (countedOf tally (p′ .done) (p′ .mask)) k) (sym (turned .number)) (counted-small (p′ .done) (p′ .mask) (g .small)));
           }
         where
           next : suc (p .number) ≡ p′ .number
@@ -162,10 +179,11 @@ module _ {file : List ℕ} {requests : ℕ} {lent : List ℕ} {p : Progress} {ta
       → record { table = table; report = report; linearization = linearization; ended = ended } ≡ endOf (meaning file .job) lent
   going-end all ended is =
       let last : g .state ≡ runOf (meaning file .job) =
-        sym (ap (run qs (g .state)) (drop-of-length-le schedule {i = p .number} all)) ∙ g .on in
+      sym (ap (run qs (g .state)) (drop-of-length-le schedule {i = p .number} all)) ∙ g .on in
       (λ i. record {
         table = g .standing .shows i .table;
         report = g .standing .shows i .report;
         linearization = g .standing .shows i .linearization;
-        ended = (is ∙ (λ j. record { entries = g .standing .shows j .entries; tally = g .counts j })) i })
+        ended = (is ∙ (λ j. record { entries = g .standing .shows j .entries; tally = g .counts j })) i;
+      })
       ∙ ap (λ S. endAt (meaning file .job) S lent) last

@@ -60,8 +60,8 @@ module _ {file : List ℕ} {requests : ℕ} {p : Progress} {table report lineari
         record {
           number = number;
           left = ap (remaining (runsIn file)) (cursor ∙ ap (λ k. record { next = k .next; head = k .head; left = k .left - 1 }) is)
-            ∙ opened-rest (runsIn file) (runs-some (t .playing)) (p .cursor) head (drop (suc (p .number)) schedule) before-grant
-            ∙ ap (λ k. drop k schedule) one;
+              ∙ opened-rest (runsIn file) (runs-some (t .playing)) (p .cursor) head (drop (suc (p .number)) schedule) before-grant
+              ∙ ap (λ k. drop k schedule) one;
           buffers = buffers ∙ ap (λ k. shown (requestsIn file) (step (requestsIn file) S k) lent) turn-head;
           done = done ∙ ap (λ k. doneOf (happened (requestsIn file) S k)) turn-head;
         }

@@ -32,7 +32,7 @@ follows-some heads before (r ∷ rs) f (suc i) l = follows-some heads r rs (f .1
 module _ {file : List ℕ} {requests : ℕ} (playing : Playing file requests) where
   pub runs-some : (i : ℕ) → i < length (runsIn file) → 0 < getD (runsIn file) i noRun .count
   runs-some = follows-some (meaning file .job .heads) (record { head = 0; count = mostGrants }) (runsIn file)
-    (longest-follow (meaning file .job .heads) 0 (meaning file .job .schedule) (playing-admitted playing .each-grant))
+      (longest-follow (meaning file .job .heads) 0 (meaning file .job .schedule) (playing-admitted playing .each-grant))
 
   pub runs-few : length (runsIn file) ≤ 8192
   runs-few = omega (arith, file-length file (playing .bytes) (playing .accepted), file-short file (playing .bytes) (playing .accepted))
@@ -46,7 +46,7 @@ none-left : {h : ℕ} {rest : List ℕ} → h ∷ rest ≢ []
 none-left e = let z : _≡_ {A = ℕ} (suc _) 0 = ap length e in absurd (omega arith)
 
 module _ (rs : List Run) (some : (i : ℕ) → i < length rs → 0 < getD rs i noRun .count)
-         (c : Cursor) (h : ℕ) (rest : List ℕ) (at : remaining rs c ≡ h ∷ rest) where
+    (c : Cursor) (h : ℕ) (rest : List ℕ) (at : remaining rs c ≡ h ∷ rest) where
   pub at-openable : Openable rs c
   at-openable = record { there = λ z. there z (decLt (c .next) (length rs)) }
     where
@@ -60,7 +60,7 @@ module _ (rs : List Run) (some : (i : ℕ) → i < length rs → 0 < getD rs i n
   opened-remaining : Dec (c .left ≡ 0) → remaining rs (openedOf rs c) ≡ h ∷ rest
   opened-remaining (yes z) =
       let next : granted (drop (c .next) rs) ≡ replicate (getD rs (c .next) noRun .count) (getD rs (c .next) noRun .head) ++ granted (drop (c .next + 1) rs) =
-        granted-next rs (c .next) noRun (at-openable .there z) in
+      granted-next rs (c .next) noRun (at-openable .there z) in
       rw (eq-eqb (c .left) 0 z) (sym next ∙ sym (ap (λ k. replicate k (c .head) ++ granted (drop (c .next) rs)) z) ∙ at)
   opened-remaining (no d) = rw (ne-eqb (c .left) 0 d) at
 

@@ -126,4 +126,4 @@ pub record Startable (file : List ℕ) (requests count : ℕ) (heads : List Head
   pub nodes : length table ≡ meaning file .job .nodes
   pub grants : count ≡ length (meaning file .job .schedule)
   pub standing : Standing (requestsIn file) (length table) 16
-    (record { heads = heads; table = table; report = report; linearization = linearization; entries = 0; mask = mask }) 1 (startOf (meaning file .job)) [] linearization
+      (record { heads = heads; table = table; report = report; linearization = linearization; entries = 0; mask = mask }) 1 (startOf (meaning file .job)) [] linearization

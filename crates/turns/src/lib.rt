@@ -93,7 +93,18 @@ pub fn turn(
     let cursor = open_run(file, requests, progress.cursor);
     let number = progress.number + 1;
     let heads = progress.heads;
-    let granted = grant(file, requests, heads, cursor.head, number, table, report, linearization, progress.entries, progress.mask);
+    let granted = grant(
+        file,
+        requests,
+        heads,
+        cursor.head,
+        number,
+        table,
+        report,
+        linearization,
+        progress.entries,
+        progress.mask,
+    );
     let next = granted.heads;
     let done = granted.done;
     Progress {

@@ -61,9 +61,10 @@ same-length-3 c = search needs
 
 returns : tie.Need-returns
 returns c =
-    λ S past lent st. let p = c .before .before .before .before .before .before .before .before .before .before .before .before .before .before .before .before .before .before .before .before .before .before .before .before .pre in let k = c .before .before .before .before .before .before .before .before .before .before .before .before .before .before .before .before .before .before .ready-head in
-    (serve-shown (p .0 .playing) (p .0 .nodes) (p .0 .head) st (p .1) (k .result) (k .ensures) (c .before .before .before .before .before .before .before .before .before .before .before .before .before .before .before .before .next-access .result) (c .before .before .before .before .before .before .before .before .before .before .before .before .before .before .before .before .next-access .ensures) (c .before .before .before .before .before .before .before .before .before .before .before .before .before .before .before .touch .result) (c .before .before .before .before .before .before .before .before .before .before .before .before .before .before .before .touch .ensures .0) (c .before .before .before .before .before .before .before .before .before .before .before .before .advance .result) (c .before .before .before .before .before .before .before .before .before .before .before .before .advance .ensures) _ _ _ (c .before .before .before .before .enter .result) (c .work-left .result) (c .before .settled-head .result) (c .before .before .before .before .before .before .before .before .before .before .before .before .before .before .before .touch .ensures .1) (c .before .before .before .before .before .before .before .before .before .charge-row .ensures) (c .before .before .before .before .enter .ensures .1) (c .before .before .before .before .enter .ensures .0) (c .before .settled-head .ensures) (c .work-left .ensures),
-    serve-done (p .0 .playing) (p .0 .nodes) (p .0 .head) st (p .1) (k .result) (k .ensures) (c .before .before .before .before .before .before .before .before .before .before .before .before .before .before .before .before .next-access .result) (c .before .before .before .before .before .before .before .before .before .before .before .before .before .before .before .before .next-access .ensures) (c .before .before .before .before .before .before .before .before .before .before .before .before .before .before .before .touch .result) (c .before .before .before .before .before .before .before .before .before .before .before .before .before .before .before .touch .ensures .0) (c .before .before .before .before .before .before .before .before .before .before .before .before .advance .result) (c .before .before .before .before .before .before .before .before .before .before .before .before .advance .ensures) _ refl)
+    λ S past lent st. let p = c .before .before .before .before .before .before .before .before .before .before .before .before .before .before .before .before .before .before .before .before .before .before .before .before .pre in let k = c .before .before .before .before .before .before .before .before .before .before .before .before .before .before .before .before .before .before .ready-head in (
+      serve-shown (p .0 .playing) (p .0 .nodes) (p .0 .head) st (p .1) (k .result) (k .ensures) (c .before .before .before .before .before .before .before .before .before .before .before .before .before .before .before .before .next-access .result) (c .before .before .before .before .before .before .before .before .before .before .before .before .before .before .before .before .next-access .ensures) (c .before .before .before .before .before .before .before .before .before .before .before .before .before .before .before .touch .result) (c .before .before .before .before .before .before .before .before .before .before .before .before .before .before .before .touch .ensures .0) (c .before .before .before .before .before .before .before .before .before .before .before .before .advance .result) (c .before .before .before .before .before .before .before .before .before .before .before .before .advance .ensures) _ _ _ (c .before .before .before .before .enter .result) (c .work-left .result) (c .before .settled-head .result) (c .before .before .before .before .before .before .before .before .before .before .before .before .before .before .before .touch .ensures .1) (c .before .before .before .before .before .before .before .before .before .charge-row .ensures) (c .before .before .before .before .enter .ensures .1) (c .before .before .before .before .enter .ensures .0) (c .before .settled-head .ensures) (c .work-left .ensures),
+      serve-done (p .0 .playing) (p .0 .nodes) (p .0 .head) st (p .1) (k .result) (k .ensures) (c .before .before .before .before .before .before .before .before .before .before .before .before .before .before .before .before .next-access .result) (c .before .before .before .before .before .before .before .before .before .before .before .before .before .before .before .before .next-access .ensures) (c .before .before .before .before .before .before .before .before .before .before .before .before .before .before .before .touch .result) (c .before .before .before .before .before .before .before .before .before .before .before .before .before .before .before .touch .ensures .0) (c .before .before .before .before .before .before .before .before .before .before .before .before .advance .result) (c .before .before .before .before .before .before .before .before .before .before .before .before .advance .ensures) _ refl,
+    )
 
 pub serve-spec : {M : Type 1} → statement M
 serve-spec =
