@@ -1,0 +1,2 @@
+-- The lemma that covers the table.
+pub mod Starred

@@ -1,0 +1,2 @@
+-- The starred cases of document 01, as one table.
+pub mod Starred
