@@ -1,12 +1,14 @@
 -- How the lent buffers show a state of the rules: the table as words, four numbers a request, two an entry, one bit a head.
 --
 --   Buffers           heads, table, report, linearization, the number of entries and the work mask
+--   buffers ..        the same, by its parts
 --   shown qs S lent   what the buffers hold in state S; numbers past the entries are as lent
 --   Done, doneOf a    what a grant adds to the tally
 --   requestsIn file   the requests of a file
 --   Playing           an accepted file, with the number of its requests
 --   Standing          the buffers show a state that a run has reached
 --   Ready             they do, for the next grant to head h
+--   Grants            what a grant makes of the buffers
 use mathlib.Core.Path.{_≡_}
 use mathlib.Core.Bool.{Bool, true, false}
 use mathlib.Core.List.{List, _++_, map}
@@ -21,7 +23,8 @@ use Rattle.jobfile.specs.Meaning.{meaning}
 use Rattle.jobfile.specs.Admitted.{Bytes}
 use Rattle.mask.specs.Mask.{maskOf}
 use Rattle.rules.specs.State.{State, hasWork}
-use Rattle.rules.specs.Run.{Happening}
+use Rattle.rules.specs.Step.{step}
+use Rattle.rules.specs.Run.{Happening, happened}
 use Rattle.rules.specs.Run.Happening.{idle, serving}
 use Rattle.rules.proofs.Invariant.{Invariant}
 use Rattle.stepper.specs.declared.Done.{Done}
@@ -34,6 +37,10 @@ pub record Buffers : Type 0 where
   pub linearization : List ℕ
   pub entries : ℕ
   pub mask : ℕ
+
+abbrev pub buffers : List Head → List ℕ → List ℕ → List ℕ → ℕ → ℕ → Buffers
+buffers heads table report linearization entries mask =
+    record { heads = heads; table = table; report = report; linearization = linearization; entries = entries; mask = mask }
 
 abbrev pub shown : List Request → State → List ℕ → Buffers
 shown qs S lent =
@@ -76,3 +83,10 @@ pub record Ready (file : List ℕ) (requests h number : ℕ) (b : Buffers) : Typ
   pub past : List Happening
   pub lent : List ℕ
   pub standing : Standing (requestsIn file) (length (b .table)) 16 b number state past lent
+
+-- From every state that the buffers b show, the grant to head h, of that number, leaves buffers that show the rules' step,
+-- and `done` is what the grant was.
+abbrev pub Grants : List ℕ → ℕ → ℕ → Buffers → Buffers → Done → Type 0
+Grants file h number b b′ done =
+    (S : State) (past : List Happening) (lent : List ℕ) → Standing (requestsIn file) (length (b .table)) 16 b number S past lent
+    → (b′ ≡ shown (requestsIn file) (step (requestsIn file) S h) lent) × (done ≡ doneOf (happened (requestsIn file) S h))

@@ -10,14 +10,9 @@ use crate::requests::settled_head;
 use process::Head;
 ghost use mathlib.Core.Path.{_≡_};
 ghost use mathlib.Core.Bool.{true, cond};
-ghost use mathlib.Core.List.{List};
-ghost use Prim.Native.Nat.{ℕ, _-_, _/_, _%_, _^_, _≤_, _<_};
+ghost use Prim.Native.Nat.{_-_, _/_, _%_, _^_, _≤_, _<_};
 ghost use lib.Dec.{eqb, ltb};
-ghost use lib.ListN.{length};
-ghost use Rattle.rules.specs.State.{State};
-ghost use Rattle.rules.specs.Step.{step};
-ghost use Rattle.rules.specs.Run.{Happening, happened};
-ghost use Rattle.stepper.specs.Shown.{Buffers, shown, doneOf, requestsIn, Standing, Ready};
+ghost use Rattle.stepper.specs.Shown.{buffers, Ready, Grants};
 
 // What a grant adds to the tally: an idle grant, a swap that did not write, a link.
 pub struct Done {
@@ -59,9 +54,9 @@ fn serve(
     entries: u32,
     mask: u32,
 ) -> Granted
-    requires { ⌜ Ready (now file) requests h number (record { heads = heads; table = now table; report = now report; linearization = now linearization; entries = entries; mask = mask }) ⌝ }
+    requires { ⌜ Ready (now file) requests h number (buffers heads (now table) (now report) (now linearization) entries mask) ⌝ }
     requires { ⌜ eqb (mask / 2 ^ h % 2) 1 ≡ true ⌝ }
-    ensures { λ r. ⌜ ((S : State) (past : List Happening) (lent : List ℕ) → Standing (requestsIn (now (file .entry))) (length (now (table .entry))) 16 (record { heads = heads; table = now (table .entry); report = now (report .entry); linearization = now (linearization .entry); entries = entries; mask = mask }) number S past lent → (record { heads = r .heads; table = now (table .exit); report = now (report .exit); linearization = now (linearization .exit); entries = r .entries; mask = r .mask } ≡ shown (requestsIn (now (file .entry))) (step (requestsIn (now (file .entry))) S h) lent) × (r .done ≡ doneOf (happened (requestsIn (now (file .entry))) S h))) ⌝ }
+    ensures { λ r. ⌜ Grants (now (file .entry)) h number (buffers heads (now (table .entry)) (now (report .entry)) (now (linearization .entry)) entries mask) (buffers (r .heads) (now (table .exit)) (now (report .exit)) (now (linearization .exit)) (r .entries) (r .mask)) (r .done) ⌝ }
 {
     let at = h as usize;
     let head = ready_head(file, requests, heads[at]);
@@ -99,8 +94,8 @@ pub fn grant(
     entries: u32,
     mask: u32,
 ) -> Granted
-    requires { ⌜ Ready (now file) requests h number (record { heads = heads; table = now table; report = now report; linearization = now linearization; entries = entries; mask = mask }) ⌝ }
-    ensures { λ r. ⌜ ((S : State) (past : List Happening) (lent : List ℕ) → Standing (requestsIn (now (file .entry))) (length (now (table .entry))) 16 (record { heads = heads; table = now (table .entry); report = now (report .entry); linearization = now (linearization .entry); entries = entries; mask = mask }) number S past lent → (record { heads = r .heads; table = now (table .exit); report = now (report .exit); linearization = now (linearization .exit); entries = r .entries; mask = r .mask } ≡ shown (requestsIn (now (file .entry))) (step (requestsIn (now (file .entry))) S h) lent) × (r .done ≡ doneOf (happened (requestsIn (now (file .entry))) S h))) ⌝ }
+    requires { ⌜ Ready (now file) requests h number (buffers heads (now table) (now report) (now linearization) entries mask) ⌝ }
+    ensures { λ r. ⌜ Grants (now (file .entry)) h number (buffers heads (now (table .entry)) (now (report .entry)) (now (linearization .entry)) entries mask) (buffers (r .heads) (now (table .exit)) (now (report .exit)) (now (linearization .exit)) (r .entries) (r .mask)) (r .done) ⌝ }
 {
     if mask::is_set(mask, h) {
         return serve(

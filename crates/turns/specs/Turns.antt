@@ -7,6 +7,7 @@
 --   remaining rs c        the grants from the cursor c on
 --   buffersOf p t r l     the buffers t, r, l with what the play carries
 --   Turnable, Turned      what a turn asks and what it leaves
+--   Turns                 what it leaves, from every state that the buffers show
 --   runOf j               the rules' run of the job j
 --   End, endOf j lent     what the play of the job j leaves
 use mathlib.Core.Path.{_≡_}
@@ -92,6 +93,10 @@ pub record Turned (file : List ℕ) (p p′ : Progress) (b′ : Buffers) (S : St
   pub left : remaining (runsIn file) (p′ .cursor) ≡ drop (p .number + 1) (meaning file .job .schedule)
   pub buffers : b′ ≡ shown (requestsIn file) (step (requestsIn file) S (getD (meaning file .job .schedule) (p .number) 0)) lent
   pub done : p′ .done ≡ doneOf (happened (requestsIn file) S (getD (meaning file .job .schedule) (p .number) 0))
+
+abbrev pub Turns : List ℕ → Progress → Progress → Buffers → Buffers → Type 0
+Turns file p p′ b b′ =
+    (S : State) (past : List Happening) (lent : List ℕ) → Standing (requestsIn file) (length (b .table)) 16 b (p .number + 1) S past lent → Turned file p p′ b′ S lent
 
 -- ---- the whole schedule
 

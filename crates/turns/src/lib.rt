@@ -4,15 +4,11 @@ use process::Head;
 use stepper::Done;
 use stepper::grant;
 ghost use mathlib.Core.Path.{_≡_};
-ghost use mathlib.Core.List.{List};
-ghost use Prim.Native.Nat.{ℕ, _+_, _<_};
-ghost use lib.ListN.{length, getD};
+ghost use Prim.Native.Nat.{_<_};
 ghost use Rattle.jobfile.specs.Meaning.{meaning};
-ghost use Rattle.rules.specs.State.{State};
 ghost use Rattle.rules.specs.Step.{plus};
-ghost use Rattle.rules.specs.Run.{Happening};
-ghost use Rattle.stepper.specs.Shown.{requestsIn, Standing, Playing};
-ghost use Rattle.turns.specs.Turns.{Roomy, countedOf, runsIn, openedOf, Openable, buffersOf, Turnable, Turned, Startable, endOf};
+ghost use Rattle.stepper.specs.Shown.{Playing};
+ghost use Rattle.turns.specs.Turns.{Roomy, countedOf, runsIn, openedOf, Openable, buffersOf, Turnable, Turns, Startable, endOf};
 
 // Where a play stands among the runs of the file: the next run, and the head and the grants left of the one under way.
 pub struct Cursor {
@@ -88,7 +84,7 @@ pub fn turn(
     linearization: &mut [u32],
 ) -> Progress
     requires { ⌜ Turnable (now file) requests progress (now table) (now report) (now linearization) ⌝ }
-    ensures { λ r. ⌜ ((S : State) (past : List Happening) (lent : List ℕ) → Standing (requestsIn (now (file .entry))) (length (now (table .entry))) 16 (buffersOf progress (now (table .entry)) (now (report .entry)) (now (linearization .entry))) (progress .number + 1) S past lent → Turned (now (file .entry)) progress r (buffersOf r (now (table .exit)) (now (report .exit)) (now (linearization .exit))) S lent) ⌝ }
+    ensures { λ r. ⌜ Turns (now (file .entry)) progress r (buffersOf progress (now (table .entry)) (now (report .entry)) (now (linearization .entry))) (buffersOf r (now (table .exit)) (now (report .exit)) (now (linearization .exit))) ⌝ }
 {
     let cursor = open_run(file, requests, progress.cursor);
     let number = progress.number + 1;
