@@ -59,6 +59,17 @@ pub fn larger(random: &mut Random) -> Job {
 
 fn requests(random: &mut Random, nodes: u32, heads: u32, count: u32) -> Vec<Request> {
     let unions = random.pick(&[10, 50, 70, 90, 100]);
+    mixed_requests(random, nodes, heads, count, unions)
+}
+
+/// So many requests of any heads and nodes, of which so many in a hundred are unions.
+pub fn mixed_requests(
+    random: &mut Random,
+    nodes: u32,
+    heads: u32,
+    count: u32,
+    unions: u32,
+) -> Vec<Request> {
     let mut request = || {
         let head = random.below(heads) as u8;
         let (x, y) = (random.below(nodes), random.below(nodes));

@@ -1,7 +1,8 @@
 //! A second player of job files, written from document 01 alone.
 //!
 //! `play`, `job`, `query` and `listing` are the player; `replay` and `demand` say what a run must
-//! leave; `gen` makes jobs and damage; `player` is how any player, this one or another, is called.
+//! leave; `gen` makes jobs and damage; `player` is how any player, this one or another, is called;
+//! `proved`, under the feature `core`, is the proved core as such a player.
 
 #![forbid(unsafe_code)]
 
@@ -13,6 +14,8 @@ pub mod listing;
 pub mod numbers;
 pub mod play;
 pub mod player;
+#[cfg(feature = "core")]
+pub mod proved;
 pub mod query;
 pub mod replay;
 pub mod word;

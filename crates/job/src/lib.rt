@@ -26,6 +26,7 @@ pub struct Request {
 }
 
 // The counters of a play (document 01: tally): idle grants, failed swaps, links, and the heads with work left.
+#[repr(C)]
 pub struct Tally {
     pub idle: u32,
     pub failed: u32,
@@ -34,6 +35,7 @@ pub struct Tally {
 }
 
 // What a play answers: 0 and its counts, or a refusal's number and zero for every count.
+#[repr(C)]
 pub struct Played {
     pub number: u32,
     pub nodes: u32,

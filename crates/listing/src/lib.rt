@@ -18,6 +18,7 @@ pub enum Section {
 }
 
 // What `list` answers: 0 and the text's length, which a usize holds for every play, or a refusal's number and zero.
+#[repr(C)]
 pub struct Listed {
     pub number: u32,
     pub bytes: usize,

@@ -21,6 +21,7 @@ ghost use Rattle.query.specs.Faithful.{Faithful};
 ghost use Rattle.query.specs.Ready.{Admitted, Touchable, Ready};
 
 // What an enquiry is told: 0, its answer (3 yes, 4 no, 0 spent) and the grants used; or a refusal's number and zeros.
+#[repr(C)]
 pub struct Queried {
     pub number: u32,
     pub answer: u32,

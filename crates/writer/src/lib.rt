@@ -8,6 +8,7 @@ ghost use mathlib.Core.Path.{_≡_};
 ghost use Rattle.writer.specs.Write.{given, writes};
 
 // What the writer answers: 0 and the bytes written, or a refusal's number and no bytes.
+#[repr(C)]
 pub struct Written {
     pub number: u32,
     pub bytes: u32,

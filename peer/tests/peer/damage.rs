@@ -3,7 +3,7 @@
 use peer::gen::{self, Expected, Random};
 use peer::job::{self, MAX_BYTES};
 use peer::numbers::refusal;
-use peer::player::{Lengths, Outcome, Player, AMPLE};
+use peer::player::{Lengths, Outcome, Player, AMPLE, PEER};
 
 use crate::writer::written;
 use crate::PLAYERS;
@@ -16,6 +16,7 @@ fn number(player: &Player, file: &[u8]) -> u32 {
     let number = outcome.played.number;
     match job::read(file) {
         Ok(job) => {
+            assert_eq!(outcome, Outcome::of(PEER.play, file, AMPLE), "{}", player.name);
             assert_eq!(number, refusal::NONE);
             // An accepted file's meaning is written as that file.
             let again = written(player, &job, &job.flat_requests(), MAX_BYTES);

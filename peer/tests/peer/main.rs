@@ -6,10 +6,15 @@ mod cases;
 mod damage;
 mod edges;
 mod enquiry;
+#[cfg(feature = "core")]
+mod listed;
 mod plain;
 mod random;
 mod writer;
 mod wrong_turns;
 
 /// Who is tested: a player in this list is put under every test.
+#[cfg(not(feature = "core"))]
 const PLAYERS: [Player; 1] = [PEER];
+#[cfg(feature = "core")]
+const PLAYERS: [Player; 2] = [PEER, peer::proved::CORE];

@@ -8,6 +8,7 @@ use peer::numbers::answer;
 use peer::player::{Lengths, Outcome, AMPLE};
 
 use crate::plain::{self, Turn};
+use crate::writer::written;
 use crate::PLAYERS;
 
 const JOBS: u64 = 20_000;
@@ -28,6 +29,8 @@ fn check(job: &Job, more: usize) -> demand::Verdict {
     for player in PLAYERS {
         let played = Outcome::of(player.play, &file, lengths);
         assert_eq!(played, outcome, "{}", player.name);
+        let again = written(&player, job, &job.flat_requests(), file.len() + more);
+        assert_eq!(again.as_ref(), Ok(&file), "{}", player.name);
     }
     assert_eq!(outcome, by_plain(&file, lengths));
     demand::check(job, &trace, &outcome)
@@ -106,7 +109,7 @@ fn jobs_contend() {
 
 #[test]
 fn a_listing_shows_the_outcome() {
-    for seed in 0..500 {
+    for seed in 0..JOBS {
         let job = gen::contended(&mut Random::new(seed));
         let file = job.file().expect("accepted");
         let Outcome { played, table, report, lineup } = by_plain(&file, AMPLE);

@@ -1,0 +1,12 @@
+//! Links the static library, which `rt staticlib exports` writes.
+
+use std::path::Path;
+
+fn main() {
+    let root =
+        Path::new(env!("CARGO_MANIFEST_DIR")).parent().expect("the crate stands in the repository");
+    let folder = root.join("target/staticlib");
+    println!("cargo:rustc-link-search=native={}", folder.display());
+    println!("cargo:rustc-link-lib=static=exports");
+    println!("cargo:rerun-if-changed={}", folder.join("libexports.a").display());
+}
