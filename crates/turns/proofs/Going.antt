@@ -4,6 +4,7 @@
 --
 -- Main laws: going-start, going-next and going-end.
 use mathlib.Core.Path.{_≡_, refl, sym, ap, ap₂, _∙_, subst}
+use mathlib.Core.Bool.{false}
 use mathlib.Core.List.{List, [], _∷_, _++_, map}
 use Prim.Native.Nat.{ℕ, suc, _+_, _*_, _≤_, _<_}
 use native.Mathlib.Omega.{arith}
@@ -24,6 +25,7 @@ use Rattle.rules.specs.Step.{step}
 use Rattle.rules.specs.Run.{Happening, run, happened}
 use Rattle.rules.proofs.Grant.{step-invariant}
 use Rattle.rules.proofs.Theorem.{step-heads}
+use Rattle.stepper.specs.declared.Done.{Done}
 use Rattle.stepper.specs.Buffers.{flatRows}
 use Rattle.stepper.specs.Shown.{Buffers, shown, doneOf, requestsIn, Playing, Standing}
 use Rattle.stepper.proofs.Lists.{length-mapped, length-rows}
@@ -46,6 +48,28 @@ pub record Going (file : List ℕ) (requests : ℕ) (lent : List ℕ) (p : Progr
   pub on : run (requestsIn file) state (drop (p .number) (meaning file .job .schedule)) ≡ runOf (meaning file .job)
   pub counts : tally ≡ tallyOf (requestsIn file) state
   pub small : Small tally (p .number)
+
+abbrev pub noDone : Done
+noDone = record { idle = false; failed = false; linked = false }
+
+-- what the last grant was does not matter to the loop
+pub going-done : {file : List ℕ} {requests : ℕ} {lent : List ℕ} {tally : Tally} {table report linearization : List ℕ} (p : Progress) (d : Done)
+    → Going file requests lent p tally table report linearization
+    → Going file requests lent (record { heads = p .heads; entries = p .entries; mask = p .mask; number = p .number; cursor = p .cursor; done = d })
+    tally table report linearization
+going-done p d g =
+    record {
+      playing = g .playing;
+      nodes = g .nodes;
+      within = g .within;
+      left = g .left;
+      state = g .state;
+      past = g .past;
+      standing = g .standing;
+      on = g .on;
+      counts = g .counts;
+      small = g .small;
+    }
 
 -- ---- the buffers keep their lengths
 

@@ -4,6 +4,7 @@
 --   countedOf t d mask    the tally t after a grant that was d; the fourth number is the mask's count of ones
 --   runsIn file           the runs of a file
 --   openedOf rs c         the cursor c at a grant
+--   takenOf c             the cursor c after a grant
 --   remaining rs c        the grants from the cursor c on
 --   buffersOf p t r l     the buffers t, r, l with what the play carries
 --   Turnable, Turned      what a turn asks and what it leaves
@@ -13,7 +14,7 @@
 use mathlib.Core.Path.{_≡_}
 use mathlib.Core.Bool.{cond}
 use mathlib.Core.List.{List, [], _++_, map}
-use Prim.Native.Nat.{ℕ, _+_, _*_, _<_, _≤_}
+use Prim.Native.Nat.{ℕ, _+_, _-_, _*_, _<_, _≤_}
 use lib.Count.{ones}
 use lib.Dec.{eqb}
 use lib.ListN.{length, getD, drop, replicate}
@@ -63,6 +64,9 @@ openedOf rs c =
     cond (eqb (c .left) 0)
     (record { next = c .next + 1; head = getD rs (c .next) noRun .head; left = getD rs (c .next) noRun .count })
     c
+
+abbrev pub takenOf : Cursor → Cursor
+takenOf c = record { next = c .next; head = c .head; left = c .left - 1 }
 
 abbrev pub remaining : List Run → Cursor → List ℕ
 remaining rs c = replicate (c .left) (c .head) ++ granted (drop (c .next) rs)

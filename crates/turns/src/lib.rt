@@ -8,7 +8,7 @@ ghost use Prim.Native.Nat.{_<_};
 ghost use Rattle.jobfile.specs.Meaning.{meaning};
 ghost use Rattle.rules.specs.Step.{plus};
 ghost use Rattle.stepper.specs.Shown.{Playing};
-ghost use Rattle.turns.specs.Turns.{Roomy, countedOf, runsIn, openedOf, Openable, buffersOf, Turnable, Turns, Startable, endOf};
+ghost use Rattle.turns.specs.Turns.{Roomy, countedOf, runsIn, openedOf, takenOf, Openable, buffersOf, Turnable, Turns, Startable, endOf};
 
 // Where a play stands among the runs of the file: the next run, and the head and the grants left of the one under way.
 pub struct Cursor {
@@ -74,6 +74,18 @@ fn open_run(file: &[u8], requests: u32, cursor: Cursor) -> Cursor
     cursor
 }
 
+// The cursor after one grant of its run.
+fn taken(cursor: Cursor) -> Cursor
+    requires { ⌜ 0 < cursor .left ⌝ }
+    ensures { λ r. ⌜ r ≡ takenOf cursor ⌝ }
+{
+    Cursor {
+        next: cursor.next,
+        head: cursor.head,
+        left: cursor.left - 1,
+    }
+}
+
 // One grant: the next of the schedule.
 pub fn turn(
     file: &[u8],
@@ -108,16 +120,13 @@ pub fn turn(
         entries: granted.entries,
         mask: granted.mask,
         number,
-        cursor: Cursor {
-            next: cursor.next,
-            head: cursor.head,
-            left: cursor.left - 1,
-        },
+        cursor: taken(cursor),
         done,
     }
 }
 
-// Plays all grants of an accepted file, from buffers that show the start.
+// Plays all grants of an accepted file, from buffers that show the start. The heads are a local of the loop and go into and out
+// of each grant, so that an idle grant copies nothing.
 pub fn play_grants(
     file: &[u8],
     requests: u32,
@@ -131,21 +140,14 @@ pub fn play_grants(
     requires { ⌜ Startable (now file) requests grants heads mask (now table) (now report) (now linearization) ⌝ }
     ensures { λ r. ⌜ record { table = now (table .exit); report = now (report .exit); linearization = now (linearization .exit); ended = r } ≡ endOf (meaning (now (file .entry)) .job) (now (linearization .entry)) ⌝ }
 {
-    let mut progress = Progress {
-        heads,
-        entries: 0,
-        mask,
-        number: 0,
-        cursor: Cursor {
-            next: 0,
-            head: 0,
-            left: 0,
-        },
-        done: Done {
-            idle: false,
-            failed: false,
-            linked: false,
-        },
+    let mut now_heads = heads;
+    let mut work = mask;
+    let mut entries: u32 = 0;
+    let mut number: u32 = 0;
+    let mut cursor = Cursor {
+        next: 0,
+        head: 0,
+        left: 0,
     };
     let mut tally = Tally {
         idle: 0,
@@ -153,12 +155,27 @@ pub fn play_grants(
         links: 0,
         working: mask::count(mask),
     };
-    while progress.number < grants {
-        progress = turn(file, requests, progress, table, report, linearization);
-        tally = counted(tally, progress.done, progress.mask);
+    while number < grants {
+        let run = open_run(file, requests, cursor);
+        number += 1;
+        let granted = grant(
+            file,
+            requests,
+            now_heads,
+            run.head,
+            number,
+            table,
+            report,
+            linearization,
+            entries,
+            work,
+        );
+        let next = granted.heads;
+        now_heads = next;
+        entries = granted.entries;
+        work = granted.mask;
+        cursor = taken(run);
+        tally = counted(tally, granted.done, work);
     }
-    Ended {
-        entries: progress.entries,
-        tally,
-    }
+    Ended { entries, tally }
 }

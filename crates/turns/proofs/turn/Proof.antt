@@ -15,8 +15,8 @@ add-number c = omega (arith, turn-number (c .before .before .before .before .bef
 grant-requires : tie.Need-grant-requires
 grant-requires c κs = turn-ready (c .before .before .before .before .before .before .before .before .before .before .pre) (c .before .before .before .before .before .open-run .result) (c .before .before .before .before .before .open-run .ensures)
 
-sub-t19 : tie.Need-sub-t19
-sub-t19 c = omega (arith, turn-left (c .before .before .before .before .before .before .before .before .before .before .before .before .before .before .before .before .before .before .before .before .pre) (c .before .before .before .before .before .before .before .before .before .before .before .before .before .before .before .open-run .result) (c .before .before .before .before .before .before .before .before .before .before .before .before .before .before .before .open-run .ensures))
+taken-requires : tie.Need-taken-requires
+taken-requires c κs = turn-left (c .before .before .before .before .before .before .before .before .before .before .before .before .before .before .before .before .before .before .before .pre) (c .before .before .before .before .before .before .before .before .before .before .before .before .before .before .open-run .result) (c .before .before .before .before .before .before .before .before .before .before .before .before .before .before .open-run .ensures)
 
 same-length : tie.Need-same-length
 same-length c = search needs
@@ -30,7 +30,7 @@ same-length-3 c = search needs
 returns : tie.Need-returns
 returns c =
     λ S past lent st. let g = c .before .before .before .before .before .before .before .before .before .grant .ensures S past lent st in
-    turn-turned (c .before .before .before .before .before .before .before .before .before .before .before .before .before .before .before .before .before .before .before .before .pre) (c .before .before .before .before .before .before .before .before .before .before .before .before .before .before .before .open-run .result) (c .before .before .before .before .before .before .before .before .before .before .before .before .before .before .before .open-run .ensures) _ _ S lent refl refl (g .0) (g .1)
+    turn-turned (c .before .before .before .before .before .before .before .before .before .before .before .before .before .before .before .before .before .before .before .before .pre) (c .before .before .before .before .before .before .before .before .before .before .before .before .before .before .before .open-run .result) (c .before .before .before .before .before .before .before .before .before .before .before .before .before .before .before .open-run .ensures) _ _ S lent refl (c .taken .ensures) (g .0) (g .1)
 
 pub turn-spec : {M : Type 1} → statement M
 turn-spec =
@@ -39,7 +39,7 @@ turn-spec =
     open-run-requires
     add-number
     grant-requires
-    sub-t19
+    taken-requires
     same-length
     same-length-2
     same-length-3
