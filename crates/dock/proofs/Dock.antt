@@ -1,7 +1,6 @@
 -- Every play can be printed: its buffers hold what its text shows, and the text fits into `longest` bytes.
 --
---   Printable left   what a play left holds all that its text shows, in at most 5,120 lines
---   Narrow-play left the numbers that a play left have 32 bits
+--   PrintableLeft left   `Printable`, of what a play left
 use mathlib.Core.Path.{_≡_, refl}
 use mathlib.Core.Bool.{Bool, true, false}
 use mathlib.Core.List.{List, [], _∷_, _++_, map}
@@ -31,16 +30,15 @@ use Rattle.listing.specs.Listing.{refusedName, listing, sourcesShort, listed, p
 use Rattle.listing.specs.Writing.{Enough}
 use Rattle.listing.proofs.Text.{line-short}
 use Rattle.listing.proofs.Listing.{Fitting, accepted-lines}
-use Rattle.dock.specs.Dock.{longest}
+use Rattle.dock.specs.Dock.{longest, written, Printable}
 
 -- ---- what a play leaves
 
-pub record Printable (left : Left) : Type 0 where
-  pub enough : Enough (left .result) (left .table) (left .report) (left .linearization)
-  pub lines : left .result .nodes + left .result .requests + left .result .entries ≤ 5120
+abbrev pub PrintableLeft : Left → Type 0
+PrintableLeft left = Printable (left .result) (left .table) (left .report) (left .linearization)
 
 -- The table has the job's nodes, the report its requests, and a request is entered at most once.
-accepted-printable : (j : Job) → Admitted j → (table report linearization : List ℕ) → Printable (cutOf j table report linearization)
+accepted-printable : (j : Job) → Admitted j → (table report linearization : List ℕ) → PrintableLeft (cutOf j table report linearization)
 accepted-printable j admitted table report linearization =
     let ended = run-ended j admitted in
     record {
@@ -52,20 +50,22 @@ accepted-printable j admitted table report linearization =
       lines = omega (arith, admitted .few-nodes, admitted .few-requests, invariant-few ended);
     }
 
+-- The file's own refusal comes first.
+accepted-file : (file : List ℕ) (table report linearization : ℕ) → playRefusal file table report linearization ≡ 0 → meaning file .number ≡ 0
+unfolding playRefusal
+accepted-file file table report linearization e =
+    through (meaning file .number) (lentRefusal (meaning file .job) table report linearization) e .first
+
 -- A refused play has zero for every count.
-pub printable : (file table report linearization : List ℕ) → Bytes file → Printable (playedOf file table report linearization)
+pub printable : (file table report linearization : List ℕ) → Bytes file → PrintableLeft (playedOf file table report linearization)
 unfolding playedOf
 printable file table report linearization bytes =
+    let refusal : ℕ = playRefusal file (length table) (length report) (length linearization) in
     split (eqb refusal 0)
-    (λ accepted. rw accepted (accepted-printable (meaning file .job) (admitted-meaning file bytes (own accepted)) table report linearization))
+    (λ accepted.
+      let own = accepted-file file _ _ _ (eqb-true refusal 0 accepted) in
+      rw accepted (accepted-printable (meaning file .job) (admitted-meaning file bytes own) table report linearization))
     (λ refused. rw refused (record { enough = record { words = omega arith; requests = omega arith; entries = omega arith }; lines = omega arith }))
-  where
-    refusal : ℕ
-    refusal = playRefusal file (length table) (length report) (length linearization)
-
-    own : eqb refusal 0 ≡ true → meaning file .number ≡ 0
-    unfolding playRefusal
-    own e = through (meaning file .number) (lentRefusal (meaning file .job) (length table) (length report) (length linearization)) (eqb-true refusal 0 e) .first
 
 -- ---- its text
 
@@ -78,14 +78,23 @@ module _ (played : Played) (table report linearization : List ℕ) where
       (λ accepted. rw accepted (accepted-lines played table report linearization fitting))
       (λ refused. rw refused (omega (arith, line-short refusedName (played .number ∷ []) (h, tt))))
 
-  module _ (out : List ℕ) (enough : Enough played table report linearization) (room : length (listing played table report linearization) ≤ length out) where
+  module _ (out : List ℕ) (printable : Printable played table report linearization) (room : longest ≤ length out)
+      (narrow : played .number < 2 ^ 32) (fitting : Fitting played table report linearization) where
+    abbrev text : List ℕ
+    text = listing played table report linearization
+
+    text-fits : length text ≤ length out
+    text-fits = omega (arith, listing-lines narrow fitting, printable .lines, room)
+
     long-enough : sourcesShort played table report linearization ≡ false
-    long-enough = simp (le-ltb _ _ (enough .words), le-ltb _ _ (enough .requests), le-ltb _ _ (enough .entries))
+    long-enough =
+        let enough = printable .enough in
+        simp (le-ltb _ _ (enough .words), le-ltb _ _ (enough .requests), le-ltb _ _ (enough .entries))
 
-    pub listed-whole : listed played table report linearization out ≡ record { number = 0; bytes = length (listing played table report linearization) }
+    pub listed-whole : listed played table report linearization out ≡ record { number = 0; bytes = length text }
     unfolding listed
-    listed-whole = rw (long-enough, le-ltb _ _ room)
+    listed-whole = rw (long-enough, le-ltb _ _ text-fits)
 
-    pub printed-whole : printed played table report linearization out ≡ listing played table report linearization ++ drop (length (listing played table report linearization)) out
+    pub printed-whole : printed played table report linearization out ≡ written text out
     unfolding printed
-    printed-whole = rw (long-enough, le-ltb _ _ room)
+    printed-whole = rw (long-enough, le-ltb _ _ text-fits)

@@ -1,12 +1,14 @@
 -- Document 01, "Played cases": what the program prints for a job file.
 --
---   Printable left   what a play left holds all that its text shows, and 5,120 lines of rows show it
---   textOf left      the text of what a play left
---   output file      the text of a file, played on a table, a report and a linearization of zeros
---   longest          room for every text
-use mathlib.Core.List.{List}
+--   textOf left               the text of what a play left
+--   output file               the text of a file, played on a table, a report and a linearization of zeros
+--   written text out          the buffer `out` with the text at its start
+--   longest                   room for every text
+--   Printable p t r l         table t, report r and linearization l hold what the text of p shows, and 5,120 lines show it
+use mathlib.Core.List.{List, _++_}
 use Prim.Native.Nat.{ℕ, _+_, _*_, _≤_}
-use lib.ListN.{replicate}
+use lib.ListN.{length, drop, replicate}
+use Rattle.job.specs.declared.Played.{Played}
 use Rattle.player.specs.Player.{Left, playedOf}
 use Rattle.listing.specs.Listing.{listing}
 use Rattle.listing.specs.Writing.{Enough}
@@ -18,6 +20,16 @@ textOf left = listing (left .result) (left .table) (left .report) (left .lineari
 unfoldable pub output : List ℕ → List ℕ
 output file = textOf (playedOf file (replicate 4096 0) (replicate 2048 0) (replicate 1024 0))
 
--- A line for each place, request and entry, the job's and the tally's: each has at most 64 bytes.
+-- Bytes beyond what is written stay.
+abbrev pub written : List ℕ → List ℕ → List ℕ
+written text out = text ++ drop (length text) out
+
+-- A line for each place, request and entry, the job's and the tally's, of at most 64 bytes each.
 abbrev pub longest : ℕ
 longest = 64 * (4096 + 512 + 512 + 2)
+
+-- ---- for the inner function
+
+pub record Printable (played : Played) (table report linearization : List ℕ) : Type 0 where
+  pub enough : Enough played table report linearization
+  pub lines : played .nodes + played .requests + played .entries ≤ 4096 + 512 + 512
