@@ -1,13 +1,14 @@
 -- Every play can be printed: its buffers hold what its text shows, and the text fits into `longest` bytes.
 --
 --   PrintableLeft left   `Printable`, of what a play left
-use mathlib.Core.Path.{_≡_, refl}
-use mathlib.Core.Bool.{Bool, true, false}
+use mathlib.Core.Path.{_≡_, sym, ap, _∙_, subst}
+use mathlib.Core.Bool.{true, false}
 use mathlib.Core.List.{List, [], _∷_, _++_, map}
 use Prim.Native.Nat.{ℕ, _+_, _*_, _^_, _≤_, _<_}
 use native.Mathlib.Omega.{arith}
 use lib.Dec.{eqb}
-use lib.ListN.{length, drop, length-append}
+use lib.ListN.{length, take, drop, replicate, length-append}
+use lib.Seq.{length-take-le}
 use borrow.Author.Tests.{eqb-true, le-ltb}
 use Rattle.job.specs.Job.{Job}
 use Rattle.job.specs.declared.Played.{Played}
@@ -30,7 +31,7 @@ use Rattle.listing.specs.Listing.{refusedName, listing, sourcesShort, listed, p
 use Rattle.listing.specs.Writing.{Enough}
 use Rattle.listing.proofs.Text.{line-short}
 use Rattle.listing.proofs.Listing.{Fitting, accepted-lines}
-use Rattle.dock.specs.Dock.{longest, written, Printable}
+use Rattle.dock.specs.Dock.{textOf, output, longest, Put, Printable}
 
 -- ---- what a play leaves
 
@@ -63,8 +64,8 @@ printable file table report linearization bytes =
     let refusal : ℕ = playRefusal file (length table) (length report) (length linearization) in
     split (eqb refusal 0)
     (λ accepted.
-      let own = accepted-file file _ _ _ (eqb-true refusal 0 accepted) in
-      rw accepted (accepted-printable (meaning file .job) (admitted-meaning file bytes own) table report linearization))
+    let own = accepted-file file _ _ _ (eqb-true refusal 0 accepted) in
+    rw accepted (accepted-printable (meaning file .job) (admitted-meaning file bytes own) table report linearization))
     (λ refused. rw refused (record { enough = record { words = omega arith; requests = omega arith; entries = omega arith }; lines = omega arith }))
 
 -- ---- its text
@@ -91,10 +92,28 @@ module _ (played : Played) (table report linearization : List ℕ) where
         let enough = printable .enough in
         simp (le-ltb _ _ (enough .words), le-ltb _ _ (enough .requests), le-ltb _ _ (enough .entries))
 
-    pub listed-whole : listed played table report linearization out ≡ record { number = 0; bytes = length text }
-    unfolding listed
-    listed-whole = rw (long-enough, le-ltb _ _ text-fits)
+    pub put-whole : (answer : Listed) (after : List ℕ)
+        → answer ≡ listed played table report linearization out
+        → after ≡ printed played table report linearization out
+        → Put text out after (answer .bytes)
+    unfolding listed printed
+    put-whole answer after told left =
+        record {
+          counted = ap (λ a. a .bytes) told ∙ rw (long-enough, le-ltb _ _ text-fits);
+          stored = left ∙ rw (long-enough, le-ltb _ _ text-fits);
+        }
 
-    pub printed-whole : printed played table report linearization out ≡ written text out
-    unfolding printed
-    printed-whole = rw (long-enough, le-ltb _ _ text-fits)
+-- the text of the play is what the program prints
+pub put-output : (file : List ℕ) (left : Left) → left ≡ playedOf file (replicate 4096 0) (replicate 2048 0) (replicate 1024 0)
+    → {before after : List ℕ} {bytes : ℕ} → Put (textOf left) before after bytes → Put (output file) before after bytes
+unfolding output
+put-output file left is {before} {after} {bytes} put = subst (λ text. Put text before after bytes) (ap textOf is) put
+
+-- ---- the part of a buffer that is printed
+
+module _ {text before after : List ℕ} {bytes : ℕ} (put : Put text before after bytes) where
+  pub put-within : bytes ≤ length after
+  put-within = omega (arith, put .counted, ap length (put .stored), length-append text (drop (length text) before))
+
+  pub put-part : bytes ≡ length (take bytes after)
+  put-part = sym (length-take-le bytes after put-within)

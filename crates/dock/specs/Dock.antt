@@ -2,9 +2,10 @@
 --
 --   textOf left               the text of what a play left
 --   output file               the text of a file, played on a table, a report and a linearization of zeros
---   written text out          the buffer `out` with the text at its start
 --   longest                   room for every text
---   Printable p t r l         table t, report r and linearization l hold what the text of p shows, and 5,120 lines show it
+--   Put text before after n   the n bytes of the text were written at the start of a buffer
+--   Printable p t r l         table t, report r and linearization l hold what the text of p shows, in not too many lines
+use mathlib.Core.Path.{_≡_}
 use mathlib.Core.List.{List, _++_}
 use Prim.Native.Nat.{ℕ, _+_, _*_, _≤_}
 use lib.ListN.{length, drop, replicate}
@@ -20,13 +21,14 @@ textOf left = listing (left .result) (left .table) (left .report) (left .lineari
 unfoldable pub output : List ℕ → List ℕ
 output file = textOf (playedOf file (replicate 4096 0) (replicate 2048 0) (replicate 1024 0))
 
--- Bytes beyond what is written stay.
-abbrev pub written : List ℕ → List ℕ → List ℕ
-written text out = text ++ drop (length text) out
-
 -- A line for each place, request and entry, the job's and the tally's, of at most 64 bytes each.
 abbrev pub longest : ℕ
 longest = 64 * (4096 + 512 + 512 + 2)
+
+pub record Put (text before after : List ℕ) (bytes : ℕ) : Type 0 where
+  pub counted : bytes ≡ length text
+  -- bytes beyond what is written stay
+  pub stored : after ≡ text ++ drop (length text) before
 
 -- ---- for the inner function
 

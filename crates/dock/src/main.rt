@@ -1,10 +1,9 @@
 // The program: it reads a job file on standard input, plays it, and prints the listing on standard output.
 use job::Played;
-ghost use mathlib.Core.Path.{_≡_};
 ghost use Prim.Native.Nat.{_≤_};
 ghost use lib.ListN.{length};
 ghost use Rattle.listing.specs.Listing.{listing};
-ghost use Rattle.dock.specs.Dock.{output, written, longest, Printable};
+ghost use Rattle.dock.specs.Dock.{output, longest, Put, Printable};
 
 // Writes the text of a play into `out`; answers the text's length.
 fn put_text(
@@ -16,9 +15,8 @@ fn put_text(
 ) -> usize
     requires { ⌜ Printable played (now table) (now report) (now linearization) ⌝ }
     requires { ⌜ longest ≤ length (now out) ⌝ }
-    ensures bytes { λ r. ⌜ r ≡ length (listing played (now (table .entry)) (now (report .entry)) (now (linearization .entry))) ⌝ }
-    ensures text { λ r. ⌜ now (out .exit)
-        ≡ written (listing played (now (table .entry)) (now (report .entry)) (now (linearization .entry))) (now (out .entry)) ⌝ }
+    ensures { λ r. ⌜ Put (listing played (now (table .entry)) (now (report .entry)) (now (linearization .entry)))
+        (now (out .entry)) (now (out .exit)) r ⌝ }
 {
     let listed = listing::list(played, table, report, linearization, out);
     listed.bytes
@@ -27,8 +25,7 @@ fn put_text(
 // Plays a job file and writes its text, or its refusal's line, into `out`; answers the text's length.
 fn print_job(file: &[u8], out: &mut [u8]) -> usize
     requires { ⌜ longest ≤ length (now out) ⌝ }
-    ensures bytes { λ r. ⌜ r ≡ length (output (now (file .entry))) ⌝ }
-    ensures text { λ r. ⌜ now (out .exit) ≡ written (output (now (file .entry))) (now (out .entry)) ⌝ }
+    ensures { λ r. ⌜ Put (output (now (file .entry))) (now (out .entry)) (now (out .exit)) r ⌝ }
 {
     let mut table = [0u32; 4096];
     let mut report = [0u32; 2048];
