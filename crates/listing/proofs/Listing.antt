@@ -65,10 +65,11 @@ section-short : (s : Section) (buffer : List ℕ) → ((k : ℕ) → getD buffer
     → length (each (row s buffer) count) ≤ 64 * count
 section-short s buffer narrow count h = each-short (row s buffer) count (λ i l. row-short s buffer narrow i (omega arith))
 
-pub accepted-short : (played : Played) (table report linearization : List ℕ)
+-- A text has a line for each node, request and entry, the job's and the tally's.
+pub accepted-lines : (played : Played) (table report linearization : List ℕ)
     → Fitting played table report linearization
-    → length (accepted played table report linearization) < 2 ^ 64
-accepted-short played table report linearization f =
+    → length (accepted played table report linearization) ≤ 64 * (played .nodes + played .requests + played .entries + 2)
+accepted-lines played table report linearization f =
     omega (
       arith,
       accepted-length played table report linearization,
@@ -79,6 +80,12 @@ accepted-short played table report linearization f =
       section-short Requests report (f .rows) (played .requests) (f .job .1 .1 .0),
       section-short Entries linearization (f .points) (played .entries) (f .entries),
     )
+
+pub accepted-short : (played : Played) (table report linearization : List ℕ)
+    → Fitting played table report linearization
+    → length (accepted played table report linearization) < 2 ^ 64
+accepted-short played table report linearization f =
+    omega (arith, accepted-lines played table report linearization f, f .job .0, f .job .1 .1 .0, f .entries)
 
 -- No buffer is too short: each holds what the lines show
 pub enough : (played : Played) (table report linearization : List ℕ) {short : Bool}

@@ -1,0 +1,2 @@
+-- Every play can be printed.
+pub mod Dock

@@ -1,0 +1,37 @@
+-- Document 01, "Played cases": what the program prints for a job file.
+--
+--   textOf left               the text of what a play left
+--   output file               the text of a file, played on a table, a report and a linearization of zeros
+--   longest                   room for every text
+--   Put text before after n   the n bytes of the text were written at the start of a buffer
+--   Printable p t r l         table t, report r and linearization l hold what the text of p shows, in not too many lines
+use mathlib.Core.Path.{_≡_}
+use mathlib.Core.List.{List, _++_}
+use Prim.Native.Nat.{ℕ, _+_, _*_, _≤_}
+use lib.ListN.{length, drop, replicate}
+use Rattle.job.specs.declared.Played.{Played}
+use Rattle.player.specs.Player.{Left, playedOf}
+use Rattle.listing.specs.Listing.{listing}
+use Rattle.listing.specs.Writing.{Enough}
+
+abbrev pub textOf : Left → List ℕ
+textOf left = listing (left .result) (left .table) (left .report) (left .linearization)
+
+-- The buffers are as long as the largest job needs: 4,096 places, and four and two numbers for each of 512 requests.
+unfoldable pub output : List ℕ → List ℕ
+output file = textOf (playedOf file (replicate 4096 0) (replicate 2048 0) (replicate 1024 0))
+
+-- A line for each place, request and entry, the job's and the tally's, of at most 64 bytes each.
+abbrev pub longest : ℕ
+longest = 64 * (4096 + 512 + 512 + 2)
+
+pub record Put (text before after : List ℕ) (bytes : ℕ) : Type 0 where
+  pub counted : bytes ≡ length text
+  -- bytes beyond what is written stay
+  pub stored : after ≡ text ++ drop (length text) before
+
+-- ---- for the inner function
+
+pub record Printable (played : Played) (table report linearization : List ℕ) : Type 0 where
+  pub enough : Enough played table report linearization
+  pub lines : played .nodes + played .requests + played .entries ≤ 4096 + 512 + 512
