@@ -2,8 +2,8 @@
 --
 --   PrintableLeft left   `Printable`, of what a play left
 use mathlib.Core.Path.{_≡_, sym, ap, _∙_, subst}
-use mathlib.Core.Bool.{true, false}
-use mathlib.Core.List.{List, [], _∷_, _++_, map}
+use mathlib.Core.Bool.{false}
+use mathlib.Core.List.{List, [], _∷_, map}
 use Prim.Native.Nat.{ℕ, _+_, _*_, _^_, _≤_, _<_}
 use native.Mathlib.Omega.{arith}
 use lib.Dec.{eqb}
@@ -28,7 +28,6 @@ use Rattle.player.specs.Player.{Left, cutOf, lentRefusal, playRefusal, playedOf
 use Rattle.player.proofs.Demand.{run-ended}
 use Rattle.listing.specs.declared.Listed.{Listed}
 use Rattle.listing.specs.Listing.{refusedName, listing, sourcesShort, listed, printed}
-use Rattle.listing.specs.Writing.{Enough}
 use Rattle.listing.proofs.Text.{line-short}
 use Rattle.listing.proofs.Listing.{Fitting, accepted-lines}
 use Rattle.dock.specs.Dock.{textOf, output, longest, Put, Printable}

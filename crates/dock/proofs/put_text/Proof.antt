@@ -21,6 +21,7 @@ returns c =
     record {
       job = search needs;
       entries = search needs;
+      -- the tally's own numbers lie deeper than a search looks
       tally = search (needs, start .good .0 .1 .1 .1 .1 .1 .1 .1 .1 .0);
       words = λ k. omega (arith, c .before .before .before .before .before .before .before .shared-slice-known .given k);
       rows = λ k. omega (arith, c .before .before .before .before .before .before .shared-slice-known2 .given k);

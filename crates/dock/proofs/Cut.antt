@@ -1,0 +1,33 @@
+-- Reading more than the longest job file is enough: what lies beyond changes nothing that the program prints.
+use mathlib.Core.Path.{_≡_, sym, ap, _∙_}
+use mathlib.Core.List.{List}
+use Prim.Native.Nat.{ℕ, _<_}
+use native.Mathlib.Omega.{arith}
+use lib.Dec.{ltb}
+use lib.ListN.{length, take}
+use lib.Seq.{length-take-le, take-all}
+use borrow.Author.Tests.{ltb-true, ltb-false, lt-ltb}
+use Rattle.linearization.proofs.Tests.{split}
+use Rattle.jobfile.specs.Format.{mostBytes, lengthRefusal}
+use Rattle.jobfile.specs.Meaning.{fileRefusal, refused, meaning}
+use Rattle.player.specs.Player.{playRefusal, playedOf}
+use Rattle.dock.specs.Dock.{output}
+
+-- Length is checked first.
+too-long : (file : List ℕ) → mostBytes < length file → meaning file ≡ refused 1
+unfolding lengthRefusal fileRefusal meaning
+too-long file long = simp (lt-ltb mostBytes (length file) long)
+
+-- A file is played by its meaning alone.
+output-meaning : (one other : List ℕ) → meaning one ≡ meaning other → output one ≡ output other
+unfolding playRefusal playedOf output
+output-meaning one other same = rw same
+
+pub output-cut : (file : List ℕ) (n : ℕ) → mostBytes < n → output (take n file) ≡ output file
+output-cut file n beyond =
+    split (ltb (length file) n)
+    (λ short. ap output (take-all n file (omega (arith, ltb-true (length file) n short))))
+    (λ long.
+    let enough = ltb-false (length file) n long in
+    output-meaning (take n file) file
+    (too-long (take n file) (omega (arith, length-take-le n file enough)) ∙ sym (too-long file (omega (arith, enough)))))
