@@ -214,7 +214,9 @@ pub fn play_lent(
     linearization: &mut [u32],
     tally: &mut Tally,
 ) -> Played
-    ensures { λ r. ⌜ (record { table = now (table .exit); report = now (report .exit); linearization = now (linearization .exit); result = r } ≡ playedOf (now (file .entry)) (now (table .entry)) (now (report .entry)) (now (linearization .entry))) × (now (tally .exit) ≡ tallyLeft (now (file .entry)) (now (table .entry)) (now (report .entry)) (now (linearization .entry)) (now (tally .entry))) × (r .number ≡ 0 → LinearizedHere (now (file .entry)) r (now (table .exit)) (now (report .exit)) (now (linearization .exit))) ⌝ }
+    ensures exact { λ r. ⌜ record { table = now (table .exit); report = now (report .exit); linearization = now (linearization .exit); result = r } ≡ playedOf (now (file .entry)) (now (table .entry)) (now (report .entry)) (now (linearization .entry)) ⌝ }
+    ensures counted { λ r. ⌜ now (tally .exit) ≡ tallyLeft (now (file .entry)) (now (table .entry)) (now (report .entry)) (now (linearization .entry)) (now (tally .entry)) ⌝ }
+    ensures linearized { λ r. ⌜ (r .number ≡ 0 → LinearizedHere (now (file .entry)) r (now (table .exit)) (now (report .exit)) (now (linearization .exit))) ⌝ }
 {
     let plan = prepare(file, table, report, linearization);
     *tally = opened(*tally, plan);

@@ -20,9 +20,9 @@ use prog.Memory.{Memory}
 use prog.Routine.{Routine}
 use prog.Wp.{Heap, Out, Env, afterSeq, afterBlock, afterTurn, Calls, Loops, Wp, atReturn, WpFn, Tables}
 use ghost.Atoms.{Atoms, sem}
-use contract.Monad.{Fun, fact}
+use contract.Monad.{Fun, fact, factI}
 use contract.Running.{givenOf, tables, tablesOf}
-use types.Kit.{Given, Item, ‵, raw, given, runs, anyQ, atRet, Sq, ⋆, _⊛_, some, later, _$_, _∵_, !, qed, by, cut, move, keep, drop, use1, use2, use3, split, join, pick, learn, check, rewrite, fsplit, fsplit3, fjoin, fjoin3, feqL, feqI, suffices, frame, await, updating, now as at-once, show, done}
+use types.Kit.{Given, Item, ‵, raw, given, runs, anyQ, atRet, Sq, ⋆, _⊛_, some, later, _$_, _∵_, !, qed, by, cut, move, keep, drop, use0, use1, use2, use3, split, join, pick, learn, check, rewrite, fsplit, fsplit3, fjoin, fjoin3, feqL, feqI, suffices, frame, await, updating, now as at-once, show, done}
 use types.Tokens.{lft-new, lft-end}
 use types.Run.{look, look-raw, init, store, store-raw, forget, stop, hop, fld, from, load, addr, bin, of-opd, and-then, no-more, assigns, land, land-last, first, blocks, stays, leaves-loop, returns, enter, alloc1, alloc0, params1, pass1, pass0, free1, free0, exec, Below, again, loops}
 use types.Part.{agg, whole, sub, look-in}
@@ -406,10 +406,13 @@ module _ {M : Type 1} (𝓤 : URA M) (H : Heap 𝓤) (A : Atoms 𝓤) (W : Given
   exits counts a r v e =
       qed W (‵ (Y.the-row .own r (v ∷ [])) ∷ ‵ (fobs γy (T.the-row .coded .code (a .tally))) ∷ ‵ (fbor κ₄ (Holding (mem T.the-row) by′ oy γy)) ∷ ‵ (flft κ₄ q₄) ∷ Bufs (a .table) (a .report) (a .linearization)) ∵
       suffices ! _ (ends-at 𝓤 H A f.ended stayed (f.clauses 𝓤 H A at-mem run) W (((κ₀, (κ₁, (κ₂, (κ₃, (κ₄, tt))))), (q₀, (q₁, (q₂, (q₃, (q₄, tt))))), tt, x, at), tt) v r (tt, (a .table, (a .report, (a .linearization, (a .tally, tt))))) (tt, (a .table-long, (a .report-long, (a .linearization-long, (tt, tt)))))) $
-      says ! (e .exact, e .counted, e .linearized) $
-      nothing ! $ move ! (4 ∷ 0 ∷ []) $ join ! $ move ! (11 ∷ 0 ∷ []) $ join ! $ move ! (9 ∷ 0 ∷ []) $ join ! $ move ! (7 ∷ 0 ∷ []) $ join ! $ move ! (5 ∷ 0 ∷ []) $ join ! $ frame ! $
-      move ! (1 ∷ 2 ∷ []) $ feqI ! (List Val) (yv ∷ []) (yv ∷ []) refl $ fjoin3 ! $
-      nothing ! $ move ! (1 ∷ 0 ∷ []) $ fjoin ! $ move ! (5 ∷ 0 ∷ []) $ fjoin ! $ move ! (4 ∷ 0 ∷ []) $ fjoin ! $ move ! (3 ∷ 0 ∷ []) $ fjoin ! $ move ! (2 ∷ 0 ∷ []) $ fjoin ! $ done !
+      nothing ! $ move ! (4 ∷ 0 ∷ []) $ join ! $ move ! (11 ∷ 0 ∷ []) $ join ! $ move ! (9 ∷ 0 ∷ []) $ join ! $ move ! (7 ∷ 0 ∷ []) $ join ! $ move ! (5 ∷ 0 ∷ []) $ join ! $
+      -- [the tokens; the answer; obs; the borrow; the file; the slices]
+      move ! (2 ∷ 3 ∷ []) $ feqI ! (List Val) (yv ∷ []) (yv ∷ []) refl $ fjoin3 ! $
+      nothing ! $ move ! (1 ∷ 0 ∷ []) $ fjoin ! $ move ! (6 ∷ 0 ∷ []) $ fjoin ! $ move ! (5 ∷ 0 ∷ []) $ fjoin ! $ move ! (4 ∷ 0 ∷ []) $ fjoin ! $ move ! (3 ∷ 0 ∷ []) $ fjoin ! $
+      -- [what is had of the parameters; the tokens; the answer]
+      move ! (0 ∷ 2 ∷ []) $ join ! $ move ! (1 ∷ 0 ∷ []) $ join ! $ frame ! $
+      use0 W (raw (fact 𝓤 _)) (factI 𝓤 _ (emp 𝓤) (e .linearized)) $ use0 W (raw (fact 𝓤 _)) (factI 𝓤 _ (emp 𝓤) (e .counted)) $ use0 W (raw (fact 𝓤 _)) (factI 𝓤 _ (emp 𝓤) (e .exact)) $ done !
 
   -- ---- the walk
   module _ (𝓣 : Tables 𝓤 H) (known-prepare : Triple 𝓤 (𝓣 .C #lent·prepare) (Prepare 𝓤 H A at-mem run)) (known-opened : Triple 𝓤 (𝓣 .C #lent·opened) (Opened 𝓤 H A at-mem run)) (known-turn-on : Triple 𝓤 (𝓣 .C #lent·turn-on) (TurnOn 𝓤 H A at-mem run)) (known-add : Triple 𝓤 (𝓣 .C #lent·add) (Add 𝓤 H A at-mem run)) (known-closed : Triple 𝓤 (𝓣 .C #lent·closed) (Closed 𝓤 H A at-mem run)) (L : ℕ → ℕ) where
