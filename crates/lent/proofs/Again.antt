@@ -58,7 +58,7 @@ module _ (R : RattleType) (κ κ′ : Lft) (q : Share) (γ : GName) (b o : ℕ) 
         (H .⇛ (ex 𝓤 (λ (γ₁ : GName). sep 𝓤 (sem 𝓤 H A (MutSlice ℓ′ κ′ R .own (at-list γ₁ ys) (vals n))) (sem 𝓤 H A (LentAgain γ₁ ys)))))
     lends-at n e =
         subst (λ (k : ℕ). ent 𝓤 (sep 𝓤 (sem 𝓤 H A (MutSlice ℓ κ R .own (at-list γ ys) (vals k))) (A .lft κ q))
-          (H .⇛ (ex 𝓤 (λ (γ₁ : GName). sep 𝓤 (sem 𝓤 H A (MutSlice ℓ′ κ′ R .own (at-list γ₁ ys) (vals k))) (sem 𝓤 H A (LentAgain γ₁ ys)))))) e lends-again
+        (H .⇛ (ex 𝓤 (λ (γ₁ : GName). sep 𝓤 (sem 𝓤 H A (MutSlice ℓ′ κ′ R .own (at-list γ₁ ys) (vals k))) (sem 𝓤 H A (LentAgain γ₁ ys)))))) e lends-again
 
     pub comes-at : (n : ℕ) → length ys ≡ n → (γ₁ : GName) (zs : List (R .Denot)) → Room R n → length zs ≡ length ys
         → ent 𝓤 (sep 𝓤 (A .dead κ′) (sep 𝓤 (sem 𝓤 H A (LentAgain γ₁ ys)) (sem 𝓤 H A (finally R γ₁ zs)))) (H .⇛ (sep 𝓤 (sem 𝓤 H A (MutSlice ℓ κ R .own (at-list γ zs) (vals n))) (A .lft κ q)))

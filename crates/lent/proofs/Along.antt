@@ -125,11 +125,11 @@ module _ (file table₀ report₀ linearization₀ : List ℕ) (tally₀ : Tally
     along-roomy = small-roomy (omega (arith, more-left, grants-few (lending .going .playing))) (lending .going .small)
 
     module _ (p′ : Progress) (table′ report′ linearization′ : List ℕ) (tally′ : Tally)
-             (table-long : length table′ ≡ length (a .table)) (report-long : length report′ ≡ length (a .report)) (linearization-long : length linearization′ ≡ length (a .linearization))
-             (turned : (S : State) (past : List Happening) (lent : List ℕ)
-               → Standing (requestsIn file) (length (take n (a .table))) 16 (buffersOf (a .progress) (take n (a .table)) (take m (a .report)) (a .linearization)) (a .progress .number + 1) S past lent
-               → TurnedOn file counts (a .progress) p′ (a .table) (a .report) table′ report′ linearization′ S lent)
-             (added : tally′ ≡ countedOf (a .tally) (p′ .done) (p′ .mask)) where
+        (table-long : length table′ ≡ length (a .table)) (report-long : length report′ ≡ length (a .report)) (linearization-long : length linearization′ ≡ length (a .linearization))
+        (turned : (S : State) (past : List Happening) (lent : List ℕ)
+        → Standing (requestsIn file) (length (take n (a .table))) 16 (buffersOf (a .progress) (take n (a .table)) (take m (a .report)) (a .linearization)) (a .progress .number + 1) S past lent
+        → TurnedOn file counts (a .progress) p′ (a .table) (a .report) table′ report′ linearization′ S lent)
+        (added : tally′ ≡ countedOf (a .tally) (p′ .done) (p′ .mask)) where
       pub turned-here : TurnedOn file counts (a .progress) p′ (a .table) (a .report) table′ report′ linearization′ (lending .going .state) linearization₀
       turned-here = turned (lending .going .state) (lending .going .past) linearization₀ (lending .going .standing)
 
@@ -156,7 +156,8 @@ module _ (file table₀ report₀ linearization₀ : List ℕ) (tally₀ : Tally
               rows = omega (arith, report-long, lending .rows);
               table-rest = turned-here .table-rest ∙ lending .table-rest;
               report-rest = turned-here .report-rest ∙ lending .report-rest;
-              going = going-next (lending .going) more-left p′ tally′ (take n table′) (take m report′) linearization′ (turned-here .turned) added };
+              going = going-next (lending .going) more-left p′ tally′ (take n table′) (take m report′) linearization′ (turned-here .turned) added;
+            };
           }
 
   -- ---- the end
@@ -172,24 +173,36 @@ module _ (file table₀ report₀ linearization₀ : List ℕ) (tally₀ : Tally
     unchanged-end u d =
         record {
           exact = rw (ne-eqb (counts .number) 0 d, ne-eqb (refusal file table₀ report₀ linearization₀) 0 (u .refused))
-            (λ i. record { table = u .same-table i; report = u .same-report i; linearization = u .same-linearization i; result = refusedWith (u .which i) });
+              (λ i. record { table = u .same-table i; report = u .same-report i; linearization = u .same-linearization i; result = refusedWith (u .which i) });
           counted = rw (ne-eqb (refusal file table₀ report₀ linearization₀) 0 (u .refused)) (u .same-tally);
           linearized = rw (ne-eqb (counts .number) 0 d) (λ z. absurd (d z));
         }
 
     module _ (l : Lending (a .progress) (a .tally) (a .table) (a .report) (a .linearization)) (over : counts .grants ≤ a .progress .number) where
-      ended-cut : _≡_ {A = Left} (record { table = a .table; report = a .report; linearization = a .linearization;
-          result = record { number = 0; nodes = counts .nodes; heads = counts .heads; requests = counts .requests; grants = counts .grants; entries = a .progress .entries; tally = a .tally } })
-        (cutOf (meaning file .job) table₀ report₀ linearization₀)
+      ended-cut : _≡_ {A = Left} (record {
+        table = a .table;
+        report = a .report;
+        linearization = a .linearization;
+        result = record { number = 0; nodes = counts .nodes; heads = counts .heads; requests = counts .requests; grants = counts .grants; entries = a .progress .entries; tally = a .tally };
+      })
+          (cutOf (meaning file .job) table₀ report₀ linearization₀)
       ended-cut =
           let whole = whole-left (l .checks) linearization₀ (take n (a .table)) (take m (a .report)) (a .linearization) _
-            (going-end (l .going) (omega (arith, over, ap (λ k. k .grants) (l .checks .counts))) (record { entries = a .progress .entries; tally = a .tally }) refl) in
-          let lists : (t r : List ℕ) → t ≡ take n (a .table) ++ drop n table₀ → r ≡ take m (a .report) ++ drop m report₀ → _≡_ {A = Left} (record { table = t; report = r; linearization = a .linearization;
-                result = record { number = 0; nodes = counts .nodes; heads = counts .heads; requests = counts .requests; grants = counts .grants; entries = a .progress .entries; tally = a .tally } })
-              (cutOf (meaning file .job) table₀ report₀ linearization₀) =
-            λ t r et er. (λ i. record { table = et i; report = er i; linearization = a .linearization;
-                result = record { number = 0; nodes = counts .nodes; heads = counts .heads; requests = counts .requests; grants = counts .grants; entries = a .progress .entries; tally = a .tally } })
-              ∙ cut-left (meaning file .job) n m table₀ report₀ linearization₀ _ (ap (λ k. k .nodes) (l .checks .counts)) (ap (λ k. 4 * k .requests) (l .checks .counts)) whole in
+          (going-end (l .going) (omega (arith, over, ap (λ k. k .grants) (l .checks .counts))) (record { entries = a .progress .entries; tally = a .tally }) refl) in
+          let lists : (t r : List ℕ) → t ≡ take n (a .table) ++ drop n table₀ → r ≡ take m (a .report) ++ drop m report₀ → _≡_ {A = Left} (record {
+            table = t;
+            report = r;
+            linearization = a .linearization;
+            result = record { number = 0; nodes = counts .nodes; heads = counts .heads; requests = counts .requests; grants = counts .grants; entries = a .progress .entries; tally = a .tally };
+          })
+          (cutOf (meaning file .job) table₀ report₀ linearization₀) =
+          λ t r et er. (λ i. record {
+            table = et i;
+            report = er i;
+            linearization = a .linearization;
+            result = record { number = 0; nodes = counts .nodes; heads = counts .heads; requests = counts .requests; grants = counts .grants; entries = a .progress .entries; tally = a .tally };
+          })
+          ∙ cut-left (meaning file .job) n m table₀ report₀ linearization₀ _ (ap (λ k. k .nodes) (l .checks .counts)) (ap (λ k. 4 * k .requests) (l .checks .counts)) whole in
           lists (a .table) (a .report)
           (sym (take-append-drop n (a .table)) ∙ ap (λ d. take n (a .table) ++ d) (l .table-rest))
           (sym (take-append-drop m (a .report)) ∙ ap (λ d. take m (a .report) ++ d) (l .report-rest))
@@ -201,7 +214,7 @@ module _ (file table₀ report₀ linearization₀ : List ℕ) (tally₀ : Tally
             exact = rw (eq-eqb (counts .number) 0 e, eq-eqb (refusal file table₀ report₀ linearization₀) 0 (l .accepted)) ended-cut;
             counted = rw (eq-eqb (refusal file table₀ report₀ linearization₀) 0 (l .accepted)) (ap (λ x. x .result .tally) ended-cut);
             linearized = rw (eq-eqb (counts .number) 0 e)
-              (λ z. linearized-here file (admitted-meaning file (l .bytes) (l .checks .accepted)) table₀ report₀ linearization₀ _ ended-cut);
+                (λ z. linearized-here file (admitted-meaning file (l .bytes) (l .checks .accepted)) table₀ report₀ linearization₀ _ ended-cut);
           }
 
     ended-by : Dec (counts .number ≡ 0) → counts .grants ≤ a .progress .number → Ended a (closedOf counts (a .progress) (a .tally))
@@ -237,8 +250,8 @@ module _ (j : Job) (table report linearization : ℕ) (none : lentRefusal j tabl
       by (no l) = omega (arith, l)
 
 module _ (file table₀ report₀ linearization₀ : List ℕ) (tally₀ : Tally) (table report linearization : List ℕ) (plan : Plan) (tally : Tally) (bytes : Bytes file)
-         (prepared : _≡_ {A = Prepared} (record { table = table; report = report; linearization = linearization; plan = plan }) (preparedOf file table₀ report₀ linearization₀))
-         (is-tally : tally ≡ openedOf tally₀ plan) where
+    (prepared : _≡_ {A = Prepared} (record { table = table; report = report; linearization = linearization; plan = plan }) (preparedOf file table₀ report₀ linearization₀))
+    (is-tally : tally ≡ openedOf tally₀ plan) where
   abbrev none : ℕ
   none = refusal file table₀ report₀ linearization₀
 
@@ -246,7 +259,7 @@ module _ (file table₀ report₀ linearization₀ : List ℕ) (tally₀ : Tally
 
   module _ (d : none ≢ 0) where
     was-refused : _≡_ {A = Prepared} (record { table = table; report = report; linearization = linearization; plan = plan })
-      (record { table = table₀; report = report₀; linearization = linearization₀; plan = refusedPlan none })
+        (record { table = table₀; report = report₀; linearization = linearization₀; plan = refusedPlan none })
     unfolding preparedOf
     was-refused = prepared ∙ rw (ne-eqb none 0 d) refl
 
@@ -272,7 +285,7 @@ module _ (file table₀ report₀ linearization₀ : List ℕ) (tally₀ : Tally
     j = meaning file .job
 
     was-accepted : _≡_ {A = Prepared} (record { table = table; report = report; linearization = linearization; plan = plan })
-      (record { table = cutLaidOf file table₀ report₀ .table; report = cutLaidOf file table₀ report₀ .report; linearization = linearization₀; plan = acceptedPlan file })
+        (record { table = cutLaidOf file table₀ report₀ .table; report = cutLaidOf file table₀ report₀ .report; linearization = linearization₀; plan = acceptedPlan file })
     unfolding preparedOf
     was-accepted = prepared ∙ rw (eq-eqb none 0 e) refl
 
@@ -317,8 +330,14 @@ module _ (file table₀ report₀ linearization₀ : List ℕ) (tally₀ : Tally
     mask-is = ap (λ x. x .plan .progress .mask) was-accepted ∙ sym (ap₂ (λ k l. maskOf (map (workFlag k) l)) (ap (λ c. c .requests) counts-are) heads-are)
 
     progress-is : plan .progress ≡ record { heads = plan .progress .heads; entries = 0; mask = plan .progress .mask; number = 0; cursor = record { next = 0; head = 0; left = 0 }; done = plan .progress .done }
-    progress-is = λ i. record { heads = plan .progress .heads; entries = was-accepted i .plan .progress .entries; mask = plan .progress .mask;
-        number = was-accepted i .plan .progress .number; cursor = was-accepted i .plan .progress .cursor; done = plan .progress .done }
+    progress-is = λ i. record {
+      heads = plan .progress .heads;
+      entries = was-accepted i .plan .progress .entries;
+      mask = plan .progress .mask;
+      number = was-accepted i .plan .progress .number;
+      cursor = was-accepted i .plan .progress .cursor;
+      done = plan .progress .done;
+    }
 
     tally-is : tally ≡ record { idle = 0; failed = 0; links = 0; working = ones (plan .progress .mask) }
     tally-is = is-tally ∙ rw (eq-eqb (plan .counts .number) 0 (ap (λ c. c .number) counts-are ∙ accepted-file)) refl
@@ -326,8 +345,8 @@ module _ (file table₀ report₀ linearization₀ : List ℕ) (tally₀ : Tally
     going : Going file (plan .counts .requests) linearization₀ (plan .progress) tally (take (plan .counts .nodes) table) (take (4 * plan .counts .requests) report) linearization₀
     going = going-start
         (whole-startable linearization₀ whole bytes (plan .progress .heads) (plan .progress .mask) (take (plan .counts .nodes) table) (take (4 * plan .counts .requests) report) heads-are mask-is
-          (ap (take (plan .counts .nodes)) table-is ∙ take-at (map encode (fresh (plan .counts .nodes))) (drop (plan .counts .nodes) table₀) (plan .counts .nodes) fresh-long)
-          (ap (take (4 * plan .counts .requests)) report-is ∙ take-at (replicate (4 * plan .counts .requests) 0) (drop (4 * plan .counts .requests) report₀) (4 * plan .counts .requests) (length-replicate (4 * plan .counts .requests) 0)))
+        (ap (take (plan .counts .nodes)) table-is ∙ take-at (map encode (fresh (plan .counts .nodes))) (drop (plan .counts .nodes) table₀) (plan .counts .nodes) fresh-long)
+        (ap (take (4 * plan .counts .requests)) report-is ∙ take-at (replicate (4 * plan .counts .requests) 0) (drop (4 * plan .counts .requests) report₀) (4 * plan .counts .requests) (length-replicate (4 * plan .counts .requests) 0)))
         (plan .progress) tally progress-is tally-is
 
     lending-start : Lending file table₀ report₀ linearization₀ tally₀ (plan .counts) (plan .progress) tally table report linearization
@@ -340,9 +359,9 @@ module _ (file table₀ report₀ linearization₀ : List ℕ) (tally₀ : Tally
           rows = omega (arith, rows-are, report-long, long-report j (length table₀) (length report₀) (length linearization₀) lent-fine);
           table-rest = ap (drop (plan .counts .nodes)) table-is ∙ drop-at (map encode (fresh (plan .counts .nodes))) (drop (plan .counts .nodes) table₀) (plan .counts .nodes) fresh-long;
           report-rest = ap (drop (4 * plan .counts .requests)) report-is
-            ∙ drop-at (replicate (4 * plan .counts .requests) 0) (drop (4 * plan .counts .requests) report₀) (4 * plan .counts .requests) (length-replicate (4 * plan .counts .requests) 0);
+              ∙ drop-at (replicate (4 * plan .counts .requests) 0) (drop (4 * plan .counts .requests) report₀) (4 * plan .counts .requests) (length-replicate (4 * plan .counts .requests) 0);
           going = subst (λ l. Going file (plan .counts .requests) linearization₀ (plan .progress) tally (take (plan .counts .nodes) table) (take (4 * plan .counts .requests) report) l)
-            (sym (ap (λ x. x .linearization) was-accepted)) going;
+              (sym (ap (λ x. x .linearization) was-accepted)) going;
         }
 
   -- ---- either way

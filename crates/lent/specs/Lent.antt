@@ -41,7 +41,10 @@ planOf counts heads mask =
     record {
       counts = counts;
       progress = record {
-        heads = heads; entries = 0; mask = mask; number = 0;
+        heads = heads;
+        entries = 0;
+        mask = mask;
+        number = 0;
         cursor = record { next = 0; head = 0; left = 0 };
         done = record { idle = false; failed = false; linked = false };
       };
@@ -88,11 +91,15 @@ unfoldable pub preparedOf : List ℕ → List ℕ → List ℕ → List ℕ → 
 preparedOf file table report linearization =
     cond (eqb (playRefusal file (length table) (length report) (length linearization)) 0)
     (record {
-      table = cutLaidOf file table report .table; report = cutLaidOf file table report .report; linearization = linearization;
+      table = cutLaidOf file table report .table;
+      report = cutLaidOf file table report .report;
+      linearization = linearization;
       plan = acceptedPlan file;
     })
     (record {
-      table = table; report = report; linearization = linearization;
+      table = table;
+      report = report;
+      linearization = linearization;
       plan = refusedPlan (playRefusal file (length table) (length report) (length linearization));
     })
 
@@ -120,8 +127,13 @@ abbrev pub closedOf : Checked → Progress → Tally → Played
 closedOf counts p tally =
     cond (eqb (counts .number) 0)
     (record {
-      number = 0; nodes = counts .nodes; heads = counts .heads; requests = counts .requests; grants = counts .grants;
-      entries = p .entries; tally = tally;
+      number = 0;
+      nodes = counts .nodes;
+      heads = counts .heads;
+      requests = counts .requests;
+      grants = counts .grants;
+      entries = p .entries;
+      tally = tally;
     })
     (refusedWith (counts .number))
 

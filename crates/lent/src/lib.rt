@@ -1,6 +1,7 @@
 // The play on a tally that its owner lends: every grant adds to the owner's own tally.
 use job::Played;
 use job::Tally;
+use player::refused;
 use process::Head;
 use process::Stage;
 use reader::Checked;
@@ -95,7 +96,13 @@ fn lay_out(file: &[u8], counts: Checked, table: &mut [u32], report: &mut [u32]) 
 }
 
 // Lays out the start on buffers that are long enough; what is past the nodes and the requests stays as lent.
-fn lay_out_cut(file: &[u8], counts: Checked, table: &mut [u32], report: &mut [u32], room: usize) -> Plan
+fn lay_out_cut(
+    file: &[u8],
+    counts: Checked,
+    table: &mut [u32],
+    report: &mut [u32],
+    room: usize,
+) -> Plan
     requires { ⌜ RoomyFor (now file) counts (length (now table)) (length (now report)) room ⌝ }
     ensures { λ r. ⌜ record { table = now (table .exit); report = now (report .exit); plan = r } ≡ cutLaidOf (now (file .entry)) (now (table .entry)) (now (report .entry)) ⌝ }
 {
@@ -155,7 +162,14 @@ fn turn_on(
 {
     let nodes = counts.nodes as usize;
     let rows = 4 * (counts.requests as usize);
-    turn(file, counts.requests, progress, &mut table[..nodes], &mut report[..rows], linearization)
+    turn(
+        file,
+        counts.requests,
+        progress,
+        &mut table[..nodes],
+        &mut report[..rows],
+        linearization,
+    )
 }
 
 // The tally after the grant that a progress tells of.
@@ -172,20 +186,7 @@ fn closed(counts: Checked, progress: Progress, tally: Tally) -> Played
     ensures { λ r. ⌜ r ≡ closedOf counts progress tally ⌝ }
 {
     if counts.number != 0 {
-        return Played {
-            number: counts.number,
-            nodes: 0,
-            heads: 0,
-            requests: 0,
-            grants: 0,
-            entries: 0,
-            tally: Tally {
-                idle: 0,
-                failed: 0,
-                links: 0,
-                working: 0,
-            },
-        };
+        return refused(counts.number);
     }
     Played {
         number: 0,

@@ -286,8 +286,8 @@ module _ {M : Type 1} (𝓤 : URA M) (H : Heap 𝓤) (A : Atoms 𝓤) (W : Given
       split ! $ move ! (1 ∷ []) $ use1 W (some (λ (zs : Unit {0} × (List ℕ × (List ℕ × (List ℕ × Unit {0})))). ‵ (lasts prepare.ended (κ₀, (n .ν₁ ∷ [], (n .ν₂ ∷ [], (n .ν₃ ∷ [], tt)))) (xf, (xt (n .δ₁) t₀, (xr (n .δ₂) r₀, (xl (n .δ₃) l₀, tt)))) zs) ⊛ raw (fact 𝓤 ((_≡_ {A = Prepared} (record { table = zs .1 .0; report = zs .1 .1 .0; linearization = zs .1 .1 .1 .0; plan = r }) (preparedOf file t₀ r₀ l₀)) × Bytes file)))) (id⊢ 𝓤 _) $ pick ! (λ zs.
       split ! $ move ! (1 ∷ []) $ heard ! ((_≡_ {A = Prepared} (record { table = zs .1 .0; report = zs .1 .1 .0; linearization = zs .1 .1 .1 .0; plan = r }) (preparedOf file t₀ r₀ l₀)) × Bytes file) (λ e. fsplit ! $ drop ! $
       fsplit ! $ fsplit ! $ move ! (1 ∷ []) $ feqL ! (λ et. move ! (1 ∷ []) $ fsplit ! $ fsplit ! $ move ! (1 ∷ []) $ feqL ! (λ er. move ! (1 ∷ []) $ fsplit ! $ fsplit ! $ move ! (1 ∷ []) $ feqL ! (λ el.
-              -- [the last lists and what is true; the tokens and the result]
-              move ! (4 ∷ []) $ split ! $ split ! $ move ! (1 ∷ []) $ split ! $ move ! (1 ∷ []) $ split ! $ move ! (1 ∷ []) $ split ! $
+      -- [the last lists and what is true; the tokens and the result]
+      move ! (4 ∷ []) $ split ! $ split ! $ move ! (1 ∷ []) $ split ! $ move ! (1 ∷ []) $ split ! $ move ! (1 ∷ []) $ split ! $
       at-once ! $ show ! (λ (z : Told Plan). guard 𝓤 (Prepares z) (⋆ 𝓤 H A (Left-of (N.the-row .own (z .result) (v ∷ [])) n z))) (record { result = r; table = zs .1 .0; report = zs .1 .1 .0; linearization = zs .1 .1 .1 .0 }) $
       check ! (record { exact = e .0; bytes = e .1; table-long = et; report-long = er; linearization-long = el }) $ keep ! (5 ∷ 4 ∷ 3 ∷ 2 ∷ 0 ∷ 9 ∷ 8 ∷ 6 ∷ []) $ done !))))))
 
@@ -348,8 +348,8 @@ module _ {M : Type 1} (𝓤 : URA M) (H : Heap 𝓤) (A : Atoms 𝓤) (W : Given
           split ! $ move ! (1 ∷ []) $ use1 W (some (λ (zs : Unit {0} × (Unit {0} × (Unit {0} × (List ℕ × (List ℕ × (List ℕ × Unit {0})))))). ‵ (lasts turn-on.ended (κ₀, (n .ν₁ ∷ [], (n .ν₂ ∷ [], (n .ν₃ ∷ [], tt)))) (xf, (counts, (p, (xt (n .δ₁) t, (xr (n .δ₂) r, (xl (n .δ₃) l, tt)))))) zs) ⊛ raw (fact 𝓤 (Does r′ (zs .1 .1 .1 .0) (zs .1 .1 .1 .1 .0) (zs .1 .1 .1 .1 .1 .0))))) (id⊢ 𝓤 _) $ pick ! (λ zs.
           split ! $ move ! (1 ∷ []) $ heard ! (Does r′ (zs .1 .1 .1 .0) (zs .1 .1 .1 .1 .0) (zs .1 .1 .1 .1 .1 .0)) (λ e. fsplit ! $ drop ! $ fsplit ! $ drop ! $ fsplit ! $ drop ! $
           fsplit ! $ fsplit ! $ move ! (1 ∷ []) $ feqL ! (λ et. move ! (1 ∷ []) $ fsplit ! $ fsplit ! $ move ! (1 ∷ []) $ feqL ! (λ er. move ! (1 ∷ []) $ fsplit ! $ fsplit ! $ move ! (1 ∷ []) $ feqL ! (λ el.
-              -- [the last lists and what is true; the tokens and the result]
-              move ! (4 ∷ []) $ split ! $ split ! $ move ! (1 ∷ []) $ split ! $ move ! (1 ∷ []) $ split ! $ move ! (1 ∷ []) $ split ! $
+          -- [the last lists and what is true; the tokens and the result]
+          move ! (4 ∷ []) $ split ! $ split ! $ move ! (1 ∷ []) $ split ! $ move ! (1 ∷ []) $ split ! $ move ! (1 ∷ []) $ split ! $
           at-once ! $ show ! (λ (z : Told Progress). guard 𝓤 (Turns z) (⋆ 𝓤 H A (Left-of (P.the-row .own (z .result) (v ∷ [])) n z))) (record { result = r′; table = zs .1 .1 .1 .0; report = zs .1 .1 .1 .1 .0; linearization = zs .1 .1 .1 .1 .1 .0 }) $
           check ! (record { does = e; table-long = et; report-long = er; linearization-long = el }) $ keep ! (5 ∷ 4 ∷ 3 ∷ 2 ∷ 0 ∷ 9 ∷ 8 ∷ 6 ∷ []) $ done !))))))
 
@@ -525,10 +525,10 @@ module _ {M : Type 1} (𝓤 : URA M) (H : Heap 𝓤) (A : Atoms 𝓤) (W : Given
               assigns ! (addr ! (from ! (fld ! refl (hop ! (look-in ! 42 (sub ! 0 refl (whole !))) (stop !))))) (from ! (stop !)) (init ! 6 refl (tt, tt)) $
               assigns ! (agg ! (and-then ! (load ! (from ! (stop !)) (look ! 6 refl)) (and-then ! (load ! (from ! (fld ! refl (stop !))) (look-in ! 42 (sub ! 1 refl (whole !)))) (no-more !)))) (from ! (stop !)) (init ! 4 refl (tt, (tt, (record { fits = room-l .0 }, tt)))) $
               move ! (52 ∷ 53 ∷ 54 ∷ 55 ∷ 56 ∷ 57 ∷ 58 ∷ 59 ∷ []) $ cut (Bufs (a .table) (a .report) (a .linearization)) (later (some (λ (n : New). raw (⋆ 𝓤 H A (Passed n (a .table) (a .report) (a .linearization) ++ ‵ F ∷ Kept n (a .table) (a .report) (a .linearization))))) ∷ []) _
-                (lends (a .table) (a .report) (a .linearization) (a .table-long) (a .report-long) (a .linearization-long)) $ await ! tt $ pick ! (λ n.
+              (lends (a .table) (a .report) (a .linearization) (a .table-long) (a .report-long) (a .linearization-long)) $ await ! tt $ pick ! (λ n.
               cut (raw (⋆ 𝓤 H A (Passed n (a .table) (a .report) (a .linearization) ++ ‵ F ∷ Kept n (a .table) (a .report) (a .linearization))) ∷ []) (Passed n (a .table) (a .report) (a .linearization) ++ ‵ F ∷ Kept n (a .table) (a .report) (a .linearization)) _ (id⊢ 𝓤 _) $
               cut (Passed n (a .table) (a .report) (a .linearization)) (raw (TurnOn 𝓤 H A at-mem run .pre (to-turn counts is-counts (a .progress) (s .1) (a .table) (a .report) (a .linearization) n)) ∷ []) _
-                (goes-turn counts is-counts (a .progress) (s .1) (a .table) (a .report) (a .linearization) (along-turnable file t₀ r₀ l₀ h₀ counts a more) n) $
+              (goes-turn counts is-counts (a .progress) (s .1) (a .table) (a .report) (a .linearization) (along-turnable file t₀ r₀ l₀ h₀ counts a more) n) $
               calls-at ! fm (TurnOn 𝓤 H A at-mem run) known-turn-on (to-turn counts is-counts (a .progress) (s .1) (a .table) (a .report) (a .linearization) n) (and-then ! (load ! (from ! (stop !)) (look ! 53 refl)) (and-then ! (load ! (from ! (stop !)) (look ! 41 refl)) (and-then ! (load ! (from ! (stop !)) (look ! 39 refl)) (and-then ! (load ! (from ! (stop !)) (look ! 17 refl)) (and-then ! (load ! (from ! (stop !)) (look ! 13 refl)) (and-then ! (load ! (from ! (stop !)) (look ! 9 refl)) (no-more !))))))) (λ w.
               use1 W (later (some (λ (z : Told Progress). given (Turns counts is-counts (a .progress) (s .1) (a .table) (a .report) (a .linearization) z) (raw (⋆ 𝓤 H A (Left-of (P.the-row .own (z .result) (w ∷ [])) n z)))))) (told-turn counts is-counts (a .progress) (s .1) (a .table) (a .report) (a .linearization) n w) $ await ! tt $ pick ! (λ z. learn ! (λ turned.
               cut (raw (⋆ 𝓤 H A (Left-of (P.the-row .own (z .result) (w ∷ [])) n z)) ∷ []) (Left-of (P.the-row .own (z .result) (w ∷ [])) n z) _ (id⊢ 𝓤 _) $
@@ -536,7 +536,7 @@ module _ {M : Type 1} (𝓤 : URA M) (H : Heap 𝓤) (A : Atoms 𝓤) (W : Given
               rewrite ! 46 (λ (u : Val). ‵ (fat fullShare (τ 8) (L 8) 0 u)) (ap only (LL.tells P.the-type P′.the-laws (z .result) (w ∷ []) is)) refl $ drop ! $
               move ! (1 ∷ 2 ∷ 3 ∷ 4 ∷ 5 ∷ 6 ∷ 8 ∷ 9 ∷ 10 ∷ []) $
               cut (Over n (z .table) (z .report) (z .linearization) ++ Kept n (a .table) (a .report) (a .linearization)) (later (raw (⋆ 𝓤 H A (Back (z .table) (z .report) (z .linearization)))) ∷ []) _
-                (comes n (a .table) (a .report) (a .linearization) (z .table) (z .report) (z .linearization) (a .table-long) (a .report-long) (a .linearization-long) (turned .table-long) (turned .report-long) (turned .linearization-long)) $ await ! tt $
+              (comes n (a .table) (a .report) (a .linearization) (z .table) (z .report) (z .linearization) (a .table-long) (a .report-long) (a .linearization-long) (turned .table-long) (turned .report-long) (turned .linearization-long)) $ await ! tt $
               cut (raw (⋆ 𝓤 H A (Back (z .table) (z .report) (z .linearization))) ∷ []) (Back (z .table) (z .report) (z .linearization)) _ (id⊢ 𝓤 _) $
               -- [the slices and their tokens; the file's token; the file; the locals; the tally and its token]
               forget ! 24 refl $ forget ! 22 refl $ forget ! 20 refl $ forget ! 18 refl $ forget ! 16 refl $ forget ! 14 refl $ forget ! 12 refl $ move ! (8 ∷ 9 ∷ 10 ∷ 11 ∷ 12 ∷ 13 ∷ 14 ∷ 15 ∷ 16 ∷ 17 ∷ 18 ∷ 19 ∷ 20 ∷ 21 ∷ 22 ∷ 23 ∷ 24 ∷ 25 ∷ 26 ∷ 27 ∷ 28 ∷ 29 ∷ 30 ∷ 31 ∷ 32 ∷ 33 ∷ 34 ∷ 35 ∷ 36 ∷ 37 ∷ 38 ∷ 39 ∷ 40 ∷ 41 ∷ 42 ∷ 43 ∷ 44 ∷ 45 ∷ 46 ∷ 47 ∷ 48 ∷ 49 ∷ 50 ∷ 51 ∷ 52 ∷ 53 ∷ 54 ∷ 55 ∷ 56 ∷ 57 ∷ 58 ∷ 59 ∷ 7 ∷ 6 ∷ 0 ∷ 1 ∷ 2 ∷ 3 ∷ 4 ∷ 5 ∷ []) $
@@ -588,11 +588,11 @@ module _ {M : Type 1} (𝓤 : URA M) (H : Heap 𝓤) (A : Atoms 𝓤) (W : Given
     preparing : Sq W (Frame (room 8) (room 7) (room 6) (Bufs t₀ r₀ l₀ ++ Owner h₀)) (runs C Λ En mir-of.t-1 (atRet En Post))
     preparing =
         assigns ! (addr ! (from ! (fld ! refl (hop ! (look-in ! 46 (sub ! 0 refl (whole !))) (stop !))))) (from ! (stop !)) (init ! 32 refl (tt, tt)) $
-              assigns ! (agg ! (and-then ! (load ! (from ! (stop !)) (look ! 32 refl)) (and-then ! (load ! (from ! (fld ! refl (stop !))) (look-in ! 46 (sub ! 1 refl (whole !)))) (no-more !)))) (from ! (stop !)) (init ! 30 refl (tt, (tt, (record { fits = room-t .0 }, tt)))) $
+        assigns ! (agg ! (and-then ! (load ! (from ! (stop !)) (look ! 32 refl)) (and-then ! (load ! (from ! (fld ! refl (stop !))) (look-in ! 46 (sub ! 1 refl (whole !)))) (no-more !)))) (from ! (stop !)) (init ! 30 refl (tt, (tt, (record { fits = room-t .0 }, tt)))) $
         assigns ! (addr ! (from ! (fld ! refl (hop ! (look-in ! 44 (sub ! 0 refl (whole !))) (stop !))))) (from ! (stop !)) (init ! 28 refl (tt, tt)) $
-              assigns ! (agg ! (and-then ! (load ! (from ! (stop !)) (look ! 28 refl)) (and-then ! (load ! (from ! (fld ! refl (stop !))) (look-in ! 44 (sub ! 1 refl (whole !)))) (no-more !)))) (from ! (stop !)) (init ! 26 refl (tt, (tt, (record { fits = room-r .0 }, tt)))) $
+        assigns ! (agg ! (and-then ! (load ! (from ! (stop !)) (look ! 28 refl)) (and-then ! (load ! (from ! (fld ! refl (stop !))) (look-in ! 44 (sub ! 1 refl (whole !)))) (no-more !)))) (from ! (stop !)) (init ! 26 refl (tt, (tt, (record { fits = room-r .0 }, tt)))) $
         assigns ! (addr ! (from ! (fld ! refl (hop ! (look-in ! 42 (sub ! 0 refl (whole !))) (stop !))))) (from ! (stop !)) (init ! 24 refl (tt, tt)) $
-              assigns ! (agg ! (and-then ! (load ! (from ! (stop !)) (look ! 24 refl)) (and-then ! (load ! (from ! (fld ! refl (stop !))) (look-in ! 42 (sub ! 1 refl (whole !)))) (no-more !)))) (from ! (stop !)) (init ! 22 refl (tt, (tt, (record { fits = room-l .0 }, tt)))) $
+        assigns ! (agg ! (and-then ! (load ! (from ! (stop !)) (look ! 24 refl)) (and-then ! (load ! (from ! (fld ! refl (stop !))) (look-in ! 42 (sub ! 1 refl (whole !)))) (no-more !)))) (from ! (stop !)) (init ! 22 refl (tt, (tt, (record { fits = room-l .0 }, tt)))) $
         move ! (52 ∷ 53 ∷ 54 ∷ 55 ∷ 56 ∷ 57 ∷ 58 ∷ 59 ∷ []) $ cut (Bufs t₀ r₀ l₀) (later (some (λ (n : New). raw (⋆ 𝓤 H A (Passed n t₀ r₀ l₀ ++ ‵ F ∷ Kept n t₀ r₀ l₀)))) ∷ []) _ (lends t₀ r₀ l₀ refl refl refl) $ await ! tt $ pick ! (λ n.
         cut (raw (⋆ 𝓤 H A (Passed n t₀ r₀ l₀ ++ ‵ F ∷ Kept n t₀ r₀ l₀)) ∷ []) (Passed n t₀ r₀ l₀ ++ ‵ F ∷ Kept n t₀ r₀ l₀) _ (id⊢ 𝓤 _) $
         cut (Passed n t₀ r₀ l₀) (raw (Prepare 𝓤 H A at-mem run .pre (to-prepare n)) ∷ []) _ (goes-prepare n) $
@@ -603,7 +603,7 @@ module _ {M : Type 1} (𝓤 : URA M) (H : Heap 𝓤) (A : Atoms 𝓤) (W : Given
         rewrite ! 50 (λ (u : Val). ‵ (fat fullShare (τ 6) (L 6) 0 u)) (ap only (LL.tells N.the-type N′.the-laws (z .result) (w ∷ []) is)) refl $ drop ! $
         move ! (1 ∷ 2 ∷ 3 ∷ 4 ∷ 5 ∷ 6 ∷ 8 ∷ 9 ∷ 10 ∷ []) $
         cut (Over n (z .table) (z .report) (z .linearization) ++ Kept n t₀ r₀ l₀) (later (raw (⋆ 𝓤 H A (Back (z .table) (z .report) (z .linearization)))) ∷ []) _
-          (comes n t₀ r₀ l₀ (z .table) (z .report) (z .linearization) refl refl refl (prepared .table-long) (prepared .report-long) (prepared .linearization-long)) $ await ! tt $
+        (comes n t₀ r₀ l₀ (z .table) (z .report) (z .linearization) refl refl refl (prepared .table-long) (prepared .report-long) (prepared .linearization-long)) $ await ! tt $
         cut (raw (⋆ 𝓤 H A (Back (z .table) (z .report) (z .linearization))) ∷ []) (Back (z .table) (z .report) (z .linearization)) _ (id⊢ 𝓤 _) $
         forget ! 40 refl $ forget ! 38 refl $ forget ! 36 refl $ forget ! 34 refl $ forget ! 32 refl $ forget ! 30 refl $ move ! (8 ∷ 9 ∷ 10 ∷ 11 ∷ 12 ∷ 13 ∷ 14 ∷ 15 ∷ 16 ∷ 17 ∷ 18 ∷ 19 ∷ 20 ∷ 21 ∷ 22 ∷ 23 ∷ 24 ∷ 25 ∷ 26 ∷ 27 ∷ 28 ∷ 29 ∷ 30 ∷ 31 ∷ 32 ∷ 33 ∷ 34 ∷ 35 ∷ 36 ∷ 37 ∷ 38 ∷ 39 ∷ 40 ∷ 41 ∷ 42 ∷ 43 ∷ 44 ∷ 45 ∷ 46 ∷ 47 ∷ 48 ∷ 49 ∷ 50 ∷ 51 ∷ 52 ∷ 53 ∷ 54 ∷ 55 ∷ 56 ∷ 57 ∷ 58 ∷ 59 ∷ 7 ∷ 6 ∷ 0 ∷ 1 ∷ 2 ∷ 3 ∷ 4 ∷ 5 ∷ []) $
         opening z prepared (subst (Is N.the-row (z .result)) (LL.tells N.the-type N′.the-laws (z .result) (w ∷ []) is) is))))))

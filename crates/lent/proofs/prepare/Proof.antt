@@ -17,10 +17,11 @@ turned-down-requires c κs = search needs
 
 returns : tie.Need-returns
 returns c =
-    let a = c .before .before .before .before .before .before .before .before .args in let e = ap (λ k. k .number) (c .before .before .before .check .ensures) in
-    (prepared-refused (a .file .now) (a .table .now) (a .report .now) (a .linearization .now) _ (c .turned-down .result)
-      (refusal-file (a .file .now) (a .table .now) (a .report .now) (a .linearization .now) (λ z. c .before .if1 .taken (e ∙ z)) ∙ sym e) (c .before .if1 .taken) (c .turned-down .ensures),
-    λ i. omega (arith, c .before .before .before .before .before .before .before .shared-slice-known .given i))
+    let a = c .before .before .before .before .before .before .before .before .args in let e = ap (λ k. k .number) (c .before .before .before .check .ensures) in (
+      prepared-refused (a .file .now) (a .table .now) (a .report .now) (a .linearization .now) _ (c .turned-down .result)
+          (refusal-file (a .file .now) (a .table .now) (a .report .now) (a .linearization .now) (λ z. c .before .if1 .taken (e ∙ z)) ∙ sym e) (c .before .if1 .taken) (c .turned-down .ensures),
+      λ i. omega (arith, c .before .before .before .before .before .before .before .shared-slice-known .given i),
+    )
 
 cast-if2 : tie.Need-cast-if2
 cast-if2 c = search needs
@@ -30,12 +31,13 @@ turned-down-requires-2 c κs = search needs
 
 returns-2 : tie.Need-returns-2
 returns-2 c =
-    let a = c .before .before .before .before .before .before .before .before .before .before .args in let k = c .before .before .before .before .before .check .ensures in
-    (prepared-refused (a .file .now) (a .table .now) (a .report .now) (a .linearization .now) 14 (c .turned-down2 .result)
-      (refusal-lent (a .file .now) (a .table .now) (a .report .now) (a .linearization .now) (sym (ap (λ n. n .number) k) ∙ c .before .before .before .if1 .left)
-        ∙ short-table (meaning (a .file .now) .job) _ _ _ (omega (arith, c .before .if2 .taken, ap (λ n. n .nodes) k)))
-      (λ z. absurd (omega (arith, z))) (c .turned-down2 .ensures),
-    λ i. omega (arith, c .before .before .before .before .before .before .before .before .before .shared-slice-known .given i))
+    let a = c .before .before .before .before .before .before .before .before .before .before .args in let k = c .before .before .before .before .before .check .ensures in (
+      prepared-refused (a .file .now) (a .table .now) (a .report .now) (a .linearization .now) 14 (c .turned-down2 .result)
+          (refusal-lent (a .file .now) (a .table .now) (a .report .now) (a .linearization .now) (sym (ap (λ n. n .number) k) ∙ c .before .before .before .if1 .left)
+          ∙ short-table (meaning (a .file .now) .job) _ _ _ (omega (arith, c .before .if2 .taken, ap (λ n. n .nodes) k)))
+          (λ z. absurd (omega (arith, z))) (c .turned-down2 .ensures),
+      λ i. omega (arith, c .before .before .before .before .before .before .before .before .before .shared-slice-known .given i),
+    )
 
 cast-if3 : tie.Need-cast-if3
 cast-if3 c = search needs
@@ -48,12 +50,13 @@ turned-down-requires-3 c κs = search needs
 
 returns-3 : tie.Need-returns-3
 returns-3 c =
-    let a = c .before .before .before .before .before .before .before .before .before .before .before .before .args in let k = c .before .before .before .before .before .before .before .check .ensures in
-    (prepared-refused (a .file .now) (a .table .now) (a .report .now) (a .linearization .now) 14 (c .turned-down3 .result)
-      (refusal-lent (a .file .now) (a .table .now) (a .report .now) (a .linearization .now) (sym (ap (λ n. n .number) k) ∙ c .before .before .before .before .before .if1 .left)
-        ∙ short-report (meaning (a .file .now) .job) _ _ _ (omega (arith, c .before .before .before .if2 .left, ap (λ n. n .nodes) k)) (omega (arith, c .before .if3 .taken, ap (λ n. n .requests) k)))
-      (λ z. absurd (omega (arith, z))) (c .turned-down3 .ensures),
-    λ i. omega (arith, c .before .before .before .before .before .before .before .before .before .before .before .shared-slice-known .given i))
+    let a = c .before .before .before .before .before .before .before .before .before .before .before .before .args in let k = c .before .before .before .before .before .before .before .check .ensures in (
+      prepared-refused (a .file .now) (a .table .now) (a .report .now) (a .linearization .now) 14 (c .turned-down3 .result)
+          (refusal-lent (a .file .now) (a .table .now) (a .report .now) (a .linearization .now) (sym (ap (λ n. n .number) k) ∙ c .before .before .before .before .before .if1 .left)
+          ∙ short-report (meaning (a .file .now) .job) _ _ _ (omega (arith, c .before .before .before .if2 .left, ap (λ n. n .nodes) k)) (omega (arith, c .before .if3 .taken, ap (λ n. n .requests) k)))
+          (λ z. absurd (omega (arith, z))) (c .turned-down3 .ensures),
+      λ i. omega (arith, c .before .before .before .before .before .before .before .before .before .before .before .shared-slice-known .given i),
+    )
 
 cast-if4 : tie.Need-cast-if4
 cast-if4 c = search needs
@@ -66,13 +69,14 @@ turned-down-requires-4 c κs = search needs
 
 returns-4 : tie.Need-returns-4
 returns-4 c =
-    let a = c .before .before .before .before .before .before .before .before .before .before .before .before .before .before .args in let k = c .before .before .before .before .before .before .before .before .before .check .ensures in
-    (prepared-refused (a .file .now) (a .table .now) (a .report .now) (a .linearization .now) 14 (c .turned-down4 .result)
-      (refusal-lent (a .file .now) (a .table .now) (a .report .now) (a .linearization .now) (sym (ap (λ n. n .number) k) ∙ c .before .before .before .before .before .before .before .if1 .left)
-        ∙ short-linearization (meaning (a .file .now) .job) _ _ _ (omega (arith, c .before .before .before .before .before .if2 .left, ap (λ n. n .nodes) k)) (omega (arith, c .before .before .before .if3 .left, ap (λ n. n .requests) k))
+    let a = c .before .before .before .before .before .before .before .before .before .before .before .before .before .before .args in let k = c .before .before .before .before .before .before .before .before .before .check .ensures in (
+      prepared-refused (a .file .now) (a .table .now) (a .report .now) (a .linearization .now) 14 (c .turned-down4 .result)
+          (refusal-lent (a .file .now) (a .table .now) (a .report .now) (a .linearization .now) (sym (ap (λ n. n .number) k) ∙ c .before .before .before .before .before .before .before .if1 .left)
+          ∙ short-linearization (meaning (a .file .now) .job) _ _ _ (omega (arith, c .before .before .before .before .before .if2 .left, ap (λ n. n .nodes) k)) (omega (arith, c .before .before .before .if3 .left, ap (λ n. n .requests) k))
           (omega (arith, c .before .if4 .taken, ap (λ n. n .requests) k)))
-      (λ z. absurd (omega (arith, z))) (c .turned-down4 .ensures),
-    λ i. omega (arith, c .before .before .before .before .before .before .before .before .before .before .before .before .before .shared-slice-known .given i))
+          (λ z. absurd (omega (arith, z))) (c .turned-down4 .ensures),
+      λ i. omega (arith, c .before .before .before .before .before .before .before .before .before .before .before .before .before .shared-slice-known .given i),
+    )
 
 lay-out-cut-requires : tie.Need-lay-out-cut-requires
 lay-out-cut-requires c κs =
@@ -81,7 +85,8 @@ lay-out-cut-requires c κs =
       checks = record { accepted = sym (ap (λ n. n .number) k) ∙ c .before .before .before .before .before .before .before .before .if1 .left; counts = k };
       nodes = omega (arith, c .before .before .before .before .before .before .if2 .left, ap (λ n. n .nodes) k);
       rows = omega (arith, c .before .before .before .before .if3 .left, ap (λ n. n .requests) k);
-      room = omega (arith, c .before .before .if4 .left, ap (λ n. n .requests) k) }
+      room = omega (arith, c .before .before .if4 .left, ap (λ n. n .requests) k);
+    }
 
 same-length : tie.Need-same-length
 same-length c = search needs
@@ -91,13 +96,14 @@ same-length-2 c = search needs
 
 returns-5 : tie.Need-returns-5
 returns-5 c =
-    let a = c .before .before .before .before .before .before .before .before .before .before .before .before .before .before .before .before .before .before .before .before .args in let k = c .before .before .before .before .before .before .before .before .before .before .before .before .before .before .before .check .ensures in
-    (prepared-accepted (a .file .now) (a .table .now) (a .report .now) (a .linearization .now) _
-      (refusal-lent (a .file .now) (a .table .now) (a .report .now) (a .linearization .now) (sym (ap (λ n. n .number) k) ∙ c .before .before .before .before .before .before .before .before .before .before .before .before .before .if1 .left)
-        ∙ long-enough (meaning (a .file .now) .job) _ _ _ (omega (arith, c .before .before .before .before .before .before .before .before .before .before .before .if2 .left, ap (λ n. n .nodes) k)) (omega (arith, c .before .before .before .before .before .before .before .before .before .if3 .left, ap (λ n. n .requests) k))
+    let a = c .before .before .before .before .before .before .before .before .before .before .before .before .before .before .before .before .before .before .before .before .args in let k = c .before .before .before .before .before .before .before .before .before .before .before .before .before .before .before .check .ensures in (
+      prepared-accepted (a .file .now) (a .table .now) (a .report .now) (a .linearization .now) _
+          (refusal-lent (a .file .now) (a .table .now) (a .report .now) (a .linearization .now) (sym (ap (λ n. n .number) k) ∙ c .before .before .before .before .before .before .before .before .before .before .before .before .before .if1 .left)
+          ∙ long-enough (meaning (a .file .now) .job) _ _ _ (omega (arith, c .before .before .before .before .before .before .before .before .before .before .before .if2 .left, ap (λ n. n .nodes) k)) (omega (arith, c .before .before .before .before .before .before .before .before .before .if3 .left, ap (λ n. n .requests) k))
           (omega (arith, c .before .before .before .before .before .before .before .if4 .left, ap (λ n. n .requests) k)))
-      (c .before .before .before .before .lay-out-cut .ensures),
-    λ i. omega (arith, c .before .before .before .before .before .before .before .before .before .before .before .before .before .before .before .before .before .before .before .shared-slice-known .given i))
+          (c .before .before .before .before .lay-out-cut .ensures),
+      λ i. omega (arith, c .before .before .before .before .before .before .before .before .before .before .before .before .before .before .before .before .before .before .before .shared-slice-known .given i),
+    )
 
 pub prepare-spec : {M : Type 1} → statement M
 prepare-spec =
