@@ -14,7 +14,7 @@ ghost use Rattle.player.specs.Player.{refusedWith, Whole, wholeOf, Roomy
 ghost use Rattle.player.specs.Demand.{LinearizedHere};
 
 // A refusal: its number, and zero for every count.
-fn refused(number: u32) -> Played
+pub fn refused(number: u32) -> Played
     ensures { λ r. ⌜ r ≡ refusedWith number ⌝ }
 {
     Played {

@@ -1,0 +1,392 @@
+-- The invariant of the loop over the grants, on lent buffers and a lent tally.
+--
+--   Unchanged   refused: nothing was written, and there is no grant to play
+--   Lending     accepted: the parts that the job needs stand as the rules' run so far, the rest is as lent
+--   Along       where the loop is: the one or the other, and every buffer is as long as it was
+--
+-- Main laws: along-start, along-next and along-end.
+use mathlib.Core.Path.{_≡_, refl, sym, ap, ap₂, _∙_, subst, subst₂}
+use mathlib.Core.Logic.{_≢_}
+use mathlib.Core.List.{List, _++_, map}
+use Prim.Native.Nat.{ℕ, _+_, _*_, _≤_, _<_}
+use native.Mathlib.Omega.{arith}
+use native.Mathlib.Decide.{ℕ-discrete, decLt}
+use lib.Count.{ones}
+use lib.ListN.{length, take, drop, replicate, take-append-drop, length-replicate}
+use lib.Seq.{take-at, drop-at, length-take-le}
+use borrow.Author.Tests.{eq-eqb, ne-eqb}
+use Rattle.job.specs.declared.Tally.{Tally}
+use Rattle.job.specs.declared.Played.{Played}
+use Rattle.word.specs.Word.{encode}
+use Rattle.jobfile.specs.Meaning.{meaning}
+use Rattle.jobfile.specs.Admitted.{Bytes}
+use Rattle.reader.specs.declared.Checked.{Checked}
+use Rattle.reader.specs.Reader.{countsOf}
+use Rattle.job.specs.Job.{Job}
+use Rattle.rules.specs.State.{State, headsFrom}
+use Rattle.rules.specs.Table.{fresh}
+use Rattle.rules.specs.Run.{Happening}
+use Rattle.rules.proofs.Table.{length-fresh}
+use Rattle.mask.specs.Mask.{maskOf}
+use Rattle.start.specs.Start.{workFlag}
+use Rattle.stepper.specs.Shown.{requestsIn, Standing}
+use Rattle.stepper.proofs.Lists.{length-mapped}
+use Rattle.turns.specs.declared.Progress.{Progress}
+use Rattle.turns.specs.Turns.{Roomy, countedOf, buffersOf, Turned}
+use Rattle.turns.proofs.Runs.{grants-few}
+use Rattle.turns.proofs.Counters.{small-roomy}
+use Rattle.turns.proofs.Going.{Going, going-start, going-turnable, going-next, going-end}
+use Rattle.player.specs.Player.{Left, refusedWith, cutOf, playedOf, lentRefusal, Checks, Whole}
+use Rattle.player.specs.Demand.{LinearizedHere}
+use Rattle.player.proofs.Parts.{whole-left, cut-left, whole-startable, short-table, short-report, short-linearization}
+use Rattle.player.proofs.Demand.{linearized-here}
+use Rattle.jobfile.proofs.RoundTrip.{admitted-meaning}
+use Rattle.lent.specs.declared.Plan.{Plan}
+use Rattle.lent.specs.Lent.{refusedPlan, acceptedPlan, cutLaidOf, Prepared, preparedOf, openedOf, TurnableOn, TurnedOn, closedOf, tallyLeft}
+use Rattle.lent.proofs.Prepared.{refusal, refusal-file, refusal-lent}
+
+-- ---- one turn on the lent buffers
+
+pub turned-on : {file : List ℕ} {counts : Checked} {p p′ : Progress} {linearization linearization′ : List ℕ} {S : State} {lent : List ℕ} (table report part rows : List ℕ)
+    → TurnableOn file counts p table report linearization → length part ≡ length (take (counts .nodes) table) → length rows ≡ length (take (4 * counts .requests) report)
+    → Turned file p p′ (buffersOf p′ part rows linearization′) S lent
+    → TurnedOn file counts p p′ table report (part ++ drop (counts .nodes) table) (rows ++ drop (4 * counts .requests) report) linearization′ S lent
+turned-on {file} {counts} {p} {p′} {linearization} {linearization′} {S} {lent} table report part rows t is-part is-rows turned =
+    let n = counts .nodes in
+    let m = 4 * counts .requests in
+    let long-part = is-part ∙ length-take-le n table (t .nodes) in
+    let long-rows = is-rows ∙ length-take-le m report (t .rows) in
+    record {
+      turned = subst₂ (λ a b. Turned file p p′ (buffersOf p′ a b linearization′) S lent) (sym (take-at part (drop n table) n long-part)) (sym (take-at rows (drop m report) m long-rows)) turned;
+      table-rest = drop-at part (drop n table) n long-part;
+      report-rest = drop-at rows (drop m report) m long-rows;
+    }
+
+-- ---- the invariant
+
+module _ (file table₀ report₀ linearization₀ : List ℕ) (tally₀ : Tally) (counts : Checked) where
+  abbrev n : ℕ
+  n = counts .nodes
+
+  abbrev m : ℕ
+  m = 4 * counts .requests
+
+  pub record Unchanged (tally : Tally) (table report linearization : List ℕ) : Type 0 where
+    pub refused : refusal file table₀ report₀ linearization₀ ≢ 0
+    pub which : counts .number ≡ refusal file table₀ report₀ linearization₀
+    pub grants : counts .grants ≡ 0
+    pub same-table : table ≡ table₀
+    pub same-report : report ≡ report₀
+    pub same-linearization : linearization ≡ linearization₀
+    pub same-tally : tally ≡ tally₀
+
+  pub record Lending (p : Progress) (tally : Tally) (table report linearization : List ℕ) : Type 0 where
+    pub accepted : refusal file table₀ report₀ linearization₀ ≡ 0
+    pub bytes : Bytes file
+    pub checks : Checks file counts
+    pub nodes : n ≤ length table
+    pub rows : m ≤ length report
+    pub table-rest : drop n table ≡ drop n table₀
+    pub report-rest : drop m report ≡ drop m report₀
+    pub going : Going file (counts .requests) linearization₀ p tally (take n table) (take m report) linearization
+
+  pub record Along : Type 0 where
+    pub progress : Progress
+    pub tally : Tally
+    pub table : List ℕ
+    pub report : List ℕ
+    pub linearization : List ℕ
+    pub table-long : length table ≡ length table₀
+    pub report-long : length report ≡ length report₀
+    pub linearization-long : length linearization ≡ length linearization₀
+    pub refused : counts .number ≢ 0 → Unchanged tally table report linearization
+    pub accepted : counts .number ≡ 0 → Lending progress tally table report linearization
+
+  -- ---- one turn
+
+  module _ (a : Along) (more : a .progress .number < counts .grants) where
+    has-grant : Dec (counts .number ≡ 0) → counts .number ≡ 0
+    has-grant (yes e) = e
+    has-grant (no d) = absurd (omega (arith, a .refused d .grants, more))
+
+    pub along-accepted : counts .number ≡ 0
+    along-accepted = has-grant (ℕ-discrete (counts .number) 0)
+
+    pub lending : Lending (a .progress) (a .tally) (a .table) (a .report) (a .linearization)
+    lending = a .accepted along-accepted
+
+    pub more-left : a .progress .number < length (meaning file .job .schedule)
+    more-left = omega (arith, more, ap (λ k. k .grants) (lending .checks .counts))
+
+    pub along-turnable : TurnableOn file counts (a .progress) (a .table) (a .report) (a .linearization)
+    along-turnable = record { nodes = lending .nodes; rows = lending .rows; turnable = going-turnable (lending .going) more-left }
+
+    pub along-roomy : Roomy (a .tally)
+    along-roomy = small-roomy (omega (arith, more-left, grants-few (lending .going .playing))) (lending .going .small)
+
+    module _ (p′ : Progress) (table′ report′ linearization′ : List ℕ) (tally′ : Tally)
+        (table-long : length table′ ≡ length (a .table)) (report-long : length report′ ≡ length (a .report)) (linearization-long : length linearization′ ≡ length (a .linearization))
+        (turned : (S : State) (past : List Happening) (lent : List ℕ)
+        → Standing (requestsIn file) (length (take n (a .table))) 16 (buffersOf (a .progress) (take n (a .table)) (take m (a .report)) (a .linearization)) (a .progress .number + 1) S past lent
+        → TurnedOn file counts (a .progress) p′ (a .table) (a .report) table′ report′ linearization′ S lent)
+        (added : tally′ ≡ countedOf (a .tally) (p′ .done) (p′ .mask)) where
+      pub turned-here : TurnedOn file counts (a .progress) p′ (a .table) (a .report) table′ report′ linearization′ (lending .going .state) linearization₀
+      turned-here = turned (lending .going .state) (lending .going .past) linearization₀ (lending .going .standing)
+
+      pub along-number : p′ .number ≡ a .progress .number + 1
+      along-number = turned-here .turned .number
+
+      abbrev pub along-next : Along
+      along-next =
+          record {
+            progress = p′;
+            tally = tally′;
+            table = table′;
+            report = report′;
+            linearization = linearization′;
+            table-long = table-long ∙ a .table-long;
+            report-long = report-long ∙ a .report-long;
+            linearization-long = linearization-long ∙ a .linearization-long;
+            refused = λ d. absurd (d along-accepted);
+            accepted = λ e. record {
+              accepted = lending .accepted;
+              bytes = lending .bytes;
+              checks = lending .checks;
+              nodes = omega (arith, table-long, lending .nodes);
+              rows = omega (arith, report-long, lending .rows);
+              table-rest = turned-here .table-rest ∙ lending .table-rest;
+              report-rest = turned-here .report-rest ∙ lending .report-rest;
+              going = going-next (lending .going) more-left p′ tally′ (take n table′) (take m report′) linearization′ (turned-here .turned) added;
+            };
+          }
+
+  -- ---- the end
+
+  pub record Ended (a : Along) (result : Played) : Type 0 where
+    pub exact : _≡_ {A = Left} (record { table = a .table; report = a .report; linearization = a .linearization; result = result }) (playedOf file table₀ report₀ linearization₀)
+    pub counted : a .tally ≡ tallyLeft file table₀ report₀ linearization₀ tally₀
+    pub linearized : result .number ≡ 0 → LinearizedHere file result (a .table) (a .report) (a .linearization)
+
+  module _ (a : Along) where
+    pub unchanged-end : (u : Unchanged (a .tally) (a .table) (a .report) (a .linearization)) → counts .number ≢ 0 → Ended a (closedOf counts (a .progress) (a .tally))
+    unfolding playedOf tallyLeft
+    unchanged-end u d =
+        record {
+          exact = rw (ne-eqb (counts .number) 0 d, ne-eqb (refusal file table₀ report₀ linearization₀) 0 (u .refused))
+              (λ i. record { table = u .same-table i; report = u .same-report i; linearization = u .same-linearization i; result = refusedWith (u .which i) });
+          counted = rw (ne-eqb (refusal file table₀ report₀ linearization₀) 0 (u .refused)) (u .same-tally);
+          linearized = rw (ne-eqb (counts .number) 0 d) (λ z. absurd (d z));
+        }
+
+    module _ (l : Lending (a .progress) (a .tally) (a .table) (a .report) (a .linearization)) (over : counts .grants ≤ a .progress .number) where
+      ended-cut : _≡_ {A = Left} (record {
+        table = a .table;
+        report = a .report;
+        linearization = a .linearization;
+        result = record { number = 0; nodes = counts .nodes; heads = counts .heads; requests = counts .requests; grants = counts .grants; entries = a .progress .entries; tally = a .tally };
+      })
+          (cutOf (meaning file .job) table₀ report₀ linearization₀)
+      ended-cut =
+          let whole = whole-left (l .checks) linearization₀ (take n (a .table)) (take m (a .report)) (a .linearization) _
+          (going-end (l .going) (omega (arith, over, ap (λ k. k .grants) (l .checks .counts))) (record { entries = a .progress .entries; tally = a .tally }) refl) in
+          let lists : (t r : List ℕ) → t ≡ take n (a .table) ++ drop n table₀ → r ≡ take m (a .report) ++ drop m report₀ → _≡_ {A = Left} (record {
+            table = t;
+            report = r;
+            linearization = a .linearization;
+            result = record { number = 0; nodes = counts .nodes; heads = counts .heads; requests = counts .requests; grants = counts .grants; entries = a .progress .entries; tally = a .tally };
+          })
+          (cutOf (meaning file .job) table₀ report₀ linearization₀) =
+          λ t r et er. (λ i. record {
+            table = et i;
+            report = er i;
+            linearization = a .linearization;
+            result = record { number = 0; nodes = counts .nodes; heads = counts .heads; requests = counts .requests; grants = counts .grants; entries = a .progress .entries; tally = a .tally };
+          })
+          ∙ cut-left (meaning file .job) n m table₀ report₀ linearization₀ _ (ap (λ k. k .nodes) (l .checks .counts)) (ap (λ k. 4 * k .requests) (l .checks .counts)) whole in
+          lists (a .table) (a .report)
+          (sym (take-append-drop n (a .table)) ∙ ap (λ d. take n (a .table) ++ d) (l .table-rest))
+          (sym (take-append-drop m (a .report)) ∙ ap (λ d. take m (a .report) ++ d) (l .report-rest))
+
+      pub lending-end : counts .number ≡ 0 → Ended a (closedOf counts (a .progress) (a .tally))
+      unfolding playedOf tallyLeft
+      lending-end e =
+          record {
+            exact = rw (eq-eqb (counts .number) 0 e, eq-eqb (refusal file table₀ report₀ linearization₀) 0 (l .accepted)) ended-cut;
+            counted = rw (eq-eqb (refusal file table₀ report₀ linearization₀) 0 (l .accepted)) (ap (λ x. x .result .tally) ended-cut);
+            linearized = rw (eq-eqb (counts .number) 0 e)
+                (λ z. linearized-here file (admitted-meaning file (l .bytes) (l .checks .accepted)) table₀ report₀ linearization₀ _ ended-cut);
+          }
+
+    ended-by : Dec (counts .number ≡ 0) → counts .grants ≤ a .progress .number → Ended a (closedOf counts (a .progress) (a .tally))
+    ended-by (yes e) over = lending-end (a .accepted e) over e
+    ended-by (no d) over = unchanged-end (a .refused d) d
+
+    pub along-end : counts .grants ≤ a .progress .number → (result : Played) → result ≡ closedOf counts (a .progress) (a .tally) → Ended a result
+    along-end over result is = subst (Ended a) (sym is) (ended-by (ℕ-discrete (counts .number) 0) over)
+
+-- ---- the start
+
+-- no refusal: the buffers are long enough
+module _ (j : Job) (table report linearization : ℕ) (none : lentRefusal j table report linearization ≡ 0) where
+  long-table : j .nodes ≤ table
+  long-table = by (decLt table (j .nodes))
+    where
+      by : Dec (table < j .nodes) → j .nodes ≤ table
+      by (yes l) = absurd (omega (arith, none, short-table j table report linearization l))
+      by (no l) = omega (arith, l)
+
+  long-report : 4 * length (j .requests) ≤ report
+  long-report = by (decLt report (4 * length (j .requests)))
+    where
+      by : Dec (report < 4 * length (j .requests)) → 4 * length (j .requests) ≤ report
+      by (yes l) = absurd (omega (arith, none, short-report j table report linearization long-table l))
+      by (no l) = omega (arith, l)
+
+  long-linearization : 2 * length (j .requests) ≤ linearization
+  long-linearization = by (decLt linearization (2 * length (j .requests)))
+    where
+      by : Dec (linearization < 2 * length (j .requests)) → 2 * length (j .requests) ≤ linearization
+      by (yes l) = absurd (omega (arith, none, short-linearization j table report linearization long-table long-report l))
+      by (no l) = omega (arith, l)
+
+module _ (file table₀ report₀ linearization₀ : List ℕ) (tally₀ : Tally) (table report linearization : List ℕ) (plan : Plan) (tally : Tally) (bytes : Bytes file)
+    (prepared : _≡_ {A = Prepared} (record { table = table; report = report; linearization = linearization; plan = plan }) (preparedOf file table₀ report₀ linearization₀))
+    (is-tally : tally ≡ openedOf tally₀ plan) where
+  abbrev none : ℕ
+  none = refusal file table₀ report₀ linearization₀
+
+  -- ---- refused
+
+  module _ (d : none ≢ 0) where
+    was-refused : _≡_ {A = Prepared} (record { table = table; report = report; linearization = linearization; plan = plan })
+        (record { table = table₀; report = report₀; linearization = linearization₀; plan = refusedPlan none })
+    unfolding preparedOf
+    was-refused = prepared ∙ rw (ne-eqb none 0 d) refl
+
+    number-refused : plan .counts .number ≡ none
+    number-refused = ap (λ x. x .plan .counts .number) was-refused
+
+    unchanged-start : Unchanged file table₀ report₀ linearization₀ tally₀ (plan .counts) tally table report linearization
+    unchanged-start =
+        record {
+          refused = d;
+          which = number-refused;
+          grants = ap (λ x. x .plan .counts .grants) was-refused;
+          same-table = ap (λ x. x .table) was-refused;
+          same-report = ap (λ x. x .report) was-refused;
+          same-linearization = ap (λ x. x .linearization) was-refused;
+          same-tally = is-tally ∙ rw (ne-eqb (plan .counts .number) 0 (λ z. d (sym number-refused ∙ z))) refl;
+        }
+
+  -- ---- accepted
+
+  module _ (e : none ≡ 0) (table-long : length table ≡ length table₀) (report-long : length report ≡ length report₀) where
+    abbrev j : Job
+    j = meaning file .job
+
+    was-accepted : _≡_ {A = Prepared} (record { table = table; report = report; linearization = linearization; plan = plan })
+        (record { table = cutLaidOf file table₀ report₀ .table; report = cutLaidOf file table₀ report₀ .report; linearization = linearization₀; plan = acceptedPlan file })
+    unfolding preparedOf
+    was-accepted = prepared ∙ rw (eq-eqb none 0 e) refl
+
+    counts-are : plan .counts ≡ countsOf (meaning file)
+    counts-are = ap (λ x. x .plan .counts) was-accepted
+
+    nodes-are : plan .counts .nodes ≡ j .nodes
+    nodes-are = ap (λ c. c .nodes) counts-are
+
+    rows-are : 4 * plan .counts .requests ≡ 4 * length (j .requests)
+    rows-are = ap (λ c. 4 * c .requests) counts-are
+
+    file-accepted : Dec (meaning file .number ≡ 0) → meaning file .number ≡ 0
+    file-accepted (yes z) = z
+    file-accepted (no d) = absurd (d (sym (refusal-file file table₀ report₀ linearization₀ d) ∙ e))
+
+    accepted-file : meaning file .number ≡ 0
+    accepted-file = file-accepted (ℕ-discrete (meaning file .number) 0)
+
+    lent-fine : lentRefusal j (length table₀) (length report₀) (length linearization₀) ≡ 0
+    lent-fine = sym (refusal-lent file table₀ report₀ linearization₀ accepted-file) ∙ e
+
+    checked : Checks file (plan .counts)
+    checked = record { accepted = accepted-file; counts = counts-are }
+
+    whole : Whole file (plan .counts) (plan .counts .nodes) (4 * plan .counts .requests) (length linearization₀)
+    whole = record { checks = checked; nodes = nodes-are; rows = rows-are; room = long-linearization j (length table₀) (length report₀) (length linearization₀) lent-fine }
+
+    table-is : table ≡ map encode (fresh (plan .counts .nodes)) ++ drop (plan .counts .nodes) table₀
+    table-is = ap (λ x. x .table) was-accepted ∙ ap (λ k. map encode (fresh k) ++ drop k table₀) (sym nodes-are)
+
+    report-is : report ≡ replicate (4 * plan .counts .requests) 0 ++ drop (4 * plan .counts .requests) report₀
+    report-is = ap (λ x. x .report) was-accepted ∙ ap (λ k. replicate k 0 ++ drop k report₀) (sym rows-are)
+
+    fresh-long : length (map encode (fresh (plan .counts .nodes))) ≡ plan .counts .nodes
+    fresh-long = length-mapped encode (fresh (plan .counts .nodes)) ∙ length-fresh 0 (plan .counts .nodes)
+
+    heads-are : plan .progress .heads ≡ headsFrom (requestsIn file) 0 16
+    heads-are = ap (λ x. x .plan .progress .heads) was-accepted
+
+    mask-is : plan .progress .mask ≡ maskOf (map (workFlag (plan .counts .requests)) (plan .progress .heads))
+    mask-is = ap (λ x. x .plan .progress .mask) was-accepted ∙ sym (ap₂ (λ k l. maskOf (map (workFlag k) l)) (ap (λ c. c .requests) counts-are) heads-are)
+
+    progress-is : plan .progress ≡ record { heads = plan .progress .heads; entries = 0; mask = plan .progress .mask; number = 0; cursor = record { next = 0; head = 0; left = 0 }; done = plan .progress .done }
+    progress-is = λ i. record {
+      heads = plan .progress .heads;
+      entries = was-accepted i .plan .progress .entries;
+      mask = plan .progress .mask;
+      number = was-accepted i .plan .progress .number;
+      cursor = was-accepted i .plan .progress .cursor;
+      done = plan .progress .done;
+    }
+
+    tally-is : tally ≡ record { idle = 0; failed = 0; links = 0; working = ones (plan .progress .mask) }
+    tally-is = is-tally ∙ rw (eq-eqb (plan .counts .number) 0 (ap (λ c. c .number) counts-are ∙ accepted-file)) refl
+
+    going : Going file (plan .counts .requests) linearization₀ (plan .progress) tally (take (plan .counts .nodes) table) (take (4 * plan .counts .requests) report) linearization₀
+    going = going-start
+        (whole-startable linearization₀ whole bytes (plan .progress .heads) (plan .progress .mask) (take (plan .counts .nodes) table) (take (4 * plan .counts .requests) report) heads-are mask-is
+        (ap (take (plan .counts .nodes)) table-is ∙ take-at (map encode (fresh (plan .counts .nodes))) (drop (plan .counts .nodes) table₀) (plan .counts .nodes) fresh-long)
+        (ap (take (4 * plan .counts .requests)) report-is ∙ take-at (replicate (4 * plan .counts .requests) 0) (drop (4 * plan .counts .requests) report₀) (4 * plan .counts .requests) (length-replicate (4 * plan .counts .requests) 0)))
+        (plan .progress) tally progress-is tally-is
+
+    lending-start : Lending file table₀ report₀ linearization₀ tally₀ (plan .counts) (plan .progress) tally table report linearization
+    lending-start =
+        record {
+          accepted = e;
+          bytes = bytes;
+          checks = checked;
+          nodes = omega (arith, nodes-are, table-long, long-table j (length table₀) (length report₀) (length linearization₀) lent-fine);
+          rows = omega (arith, rows-are, report-long, long-report j (length table₀) (length report₀) (length linearization₀) lent-fine);
+          table-rest = ap (drop (plan .counts .nodes)) table-is ∙ drop-at (map encode (fresh (plan .counts .nodes))) (drop (plan .counts .nodes) table₀) (plan .counts .nodes) fresh-long;
+          report-rest = ap (drop (4 * plan .counts .requests)) report-is
+              ∙ drop-at (replicate (4 * plan .counts .requests) 0) (drop (4 * plan .counts .requests) report₀) (4 * plan .counts .requests) (length-replicate (4 * plan .counts .requests) 0);
+          going = subst (λ l. Going file (plan .counts .requests) linearization₀ (plan .progress) tally (take (plan .counts .nodes) table) (take (4 * plan .counts .requests) report) l)
+              (sym (ap (λ x. x .linearization) was-accepted)) going;
+        }
+
+  -- ---- either way
+
+  pub refused-by : Dec (none ≡ 0) → length table ≡ length table₀ → length report ≡ length report₀ → plan .counts .number ≢ 0
+      → Unchanged file table₀ report₀ linearization₀ tally₀ (plan .counts) tally table report linearization
+  refused-by (yes e) tl rl d = absurd (d (ap (λ c. c .number) (counts-are e tl rl) ∙ accepted-file e tl rl))
+  refused-by (no d) tl rl _ = unchanged-start d
+
+  pub accepted-by : Dec (none ≡ 0) → length table ≡ length table₀ → length report ≡ length report₀ → plan .counts .number ≡ 0
+      → Lending file table₀ report₀ linearization₀ tally₀ (plan .counts) (plan .progress) tally table report linearization
+  accepted-by (yes e) tl rl _ = lending-start e tl rl
+  accepted-by (no d) tl rl z = absurd (d (sym (number-refused d) ∙ z))
+
+  abbrev pub along-start : length table ≡ length table₀ → length report ≡ length report₀ → length linearization ≡ length linearization₀ → Along file table₀ report₀ linearization₀ tally₀ (plan .counts)
+  along-start table-long report-long linearization-long =
+      record {
+        progress = plan .progress;
+        tally = tally;
+        table = table;
+        report = report;
+        linearization = linearization;
+        table-long = table-long;
+        report-long = report-long;
+        linearization-long = linearization-long;
+        refused = refused-by (ℕ-discrete none 0) table-long report-long;
+        accepted = accepted-by (ℕ-discrete none 0) table-long report-long;
+      }

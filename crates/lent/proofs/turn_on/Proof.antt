@@ -1,0 +1,64 @@
+-- `lent::turn_on`: one grant on the parts that the job needs, the rest stays.
+use mathlib.Core.Path.{sym}
+use Prim.Native.Nat.{_*_}
+use native.Mathlib.Omega.{arith}
+use lib.Seq.{length-take-le}
+use Rattle.lent.proofs.Along.{turned-on}
+use borrow.Author.Needs.{needs}
+use Rattle.lent.proofs.turn_on.Statement.{statement}
+use Rattle.lent.proofs.turn_on.Tie as tie
+
+cast-nodes : tie.Need-cast-nodes
+cast-nodes c = search needs
+
+cast-rows : tie.Need-cast-rows
+cast-rows c = search needs
+
+mul-rows : tie.Need-mul-rows
+mul-rows c = search needs
+
+slice-relend-prefix-turn : tie.Need-slice-relend-prefix-turn
+slice-relend-prefix-turn c = let k = c .before .before .before .before .before .before in k .pre .nodes
+
+slice-aggregate-turn : tie.Need-slice-aggregate-turn
+slice-aggregate-turn c = let k = c .before .before .before .before .before .before .before in sym (length-take-le (k .args .counts .nodes) (k .args .table .now) (k .pre .nodes))
+
+slice-relend-prefix-turn-2 : tie.Need-slice-relend-prefix-turn-2
+slice-relend-prefix-turn-2 c = let k = c .before .before .before .before .before .before .before in k .pre .rows
+
+slice-aggregate-turn-2 : tie.Need-slice-aggregate-turn-2
+slice-aggregate-turn-2 c = let k = c .before .before .before .before .before .before .before .before in sym (length-take-le (4 * k .args .counts .requests) (k .args .report .now) (k .pre .rows))
+
+turn-requires : tie.Need-turn-requires
+turn-requires c κs = c .before .before .before .before .before .before .before .before .before .pre .turnable
+
+same-length : tie.Need-same-length
+same-length c = search needs
+
+same-length-2 : tie.Need-same-length-2
+same-length-2 c = search needs
+
+same-length-3 : tie.Need-same-length-3
+same-length-3 c = search needs
+
+returns : tie.Need-returns
+returns c =
+    let k = c .before .before .before .before .before .before .before .before .before .before .before .before .before .before .before .before in
+    λ S past lent st. turned-on (k .args .table .now) (k .args .report .now) _ _ (k .pre) (c .before .before .before .before .before .before .turn .kept .1 .1 .1 .0) (c .before .before .before .before .before .before .turn .kept .1 .1 .1 .1 .0) (c .before .before .before .before .before .before .turn .ensures S past lent st)
+
+pub turn-on-spec : {M : Type 1} → statement M
+turn-on-spec =
+    tie.close
+    (tie.spec
+    cast-nodes
+    cast-rows
+    mul-rows
+    slice-relend-prefix-turn
+    slice-aggregate-turn
+    slice-relend-prefix-turn-2
+    slice-aggregate-turn-2
+    turn-requires
+    same-length
+    same-length-2
+    same-length-3
+    returns)

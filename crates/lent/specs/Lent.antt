@@ -1,0 +1,144 @@
+-- A play on a lent tally: what stands before the first grant, one grant on the lent buffers, and the tally at the end.
+--
+--   planOf c hs mask       what is known before the first grant, of these counts, heads and work mask
+--   refusedPlan n          the plan of a refusal
+--   acceptedPlan file      the plan of an accepted file
+--   laidOf, cutLaidOf      the start, on buffers of the job's lengths and on longer ones
+--   preparedOf             the buffers and the plan, for any file and any buffers
+--   openedOf t plan        the tally t when a play starts
+--   TurnableOn, TurnedOn   what a turn on the lent buffers asks and what it leaves
+--   closedOf c p t         the answer
+--   tallyLeft              what the owner's tally holds at the end
+use mathlib.Core.Path.{_≡_}
+use mathlib.Core.Bool.{false, cond}
+use mathlib.Core.List.{List, _++_, map}
+use Prim.Native.Nat.{ℕ, _*_, _≤_}
+use lib.Count.{ones}
+use lib.Dec.{eqb}
+use lib.ListN.{length, take, drop, replicate}
+use Rattle.job.specs.declared.Tally.{Tally}
+use Rattle.job.specs.declared.Played.{Played}
+use Rattle.word.specs.Word.{encode}
+use Rattle.process.specs.declared.Head.{Head}
+use Rattle.process.specs.declared.Stage.the-variants.{Resting}
+use Rattle.jobfile.specs.Meaning.{meaning}
+use Rattle.mask.specs.Mask.{maskOf}
+use Rattle.reader.specs.declared.Checked.{Checked}
+use Rattle.reader.specs.Reader.{countsOf}
+use Rattle.rules.specs.Table.{fresh}
+use Rattle.rules.specs.State.{State, headsFrom, tallyOf}
+use Rattle.stepper.specs.Shown.{requestsIn}
+use Rattle.start.specs.Start.{workFlag}
+use Rattle.turns.specs.declared.Progress.{Progress}
+use Rattle.turns.specs.Turns.{buffersOf, Turnable, Turned, runOf}
+use Rattle.player.specs.Player.{refusedWith, playRefusal}
+use Rattle.lent.specs.declared.Plan.{Plan}
+
+-- ---- before the first grant
+
+abbrev pub planOf : Checked → List Head → ℕ → Plan
+planOf counts heads mask =
+    record {
+      counts = counts;
+      progress = record {
+        heads = heads;
+        entries = 0;
+        mask = mask;
+        number = 0;
+        cursor = record { next = 0; head = 0; left = 0 };
+        done = record { idle = false; failed = false; linked = false };
+      };
+    }
+
+-- Each refusal gives its number and zero for every count; there is no grant to play.
+abbrev pub refusedPlan : ℕ → Plan
+refusedPlan n =
+    planOf (record { number = n; nodes = 0; heads = 0; requests = 0; grants = 0; runs = 0 })
+    (replicate 16 (record { stage = Resting; x = 0; y = 0; request = 0 })) 0
+
+-- Every head rests before its first request.
+abbrev pub acceptedPlan : List ℕ → Plan
+acceptedPlan file =
+    planOf (countsOf (meaning file)) (headsFrom (requestsIn file) 0 16)
+    (maskOf (map (workFlag (length (requestsIn file))) (headsFrom (requestsIn file) 0 16)))
+
+pub record Laid : Type 0 where
+  pub table : List ℕ
+  pub report : List ℕ
+  pub plan : Plan
+
+-- Each node its own parent, and the requests' report numbers zero.
+abbrev pub laidOf : List ℕ → ℕ → Laid
+laidOf file rows =
+    record { table = map encode (fresh (meaning file .job .nodes)); report = replicate rows 0; plan = acceptedPlan file }
+
+abbrev pub cutLaidOf : List ℕ → List ℕ → List ℕ → Laid
+cutLaidOf file table report =
+    record {
+      table = map encode (fresh (meaning file .job .nodes)) ++ drop (meaning file .job .nodes) table;
+      report = replicate (4 * length (requestsIn file)) 0 ++ drop (4 * length (requestsIn file)) report;
+      plan = acceptedPlan file;
+    }
+
+pub record Prepared : Type 0 where
+  pub table : List ℕ
+  pub report : List ℕ
+  pub linearization : List ℕ
+  pub plan : Plan
+
+-- Refused: every buffer unchanged. Accepted: the start.
+unfoldable pub preparedOf : List ℕ → List ℕ → List ℕ → List ℕ → Prepared
+preparedOf file table report linearization =
+    cond (eqb (playRefusal file (length table) (length report) (length linearization)) 0)
+    (record {
+      table = cutLaidOf file table report .table;
+      report = cutLaidOf file table report .report;
+      linearization = linearization;
+      plan = acceptedPlan file;
+    })
+    (record {
+      table = table;
+      report = report;
+      linearization = linearization;
+      plan = refusedPlan (playRefusal file (length table) (length report) (length linearization));
+    })
+
+-- All three numbers are set to zero when an accepted job starts; the fourth is the mask's count of ones.
+abbrev pub openedOf : Tally → Plan → Tally
+openedOf tally plan =
+    cond (eqb (plan .counts .number) 0) (record { idle = 0; failed = 0; links = 0; working = ones (plan .progress .mask) }) tally
+
+-- ---- one grant, on the parts of the lent buffers that the job needs
+
+pub record TurnableOn (file : List ℕ) (counts : Checked) (p : Progress) (table report linearization : List ℕ) : Type 0 where
+  pub nodes : counts .nodes ≤ length table
+  pub rows : 4 * counts .requests ≤ length report
+  pub turnable : Turnable file (counts .requests) p (take (counts .nodes) table) (take (4 * counts .requests) report) linearization
+
+-- The turn is made on the parts, and what is past them stays.
+pub record TurnedOn (file : List ℕ) (counts : Checked) (p p′ : Progress) (table report table′ report′ linearization′ : List ℕ) (S : State) (lent : List ℕ) : Type 0 where
+  pub turned : Turned file p p′ (buffersOf p′ (take (counts .nodes) table′) (take (4 * counts .requests) report′) linearization′) S lent
+  pub table-rest : drop (counts .nodes) table′ ≡ drop (counts .nodes) table
+  pub report-rest : drop (4 * counts .requests) report′ ≡ drop (4 * counts .requests) report
+
+-- ---- the end
+
+abbrev pub closedOf : Checked → Progress → Tally → Played
+closedOf counts p tally =
+    cond (eqb (counts .number) 0)
+    (record {
+      number = 0;
+      nodes = counts .nodes;
+      heads = counts .heads;
+      requests = counts .requests;
+      grants = counts .grants;
+      entries = p .entries;
+      tally = tally;
+    })
+    (refusedWith (counts .number))
+
+-- The tally is lent by its owner: accepted, it holds what the rules' run counts; refused, it is as lent.
+unfoldable pub tallyLeft : List ℕ → List ℕ → List ℕ → List ℕ → Tally → Tally
+tallyLeft file table report linearization tally =
+    cond (eqb (playRefusal file (length table) (length report) (length linearization)) 0)
+    (tallyOf (requestsIn file) (runOf (meaning file .job))) tally

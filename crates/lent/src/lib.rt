@@ -1,0 +1,231 @@
+// The play on a tally that its owner lends: every grant adds to the owner's own tally.
+use job::Played;
+use job::Tally;
+use player::refused;
+use process::Head;
+use process::Stage;
+use reader::Checked;
+use start::clear_report;
+use start::first_heads;
+use start::first_mask;
+use start::fresh_table;
+use stepper::Done;
+use turns::Cursor;
+use turns::Progress;
+use turns::counted;
+use turns::turn;
+ghost use mathlib.Core.Path.{_≡_};
+ghost use mathlib.Core.List.{List};
+ghost use Prim.Native.Nat.{ℕ, _+_, _*_};
+ghost use lib.ListN.{length, take};
+ghost use Rattle.jobfile.specs.Meaning.{meaning};
+ghost use Rattle.jobfile.specs.Admitted.{Bytes};
+ghost use Rattle.rules.specs.State.{State};
+ghost use Rattle.rules.specs.Run.{Happening};
+ghost use Rattle.stepper.specs.Shown.{requestsIn, Standing};
+ghost use Rattle.turns.specs.Turns.{Roomy, countedOf, buffersOf};
+ghost use Rattle.player.specs.Player.{Checks, playedOf};
+ghost use Rattle.player.specs.Player.{Roomy as RoomyFor};
+ghost use Rattle.player.specs.Demand.{LinearizedHere};
+ghost use Rattle.lent.specs.Lent.{planOf, refusedPlan, laidOf, cutLaidOf, preparedOf, openedOf, TurnableOn, TurnedOn, closedOf, tallyLeft};
+
+// What is known before the first grant: the counts of the job or a refusal's number, and what the play carries.
+pub struct Plan {
+    pub counts: Checked,
+    pub progress: Progress,
+}
+
+// The plan of these counts, heads and work mask, before the first grant.
+fn plan_of(counts: Checked, heads: [Head; 16], mask: u32) -> Plan
+    ensures { λ r. ⌜ r ≡ planOf counts heads mask ⌝ }
+{
+    Plan {
+        counts,
+        progress: Progress {
+            heads,
+            entries: 0,
+            mask,
+            number: 0,
+            cursor: Cursor {
+                next: 0,
+                head: 0,
+                left: 0,
+            },
+            done: Done {
+                idle: false,
+                failed: false,
+                linked: false,
+            },
+        },
+    }
+}
+
+// The plan of a refusal: its number, and no grant.
+fn turned_down(number: u32) -> Plan
+    ensures { λ r. ⌜ r ≡ refusedPlan number ⌝ }
+{
+    let counts = Checked {
+        number,
+        nodes: 0,
+        heads: 0,
+        requests: 0,
+        grants: 0,
+        runs: 0,
+    };
+    let head = Head {
+        stage: Stage::Resting,
+        x: 0,
+        y: 0,
+        request: 0,
+    };
+    let heads = [head; 16];
+    plan_of(counts, heads, 0)
+}
+
+// Lays out the start on a table of one word a node and a report of four numbers a request.
+fn lay_out(file: &[u8], counts: Checked, table: &mut [u32], report: &mut [u32]) -> Plan
+    requires { ⌜ Checks (now file) counts ⌝ }
+    requires { ⌜ length (now table) ≡ meaning (now file) .job .nodes ⌝ }
+    ensures { λ r. ⌜ record { table = now (table .exit); report = now (report .exit); plan = r } ≡ laidOf (now (file .entry)) (length (now (report .entry))) ⌝ }
+{
+    fresh_table(table);
+    clear_report(report);
+    let heads = first_heads(file, counts.requests);
+    let mask = first_mask(heads, counts.requests);
+    plan_of(counts, heads, mask)
+}
+
+// Lays out the start on buffers that are long enough; what is past the nodes and the requests stays as lent.
+fn lay_out_cut(
+    file: &[u8],
+    counts: Checked,
+    table: &mut [u32],
+    report: &mut [u32],
+    room: usize,
+) -> Plan
+    requires { ⌜ RoomyFor (now file) counts (length (now table)) (length (now report)) room ⌝ }
+    ensures { λ r. ⌜ record { table = now (table .exit); report = now (report .exit); plan = r } ≡ cutLaidOf (now (file .entry)) (now (table .entry)) (now (report .entry)) ⌝ }
+{
+    let nodes = counts.nodes as usize;
+    let rows = 4 * (counts.requests as usize);
+    lay_out(file, counts, &mut table[..nodes], &mut report[..rows])
+}
+
+// Checks the file and the lent buffers, and lays out the start where nothing is refused.
+fn prepare(file: &[u8], table: &mut [u32], report: &mut [u32], linearization: &mut [u32]) -> Plan
+    ensures { λ r. ⌜ (record { table = now (table .exit); report = now (report .exit); linearization = now (linearization .exit); plan = r } ≡ preparedOf (now (file .entry)) (now (table .entry)) (now (report .entry)) (now (linearization .entry))) × Bytes (now (file .entry)) ⌝ }
+{
+    let counts = reader::check(file);
+    if counts.number != 0 {
+        return turned_down(counts.number);
+    }
+    if table.len() < counts.nodes as usize {
+        return turned_down(14);
+    }
+    if report.len() < 4 * (counts.requests as usize) {
+        return turned_down(14);
+    }
+    if linearization.len() < 2 * (counts.requests as usize) {
+        return turned_down(14);
+    }
+    lay_out_cut(file, counts, table, report, linearization.len())
+}
+
+// The owner's tally when a play starts: zeros where the job is accepted, else as lent.
+fn opened(tally: Tally, plan: Plan) -> Tally
+    ensures { λ r. ⌜ r ≡ openedOf tally plan ⌝ }
+{
+    let counts = plan.counts;
+    if counts.number != 0 {
+        return tally;
+    }
+    let progress = plan.progress;
+    Tally {
+        idle: 0,
+        failed: 0,
+        links: 0,
+        working: mask::count(progress.mask),
+    }
+}
+
+// One grant on the parts of the lent buffers that the job needs.
+fn turn_on(
+    file: &[u8],
+    counts: Checked,
+    progress: Progress,
+    table: &mut [u32],
+    report: &mut [u32],
+    linearization: &mut [u32],
+) -> Progress
+    requires { ⌜ TurnableOn (now file) counts progress (now table) (now report) (now linearization) ⌝ }
+    ensures { λ r. ⌜ ((S : State) (past : List Happening) (lent : List ℕ) → Standing (requestsIn (now (file .entry))) (length (take (counts .nodes) (now (table .entry)))) 16 (buffersOf progress (take (counts .nodes) (now (table .entry))) (take (4 * counts .requests) (now (report .entry))) (now (linearization .entry))) (progress .number + 1) S past lent → TurnedOn (now (file .entry)) counts progress r (now (table .entry)) (now (report .entry)) (now (table .exit)) (now (report .exit)) (now (linearization .exit)) S lent) ⌝ }
+{
+    let nodes = counts.nodes as usize;
+    let rows = 4 * (counts.requests as usize);
+    turn(
+        file,
+        counts.requests,
+        progress,
+        &mut table[..nodes],
+        &mut report[..rows],
+        linearization,
+    )
+}
+
+// The tally after the grant that a progress tells of.
+fn added(tally: Tally, progress: Progress) -> Tally
+    requires { ⌜ Roomy tally ⌝ }
+    ensures { λ r. ⌜ r ≡ countedOf tally (progress .done) (progress .mask) ⌝ }
+{
+    let done = progress.done;
+    counted(tally, done, progress.mask)
+}
+
+// What a play answers.
+fn closed(counts: Checked, progress: Progress, tally: Tally) -> Played
+    ensures { λ r. ⌜ r ≡ closedOf counts progress tally ⌝ }
+{
+    if counts.number != 0 {
+        return refused(counts.number);
+    }
+    Played {
+        number: 0,
+        nodes: counts.nodes,
+        heads: counts.heads,
+        requests: counts.requests,
+        grants: counts.grants,
+        entries: progress.entries,
+        tally,
+    }
+}
+
+// Adds a grant to the lent tally.
+pub fn add(tally: &mut Tally, progress: Progress)
+    requires { ⌜ Roomy (now tally) ⌝ }
+    ensures { λ _. ⌜ now (tally .exit) ≡ countedOf (now (tally .entry)) (progress .done) (progress .mask) ⌝ }
+{
+    *tally = added(*tally, progress);
+}
+
+// Plays a job file on lent buffers and a lent tally: the tally is zeroed at an accepted start and added to at each grant.
+pub fn play_lent(
+    file: &[u8],
+    table: &mut [u32],
+    report: &mut [u32],
+    linearization: &mut [u32],
+    tally: &mut Tally,
+) -> Played
+    ensures exact { λ r. ⌜ record { table = now (table .exit); report = now (report .exit); linearization = now (linearization .exit); result = r } ≡ playedOf (now (file .entry)) (now (table .entry)) (now (report .entry)) (now (linearization .entry)) ⌝ }
+    ensures counted { λ r. ⌜ now (tally .exit) ≡ tallyLeft (now (file .entry)) (now (table .entry)) (now (report .entry)) (now (linearization .entry)) (now (tally .entry)) ⌝ }
+    ensures linearized { λ r. ⌜ (r .number ≡ 0 → LinearizedHere (now (file .entry)) r (now (table .exit)) (now (report .exit)) (now (linearization .exit))) ⌝ }
+{
+    let plan = prepare(file, table, report, linearization);
+    *tally = opened(*tally, plan);
+    let counts = plan.counts;
+    let mut progress = plan.progress;
+    while progress.number < counts.grants {
+        progress = turn_on(file, counts, progress, table, report, linearization);
+        add(tally, progress);
+    }
+    closed(counts, progress, *tally)
+}
