@@ -16,9 +16,32 @@ use crate::text::field;
 use crate::text::find;
 use reader::Checked;
 use writer::Written;
+ghost use mathlib.Core.Path.{_≡_};
+ghost use lib.ListN.{length};
 
 // What stands in a buffer before the writer gets it.
 const UNWRITTEN: u8 = 0xEE;
+
+// Room for a file.
+fn file_room() -> [u8; 32770]
+    ensures { λ r. ⌜ 32770 ≡ length r ⌝ }
+{
+    [UNWRITTEN; 32770]
+}
+
+// Room for the numbers of 513 requests.
+fn request_room() -> [u32; 2052]
+    ensures { λ r. ⌜ 2052 ≡ length r ⌝ }
+{
+    [0; 2052]
+}
+
+// Room for the grants of 8,189 runs of 255, and one more.
+fn grant_room() -> [u8; 2088196]
+    ensures { λ r. ⌜ 2088196 ≡ length r ⌝ }
+{
+    [0; 2088196]
+}
 
 // The first bytes, or all where there are fewer.
 fn first_bytes(bytes: &[u8], count: usize) -> &[u8] {
@@ -91,7 +114,7 @@ fn is_same_written(a: Written, b: Written) -> bool {
 // Plays a file row.
 fn play_file(score: Score, row: &[u8]) -> Score {
     print_label(score, field(row, 0));
-    let mut file = [0u8; 32770];
+    let mut file = file_room();
     let end = put_words(&mut file, field(row, 1));
     let answer = reader::check(first_bytes(&file, end));
     print_checked(answer);
@@ -102,9 +125,9 @@ fn play_file(score: Score, row: &[u8]) -> Score {
 fn write_row(row: &[u8], out: &mut [u8]) -> Written {
     let mut sizes = [0u32; 3];
     put_numbers(&mut sizes, field(row, 1));
-    let mut requests = [0u32; 2052];
+    let mut requests = request_room();
     let numbers = put_numbers(&mut requests, field(row, 2));
-    let mut grants = [0u8; 2088196];
+    let mut grants = grant_room();
     let count = put_words(&mut grants, field(row, 3));
     writer::write(
         sizes[0],
@@ -129,7 +152,7 @@ fn is_kept(out: &[u8], from: usize) -> bool {
 
 // Whether a buffer starts with the bytes of a field.
 fn is_file(out: &[u8], bytes: usize, text: &[u8]) -> bool {
-    let mut file = [0u8; 32770];
+    let mut file = file_room();
     let end = put_words(&mut file, text);
     check::same(first_bytes(out, bytes), first_bytes(&file, end))
 }
@@ -159,13 +182,18 @@ fn is_right(row: &[u8], answer: Written, out: &[u8]) -> bool {
     is_kept(out, bytes)
 }
 
+// A number as a count.
+fn wide(number: u32) -> usize {
+    number as usize
+}
+
 // The room that a job row lends to the writer.
 fn room_in(row: &[u8]) -> usize {
     let mut sizes = [0u32; 3];
     if put_numbers(&mut sizes, field(row, 1)) < 3 {
         return 32770;
     }
-    sizes[2] as usize
+    wide(sizes[2])
 }
 
 // Plays a job row in a buffer: the writer gets its first part.
@@ -182,7 +210,7 @@ fn play_within(score: Score, row: &[u8], out: &mut [u8]) -> Score {
 
 // Plays a job row.
 fn play_job(score: Score, row: &[u8]) -> Score {
-    let mut out = [UNWRITTEN; 32770];
+    let mut out = file_room();
     play_within(score, row, &mut out)
 }
 

@@ -1,3 +1,9 @@
+use mathlib.Core.Path.{_≡_, refl, _∙_}
+use Prim.Native.Nat.{_-_, _≤_}
+use native.Mathlib.Omega.{arith}
+use lib.ListN.{length, length-take, length-set}
+use Rattle.edges.proofs.Loops.{Searching, Storing, Summing}
+use borrow.Author.Needs.{needs}
 use Rattle.edges.proofs.build.balance.Statement.{statement}
 use Rattle.edges.proofs.build.balance.Tie as tie
 use Rattle.edges.proofs.build.balance.Reads as reads
@@ -5,46 +11,37 @@ use Rattle.edges.proofs.build.balance.Lts as lts
 use Rattle.edges.proofs.build.weight.Reads as weight-reads
 
 abbrev Inv-loop : tie.InvT-loop
-Inv-loop bytes sum₀ i₀ sum i = ?
+Inv-loop bytes sum₀ i₀ sum i = Summing bytes i sum
 
 abbrev μ-loop : tie.MeasureT-loop
-μ-loop bytes sum₀ i₀ sum i = ?
+μ-loop bytes sum₀ i₀ sum i = length bytes - i
 
--- src/build.rt:67:5
 loop-holds : tie.Need-loop-holds Inv-loop μ-loop
-loop-holds c = ?
+loop-holds c = record { within = omega arith; small = omega arith }
 
--- src/build.rt:68:29
 shared-slice-read-weight : tie.Need-shared-slice-read-weight Inv-loop μ-loop
-shared-slice-read-weight c = ?
+shared-slice-read-weight c = search needs
 
--- src/build.rt:68:22
 weight-requires : tie.Need-weight-requires Inv-loop μ-loop
-weight-requires c κs = ?
+weight-requires c κs = search needs
 
--- src/build.rt:68:16
 add-sum : tie.Need-add-sum Inv-loop μ-loop
-add-sum c = ?
+add-sum c = search needs
 
--- src/build.rt:69:9
 add-i : tie.Need-add-i Inv-loop μ-loop
-add-i c = ?
+add-i c = search needs
 
--- src/build.rt:67:5
 loop-less : tie.Need-loop-less Inv-loop μ-loop
-loop-less c = ?
+loop-less c = search needs
 
--- src/build.rt:67:5
 loop-again : tie.Need-loop-again Inv-loop μ-loop
-loop-again c = ?
+loop-again c = record { within = omega arith; small = omega arith }
 
--- src/build.rt:71:6
 sub-result : tie.Need-sub-result Inv-loop μ-loop
-sub-result c = ?
+sub-result c = search needs
 
--- src/build.rt:62:1
 returns : tie.Need-returns Inv-loop μ-loop
-returns c = ?
+returns c = search needs
 
 pub balance-spec : {M : Type 1} → statement M
 balance-spec =

@@ -1,3 +1,9 @@
+use mathlib.Core.Path.{_≡_, refl, _∙_}
+use Prim.Native.Nat.{_-_, _≤_}
+use native.Mathlib.Omega.{arith}
+use lib.ListN.{length, length-take, length-set}
+use Rattle.edges.proofs.Loops.{Searching, Storing, Summing}
+use borrow.Author.Needs.{needs}
 use Rattle.edges.proofs.text.decimal.Statement.{statement}
 use Rattle.edges.proofs.text.decimal.Tie as tie
 use Rattle.edges.proofs.text.decimal.Reads as reads
@@ -5,58 +11,46 @@ use Rattle.edges.proofs.text.decimal.Lts as lts
 use Rattle.edges.proofs.text.digit.Reads as digit-reads
 
 abbrev Inv-loop : tie.InvT-loop
-Inv-loop word value₀ i₀ value i = ?
+Inv-loop word value₀ i₀ value i = i ≤ length word
 
 abbrev μ-loop : tie.MeasureT-loop
-μ-loop word value₀ i₀ value i = ?
+μ-loop word value₀ i₀ value i = length word - i
 
--- src/text.rt:68:5
 loop-holds : tie.Need-loop-holds Inv-loop μ-loop
-loop-holds c = ?
+loop-holds c = omega arith
 
--- src/text.rt:69:12
 shared-slice-read-if1 : tie.Need-shared-slice-read-if1 Inv-loop μ-loop
-shared-slice-read-if1 c = ?
+shared-slice-read-if1 c = search needs
 
--- src/text.rt:70:13
 returns : tie.Need-returns Inv-loop μ-loop
-returns c = ?
+returns c = search needs
 
--- src/text.rt:72:17
 mul-value : tie.Need-mul-value Inv-loop μ-loop
-mul-value c = ?
+mul-value c = search needs
 
--- src/text.rt:72:50
 shared-slice-read-digit : tie.Need-shared-slice-read-digit Inv-loop μ-loop
-shared-slice-read-digit c = ?
+shared-slice-read-digit c = search needs
 
--- src/text.rt:72:44
 digit-requires : tie.Need-digit-requires Inv-loop μ-loop
-digit-requires c κs = ?
+digit-requires c κs = search needs
 
--- src/text.rt:72:44
 cast-value : tie.Need-cast-value Inv-loop μ-loop
-cast-value c = ?
+cast-value c = search needs
 
--- src/text.rt:72:17
 add-value : tie.Need-add-value Inv-loop μ-loop
-add-value c = ?
+add-value c = search needs
 
--- src/text.rt:73:9
 add-i : tie.Need-add-i Inv-loop μ-loop
-add-i c = ?
+add-i c = search needs
 
--- src/text.rt:68:5
 loop-less : tie.Need-loop-less Inv-loop μ-loop
-loop-less c = ?
+loop-less c = search needs
 
--- src/text.rt:68:5
 loop-again : tie.Need-loop-again Inv-loop μ-loop
-loop-again c = ?
+loop-again c = search needs
 
--- src/text.rt:65:1
 returns-2 : tie.Need-returns-2 Inv-loop μ-loop
-returns-2 c = ?
+returns-2 c = search needs
 
 pub decimal-spec : {M : Type 1} → statement M
 decimal-spec =

@@ -1,41 +1,40 @@
+use mathlib.Core.Path.{_≡_, refl, _∙_}
+use Prim.Native.Nat.{_-_, _≤_}
+use native.Mathlib.Omega.{arith}
+use lib.ListN.{length, length-take, length-set}
+use Rattle.edges.proofs.Loops.{Searching, Storing, Summing}
+use borrow.Author.Needs.{needs}
 use Rattle.edges.proofs.text.find.Statement.{statement}
 use Rattle.edges.proofs.text.find.Tie as tie
 use Rattle.edges.proofs.text.find.Reads as reads
 use Rattle.edges.proofs.text.find.Lts as lts
 
 abbrev Inv-loop : tie.InvT-loop
-Inv-loop text from character i₀ i = ?
+Inv-loop text from character i₀ i = Searching text from i
 
 abbrev μ-loop : tie.MeasureT-loop
-μ-loop text from character i₀ i = ?
+μ-loop text from character i₀ i = length text - i
 
--- src/text.rt:12:5
 loop-holds : tie.Need-loop-holds Inv-loop μ-loop
-loop-holds c = ?
+loop-holds c = record { since = omega arith; within = omega arith }
 
--- src/text.rt:13:12
 shared-slice-read-if1 : tie.Need-shared-slice-read-if1 Inv-loop μ-loop
-shared-slice-read-if1 c = ?
+shared-slice-read-if1 c = search needs
 
--- src/text.rt:14:13
 returns : tie.Need-returns Inv-loop μ-loop
-returns c = ?
+returns c = search needs
 
--- src/text.rt:16:9
 add-i : tie.Need-add-i Inv-loop μ-loop
-add-i c = ?
+add-i c = search needs
 
--- src/text.rt:12:5
 loop-less : tie.Need-loop-less Inv-loop μ-loop
-loop-less c = ?
+loop-less c = search needs
 
--- src/text.rt:12:5
 loop-again : tie.Need-loop-again Inv-loop μ-loop
-loop-again c = ?
+loop-again c = record { since = omega arith; within = omega arith }
 
--- src/text.rt:6:1
 returns-2 : tie.Need-returns-2 Inv-loop μ-loop
-returns-2 c = ?
+returns-2 c = search needs
 
 pub find-spec : {M : Type 1} → statement M
 find-spec =
