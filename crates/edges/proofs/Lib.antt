@@ -1,0 +1,2 @@
+-- What the loops of the program keep.
+pub mod Loops

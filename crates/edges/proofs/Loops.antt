@@ -1,0 +1,21 @@
+-- What the loops of the program keep.
+--
+--   Searching l from i         the search in l has come from a position to i
+--   Storing before after l i   the loop over l has come to i, and its stores have kept the length of a buffer
+--   Summing l i sum            the loop over l has come to i, and the sum fits 16 bits
+use mathlib.Core.Path.{_≡_}
+use mathlib.Core.List.{List}
+use Prim.Native.Nat.{ℕ, _≤_}
+use lib.ListN.{length}
+
+pub record Searching (l : List ℕ) (from i : ℕ) : Type 0 where
+  pub since : from ≤ i
+  pub within : i ≤ length l
+
+pub record Storing (before after l : List ℕ) (i : ℕ) : Type 0 where
+  pub within : i ≤ length l
+  pub size : length after ≡ length before
+
+pub record Summing (l : List ℕ) (i sum : ℕ) : Type 0 where
+  pub within : i ≤ length l
+  pub small : sum ≤ 65535

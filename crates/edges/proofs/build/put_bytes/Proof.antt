@@ -1,0 +1,56 @@
+use mathlib.Core.Path.{_≡_, refl, _∙_}
+use Prim.Native.Nat.{_-_, _≤_}
+use native.Mathlib.Omega.{arith}
+use lib.ListN.{length, length-take, length-set}
+use Rattle.edges.proofs.Loops.{Searching, Storing, Summing}
+use borrow.Author.Needs.{needs}
+use Rattle.edges.proofs.build.put_bytes.Statement.{statement}
+use Rattle.edges.proofs.build.put_bytes.Tie as tie
+use Rattle.edges.proofs.build.put_bytes.Reads as reads
+use Rattle.edges.proofs.build.put_bytes.Lts as lts
+use Rattle.edges.proofs.build.put_byte.Reads as put-byte-reads
+
+abbrev Inv-loop : tie.InvT-loop
+Inv-loop file₀ start bytes at₀ i₀ file at i = Storing file₀ file bytes i
+
+abbrev μ-loop : tie.MeasureT-loop
+μ-loop file₀ start bytes at₀ i₀ file at i = length bytes - i
+
+loop-holds : tie.Need-loop-holds Inv-loop μ-loop
+loop-holds c = record { within = omega arith; size = refl }
+
+shared-slice-read-put-byte : tie.Need-shared-slice-read-put-byte Inv-loop μ-loop
+shared-slice-read-put-byte c = search needs
+
+put-byte-requires : tie.Need-put-byte-requires Inv-loop μ-loop
+put-byte-requires c κs = search needs
+
+add-i : tie.Need-add-i Inv-loop μ-loop
+add-i c = search needs
+
+loop-less : tie.Need-loop-less Inv-loop μ-loop
+loop-less c = search needs
+
+loop-again : tie.Need-loop-again Inv-loop μ-loop
+loop-again c = search needs
+
+same-length : tie.Need-same-length Inv-loop μ-loop
+same-length c = search needs
+
+returns : tie.Need-returns Inv-loop μ-loop
+returns c = search needs
+
+pub put-bytes-spec : {M : Type 1} → statement M
+put-bytes-spec =
+    tie.close
+    (tie.spec
+    Inv-loop
+    μ-loop
+    loop-holds
+    shared-slice-read-put-byte
+    put-byte-requires
+    add-i
+    loop-less
+    loop-again
+    same-length
+    returns)

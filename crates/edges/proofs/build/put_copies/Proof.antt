@@ -1,0 +1,52 @@
+use mathlib.Core.Path.{_≡_, refl, _∙_}
+use Prim.Native.Nat.{_-_, _≤_}
+use native.Mathlib.Omega.{arith}
+use lib.ListN.{length, length-take, length-set}
+use Rattle.edges.proofs.Loops.{Searching, Storing, Summing}
+use borrow.Author.Needs.{needs}
+use Rattle.edges.proofs.build.put_copies.Statement.{statement}
+use Rattle.edges.proofs.build.put_copies.Tie as tie
+use Rattle.edges.proofs.build.put_copies.Reads as reads
+use Rattle.edges.proofs.build.put_copies.Lts as lts
+use Rattle.edges.proofs.build.put_bytes.Reads as put-bytes-reads
+
+abbrev Inv-loop : tie.InvT-loop
+Inv-loop file₀ start bytes count at₀ i₀ file at i = length file ≡ length file₀
+
+abbrev μ-loop : tie.MeasureT-loop
+μ-loop file₀ start bytes count at₀ i₀ file at i = count - i
+
+loop-holds : tie.Need-loop-holds Inv-loop μ-loop
+loop-holds c = refl
+
+put-bytes-requires : tie.Need-put-bytes-requires Inv-loop μ-loop
+put-bytes-requires c κs = search needs
+
+add-i : tie.Need-add-i Inv-loop μ-loop
+add-i c = search needs
+
+loop-less : tie.Need-loop-less Inv-loop μ-loop
+loop-less c = search needs
+
+loop-again : tie.Need-loop-again Inv-loop μ-loop
+loop-again c = search needs
+
+same-length : tie.Need-same-length Inv-loop μ-loop
+same-length c = search needs
+
+returns : tie.Need-returns Inv-loop μ-loop
+returns c = search needs
+
+pub put-copies-spec : {M : Type 1} → statement M
+put-copies-spec =
+    tie.close
+    (tie.spec
+    Inv-loop
+    μ-loop
+    loop-holds
+    put-bytes-requires
+    add-i
+    loop-less
+    loop-again
+    same-length
+    returns)

@@ -1,0 +1,165 @@
+// What the words of a field stand for: the bytes of a file or of a list of grants, and the numbers of a list.
+//
+//   4B         a byte; 00*32768 is that many
+//   J          a job's record, two places and two heads
+//   Q*512      that many requests, each a union of 0 and 1 for head 0; in a list of numbers the same four numbers each
+//   R*8189     that many runs of 255 for head 0
+//   S*4094     that many pairs of runs, one grant for head 0 and one for head 1
+//   T*4094     that many pairs of bytes 00 01, as the grants of such runs are
+//   =          a close that balances the bytes before it
+//   17         in a list of numbers, that number
+//
+// What finds no room is left out; the buffers of `play` have room for every row of `main`.
+use crate::text::copies;
+use crate::text::decimal;
+use crate::text::find;
+use crate::text::hexadecimal;
+ghost use Prim.Native.Nat.{_≤_};
+
+// Stores a byte, and gives the position behind it.
+fn put_byte(file: &mut [u8], at: usize, byte: u8) -> usize {
+    if file.len() <= at {
+        return at;
+    }
+    file[at] = byte;
+    at + 1
+}
+
+// Stores some bytes, and gives the position behind them.
+fn put_bytes(file: &mut [u8], start: usize, bytes: &[u8]) -> usize {
+    let mut at = start;
+    let mut i = 0;
+    while i < bytes.len() {
+        at = put_byte(file, at, bytes[i]);
+        i += 1;
+    }
+    at
+}
+
+// Stores some bytes that many times, and gives the position behind them.
+fn put_copies(file: &mut [u8], start: usize, bytes: &[u8], count: u32) -> usize {
+    let mut at = start;
+    let mut i = 0;
+    while i < count {
+        at = put_bytes(file, at, bytes);
+        i += 1;
+    }
+    at
+}
+
+// What a byte at a position adds to the sum of the 16-bit words: a word's second byte is its high one.
+fn weight(byte: u8, at: usize) -> u32
+    ensures { λ r. ⌜ r ≤ 65280 ⌝ }
+{
+    if at % 2 == 0 {
+        byte as u32
+    } else {
+        256 * (byte as u32)
+    }
+}
+
+// What is missing to the next multiple of 65,536 in the sum of all words.
+fn balance(bytes: &[u8]) -> u32
+    ensures { λ r. ⌜ r ≤ 65535 ⌝ }
+{
+    let mut sum: u32 = 0;
+    let mut i = 0;
+    while i < bytes.len() {
+        sum = (sum + weight(bytes[i], i)) % 65536;
+        i += 1;
+    }
+    (65536 - sum) % 65536
+}
+
+// Stores a close that balances the bytes before it, and gives the position behind it.
+fn put_close(file: &mut [u8], start: usize) -> usize {
+    let end = put_bytes(file, start, b"\x43\x4C");
+    if file.len() < end {
+        return end;
+    }
+    let word = balance(&file[..end]);
+    let at = put_byte(file, end, (word % 256) as u8);
+    put_byte(file, at, (word / 256) as u8)
+}
+
+// Stores the bytes of a word, and gives the position behind them.
+fn put_word(file: &mut [u8], at: usize, word: &[u8]) -> usize {
+    if word.len() == 0 {
+        return at;
+    }
+    let count = copies(word);
+    let byte = [hexadecimal(word)];
+    match word[0] {
+        b'J' => put_copies(file, at, b"\x44\x4B\x02\x00\x02\x00", count),
+        b'Q' => put_copies(file, at, b"\x52\x51\x00\x01\x00\x00\x01\x00", count),
+        b'R' => put_copies(file, at, b"\x47\x52\x00\xFF", count),
+        b'S' => put_copies(file, at, b"\x47\x52\x00\x01\x47\x52\x01\x01", count),
+        b'T' => put_copies(file, at, b"\x00\x01", count),
+        b'=' => put_close(file, at),
+        _ => put_copies(file, at, &byte, count),
+    }
+}
+
+// Stores the bytes of a field's words, and gives how many there are.
+pub fn put_words(file: &mut [u8], text: &[u8]) -> usize {
+    let mut at = 0;
+    let mut i = 0;
+    while i < text.len() {
+        let end = find(text, i, b' ');
+        at = put_word(file, at, &text[i..end]);
+        if end == text.len() {
+            return at;
+        }
+        i = end + 1;
+    }
+    at
+}
+
+// Stores a number, and gives the position behind it.
+fn put_number(list: &mut [u32], at: usize, number: u32) -> usize {
+    if list.len() <= at {
+        return at;
+    }
+    list[at] = number;
+    at + 1
+}
+
+// Stores the four numbers of a union of 0 and 1 for head 0 that many times, and gives the position behind them.
+fn put_unions(list: &mut [u32], start: usize, count: u32) -> usize {
+    let mut at = start;
+    let mut i = 0;
+    while i < count {
+        at = put_number(list, at, 0);
+        at = put_number(list, at, 1);
+        at = put_number(list, at, 0);
+        at = put_number(list, at, 1);
+        i += 1;
+    }
+    at
+}
+
+// Stores the numbers of a word, and gives the position behind them.
+fn put_word_numbers(list: &mut [u32], at: usize, word: &[u8]) -> usize {
+    if word.len() == 0 {
+        return at;
+    }
+    if word[0] == b'Q' {
+        return put_unions(list, at, copies(word));
+    }
+    put_number(list, at, decimal(word))
+}
+
+// Stores the numbers of a field's words, and gives how many there are.
+pub fn put_numbers(list: &mut [u32], text: &[u8]) -> usize {
+    let mut at = 0;
+    let mut i = 0;
+    while i < text.len() {
+        let end = find(text, i, b' ');
+        at = put_word_numbers(list, at, &text[i..end]);
+        if end == text.len() {
+            return at;
+        }
+        i = end + 1;
+    }
+    at
+}

@@ -1,0 +1,346 @@
+// Plays the edges of the job file: files for the reader, and jobs for the writer, whose files are compared byte by byte and
+// read again. The tables state what each case expects, worked out from document 01, "Job file", "Turned down" and "Played
+// cases"; `play` says what stands in a row and `build` what its words stand for. A line of the output ends with `ok` where
+// the numbers answered and the bytes left are the row's, and the last line counts the cases.
+mod build;
+mod play;
+mod score;
+mod text;
+
+use libc::STDOUT_FILENO;
+use play::play_files;
+use play::play_jobs;
+use score::Score;
+use score::print_score;
+
+// Two bytes for the mark (2), the mark (3), the whole record (2); and the file ends with its close (2).
+fn file_cuts(score: Score) -> Score {
+    play_files(
+        score,
+        b"
+no byte                         |                        | 2
+one byte                        | 44                     | 2
+one byte of no mark             | 00                     | 2
+a mark alone                    | 44 4B                  | 2
+a wrong mark alone              | 44 4C                  | 3
+a close first                   | 43 4C BD B3            | 3
+header of five bytes            | 44 4B 02 00 02         | 2
+header alone                    | J                      | 2
+one byte left                   | J 43                   | 2
+one byte left, of no mark       | J 00                   | 2
+two bytes left, of no mark      | J 00 00                | 3
+mark of a request alone         | J 52 51                | 2
+request of seven bytes, all bad | J 52 51 02 03 02 00 02 | 2
+mark of a run alone             | J 47 52                | 2
+run of three bytes, bad head    | J 47 52 02             | 2
+run and no close                | J 47 52 00 01          | 2
+mark of a close alone           | J 43 4C                | 2
+close of three bytes            | J 43 4C 00             | 2
+",
+    )
+}
+
+// What may follow what (3), bytes after the close (12), the balance (13).
+fn file_marks(score: Score) -> Score {
+    play_files(
+        score,
+        b"
+a second header               | J 44 4B 02 00 02 00 =                     | 3
+a request behind a run        | J 47 52 00 01 Q =                         | 3
+a wrong mark behind a request | J Q 52 52 00 01 =                         | 3
+a wrong mark behind a run     | J 47 52 00 01 47 53 00 01 =               | 3
+smallest file                 | 44 4B 01 00 01 00 43 4C 77 68             | 0 1 1 0 0 0
+balance one too high          | 44 4B 01 00 01 00 43 4C 78 68             | 13
+balance high byte first       | 44 4B 01 00 01 00 43 4C 68 77             | 13
+balance of zero               | 44 4B 31 06 01 00 47 52 00 10 43 4C 00 00 | 0 1585 1 0 16 1
+one byte after the close      | 44 4B 01 00 01 00 43 4C 77 68 00          | 12
+two bytes after the close     | 44 4B 01 00 01 00 43 4C 77 68 00 00       | 12
+a second close                | 44 4B 01 00 01 00 43 4C 77 68 43 4C BD B3 | 12
+byte after it, wrong balance  | 44 4B 01 00 01 00 43 4C 78 68 00          | 12
+",
+    )
+}
+
+// Places (4), then heads (5), before anything behind them.
+fn file_sizes(score: Score) -> Score {
+    play_files(
+        score,
+        b"
+4,096 places             | 44 4B 00 10 01 00 43 4C 78 58             | 0 4096 1 0 0 0
+4,097 places             | 44 4B 01 10 01 00 43 4C 77 58             | 4
+no place                 | 44 4B 00 00 01 00 43 4C 78 68             | 4
+65,535 places            | 44 4B FF FF 01 00 43 4C 79 68             | 4
+16 heads                 | 44 4B 01 00 10 00 43 4C 68 68             | 0 1 16 0 0 0
+17 heads                 | 44 4B 01 00 11 00 43 4C 67 68             | 5
+no head                  | 44 4B 01 00 00 00 43 4C 78 68             | 5
+256 heads                | 44 4B 01 00 00 01 43 4C 78 67             | 5
+places and heads bad     | 44 4B 00 00 00 00 43 4C 79 68             | 4
+places bad, wrong mark   | 44 4B 00 00 01 00 00 00                   | 4
+heads bad, request bad   | 44 4B 01 00 11 00 52 51 11 03 01 00 01 00 | 5
+heads bad, one byte left | 44 4B 01 00 00 00 43                      | 5
+",
+    )
+}
+
+// Head (6), kind (7), place x and place y (8), left to right, in a job of two places and two heads.
+fn file_fields(score: Score) -> Score {
+    play_files(
+        score,
+        b"
+last head and places | J 52 51 01 02 01 00 01 00 = | 0 2 2 1 0 0
+head 2               | J 52 51 02 01 00 00 01 00 = | 6
+head 255             | J 52 51 FF 01 00 00 01 00 = | 6
+kind 0               | J 52 51 00 00 00 00 01 00 = | 7
+kind 3               | J 52 51 00 03 00 00 01 00 = | 7
+kind 255             | J 52 51 00 FF 00 00 01 00 = | 7
+x 2                  | J 52 51 00 01 02 00 01 00 = | 8
+x 256                | J 52 51 00 01 00 01 01 00 = | 8
+y 2                  | J 52 51 00 01 00 00 02 00 = | 8
+y 256                | J 52 51 00 01 00 00 00 01 = | 8
+all four bad         | J 52 51 02 03 02 00 02 00 = | 6
+kind, x and y bad    | J 52 51 00 03 02 00 02 00 = | 7
+x and y bad          | J 52 51 00 01 02 00 02 00 = | 8
+",
+    )
+}
+
+// The first faulty record decides, whatever stands behind it.
+fn file_first_faults(score: Score) -> Score {
+    play_files(
+        score,
+        b"
+y bad, next head bad        | J 52 51 00 01 00 00 02 00 52 51 02 01 00 00 01 00 = | 8
+second request bad          | J Q 52 51 00 03 00 00 01 00 =                       | 7
+head bad, then a wrong mark | J 52 51 02 01 00 00 01 00 00 00                     | 6
+kind bad, then nothing      | J 52 51 00 03 00 00 01 00                           | 7
+x bad, then one byte        | J 52 51 00 01 02 00 01 00 43                        | 8
+y bad, wrong balance        | J 52 51 00 01 00 00 02 00 43 4C 00 00               | 8
+wrong mark, then head bad   | J 00 00 00 00 52 51 02 01 00 00 01 00               | 3
+request bad, run bad        | J 52 51 00 01 00 00 02 00 47 52 02 00 =             | 8
+run bad, then a request     | J 47 52 02 01 Q =                                   | 10
+",
+    )
+}
+
+// The file that document 01 prints.
+fn file_sample(score: Score) -> Score {
+    play_files(
+        score,
+        b"
+document 01 | 44 4B 04 00 02 00 52 51 00 01 02 00 03 00 52 51 01 02 00 00 01 00 47 52 01 02 47 52 00 06 47 52 01 01 43 4C F1 C2 | 0 4 2 2 9 3
+",
+    )
+}
+
+// A head of the job and a run above 0 (10), then the run before (11), with two heads.
+fn file_runs(score: Score) -> Score {
+    play_files(
+        score,
+        b"
+255, same head        | J 47 52 00 FF 47 52 00 01 =             | 0 2 2 0 256 2
+254, same head        | J 47 52 00 FE 47 52 00 01 =             | 11
+1, same head          | J 47 52 01 01 47 52 01 FF =             | 11
+255, 255, same head   | J 47 52 00 FF 47 52 00 FF 47 52 00 01 = | 0 2 2 0 511 3
+255, 254, same head   | J 47 52 00 FF 47 52 00 FE 47 52 00 01 = | 11
+254, another, 254     | J 47 52 00 FE 47 52 01 01 47 52 00 FE = | 0 2 2 0 509 3
+head 2                | J 47 52 02 01 =                         | 10
+head 255              | J 47 52 FF 01 =                         | 10
+run 0                 | J 47 52 00 00 =                         | 10
+run 0, head bad       | J 47 52 02 00 =                         | 10
+254, same head, run 0 | J 47 52 00 FE 47 52 00 00 =             | 10
+254, then head 2      | J 47 52 00 FE 47 52 02 01 =             | 10
+11, then a wrong mark | J 47 52 00 FE 47 52 00 01 00 00         | 11
+11, wrong balance     | J 47 52 00 FE 47 52 00 01 43 4C 00 00   | 11
+",
+    )
+}
+
+// The whole record (2), then a request's count (9), then its fields.
+fn file_requests(score: Score) -> Score {
+    play_files(
+        score,
+        b"
+512 requests                   | J Q*512 =                                                 | 0 2 2 512 0 0
+512 requests and a run         | J Q*512 47 52 01 01 =                                     | 0 2 2 512 1 1
+513 requests                   | J Q*513 =                                                 | 9
+513th all bad                  | J Q*512 52 51 02 03 02 00 02 00 =                         | 9
+513th all bad, then nothing    | J Q*512 52 51 02 03 02 00 02 00                           | 9
+513th of seven bytes           | J Q*512 52 51 02 03 02 00 02                              | 2
+513th of its mark              | J Q*512 52 51                                             | 2
+513th of one byte              | J Q*512 52                                                | 2
+513th of a wrong mark          | J Q*512 52 52                                             | 3
+512th with head 2, and a 513th | J Q*511 52 51 02 01 00 00 01 00 52 51 00 01 00 00 01 00 = | 6
+",
+    )
+}
+
+// Length first (1): 32,768 bytes are admitted, though no file of 32,767 or 32,768 is whole.
+fn file_lengths(score: Score) -> Score {
+    play_files(
+        score,
+        b"
+32,766 bytes, 8,189 runs            | J R*8189 =                 | 0 2 2 0 2088195 8189
+32,766 bytes, 512 requests          | J Q*512 R*7165 =           | 0 2 2 512 1827075 7165
+32,766 bytes, wrong balance         | J R*8189 43 4C 00 00       | 13
+32,767 bytes, one after the close   | J R*8189 = 00              | 12
+32,768 bytes, two after the close   | J R*8189 = 00 00           | 12
+32,767 bytes, one byte left         | J R*8190 43                | 2
+32,768 bytes, a mark left           | J R*8190 43 4C             | 2
+32,768 bytes, a wrong mark left     | J R*8190 43 4D             | 3
+32,768 bytes, run 0 last            | J R*8189 47 52 00 00 43 4C | 10
+32,768 bytes, 513th request         | J Q*513 R*7164 43 4C       | 9
+32,769 bytes, three after the close | J R*8189 = 00 00 00        | 1
+32,770 bytes, 8,190 runs            | J R*8190 =                 | 1
+32,768 zeros                        | 00*32768                   | 3
+32,769 zeros                        | 00*32769                   | 1
+",
+    )
+}
+
+// Jobs that are written: the longest runs, at most 255; a rest of fewer than four numbers is no request.
+fn job_runs(score: Score) -> Score {
+    play_jobs(
+        score,
+        b"
+smallest job             | 1 1     |                 |                            | 0 10 | 0 1 1 0 0 0     | 44 4B 01 00 01 00 43 4C 77 68
+largest sizes and fields | 4096 16 | 15 2 4095 4094  | 0F 0F 00                   | 0 26 | 0 4096 16 1 3 2 | 44 4B 00 10 10 00 52 51 0F 02 FF 0F FE 0F 47 52 0F 02 47 52 00 01 43 4C 6E 3D
+document 01              | 4 2     | 0 1 2 3 1 2 0 1 | 01 01 00 00 00 00 00 00 01 | 0 38 | 0 4 2 2 9 3     | 44 4B 04 00 02 00 52 51 00 01 02 00 03 00 52 51 01 02 00 00 01 00 47 52 01 02 47 52 00 06 47 52 01 01 43 4C F1 C2
+rest of three numbers    | 2 2     | 9 9 9           |                            | 0 10 | 0 2 2 0 0 0     | J =
+254 grants               | 2 2     |                 | 00*254                     | 0 14 | 0 2 2 0 254 1   | J 47 52 00 FE =
+255 grants               | 2 2     |                 | 00*255                     | 0 14 | 0 2 2 0 255 1   | J 47 52 00 FF =
+256 grants               | 2 2     |                 | 00*256                     | 0 18 | 0 2 2 0 256 2   | J 47 52 00 FF 47 52 00 01 43 4C E7 C3
+510 grants               | 2 2     |                 | 01*510                     | 0 18 | 0 2 2 0 510 2   | J 47 52 01 FF 47 52 01 FF =
+511 grants               | 2 2     |                 | 01*511                     | 0 22 | 0 2 2 0 511 3   | J 47 52 01 FF 47 52 01 FF 47 52 01 01 =
+heads in turn            | 2 2     |                 | 00 01 00                   | 0 22 | 0 2 2 0 3 3     | J S 47 52 00 01 =
+",
+    )
+}
+
+// Places (4), then heads (5); a number too wide for its field is refused, not cut.
+fn job_sizes(score: Score) -> Score {
+    play_jobs(
+        score,
+        b"
+4,097 places           | 4097 1  |          |  | 4
+no place               | 0 1     |          |  | 4
+65,537 places          | 65537 1 |          |  | 4
+17 heads               | 1 17    |          |  | 5
+no head                | 1 0     |          |  | 5
+65,537 heads           | 1 65537 |          |  | 5
+places and heads bad   | 0 0     |          |  | 4
+heads bad, request bad | 2 17    | 17 3 2 2 |  | 5
+",
+    )
+}
+
+// Head (6), kind (7), place x and place y (8), request by request, then each grant (10).
+fn job_fields(score: Score) -> Score {
+    play_jobs(
+        score,
+        b"
+head 2                 | 2 2 | 2 1 0 1         |          | 6
+head 256               | 2 2 | 256 1 0 1       |          | 6
+kind 0                 | 2 2 | 0 0 0 1         |          | 7
+kind 3                 | 2 2 | 0 3 0 1         |          | 7
+kind 257               | 2 2 | 0 257 0 1       |          | 7
+x 2                    | 2 2 | 0 1 2 1         |          | 8
+x 65,536               | 2 2 | 0 1 65536 1     |          | 8
+y 2                    | 2 2 | 0 1 0 2         |          | 8
+y 65,536               | 2 2 | 0 1 0 65536     |          | 8
+all four bad           | 2 2 | 2 3 2 2         |          | 6
+kind, x and y bad      | 2 2 | 0 3 2 2         |          | 7
+y bad, next head bad   | 2 2 | 0 1 0 2 2 1 0 1 |          | 8
+second request bad     | 2 2 | 0 1 0 1 0 3 0 1 |          | 7
+grant of head 2        | 2 2 |                 | 02       | 10
+last grant of head 255 | 2 2 |                 | 00 01 FF | 10
+request bad, grant bad | 2 2 | 0 1 0 2         | 02       | 8
+",
+    )
+}
+
+// The count of requests (9), behind places and heads and before any field.
+fn job_requests(score: Score) -> Score {
+    play_jobs(
+        score,
+        b"
+512 requests                   | 2 2  | Q*512         |    | 0 4106 | 0 2 2 512 0 0 | J Q*512 =
+512 requests and three numbers | 2 2  | Q*512 0 1 0   |    | 0 4106 | 0 2 2 512 0 0 | J Q*512 =
+513 requests                   | 2 2  | Q*513         |    | 9
+513 requests, heads bad        | 2 17 | Q*513         |    | 5
+513 requests, grant bad        | 2 2  | Q*513         | 02 | 9
+513 requests, first bad        | 2 2  | 2 1 0 1 Q*512 |    | 9
+512 requests, last bad         | 2 2  | Q*511 0 1 0 2 |    | 8
+",
+    )
+}
+
+// The file's length (1), behind requests and grants and before the buffer.
+fn job_lengths(score: Score) -> Score {
+    play_jobs(
+        score,
+        b"
+32,766 bytes, 8,189 runs       | 2 2   |         | T*4094 00    | 0 32766 | 0 2 2 0 8189 8189    | J S*4094 47 52 00 01 =
+32,766 bytes, 512 requests     | 2 2   | Q*512   | T*3582 00    | 0 32766 | 0 2 2 512 7165 7165  | J Q*512 S*3582 47 52 00 01 =
+32,766 bytes, 2,088,195 grants | 2 2   |         | 00*2088195   | 0 32766 | 0 2 2 0 2088195 8189 | J R*8189 =
+32,770 bytes, 2,088,196 grants | 2 2   |         | 00*2088196   | 1
+32,770 bytes, 8,190 runs       | 2 2   |         | T*4095       | 1
+32,770 bytes, 512 requests     | 2 2   | Q*512   | T*3583       | 1
+32,770 bytes, request bad      | 2 2   | 0 1 2 1 | T*4095       | 8
+32,770 bytes, empty buffer     | 2 2 0 |         | T*4095       | 1
+32,770 bytes, last grant bad   | 2 2   |         | T*4094 00 02 | 10
+",
+    )
+}
+
+// The buffer (14), last of all.
+fn job_buffers(score: Score) -> Score {
+    play_jobs(
+        score,
+        b"
+buffer of 10 bytes      | 1 1 10    |  |           | 0 10    | 0 1 1 0 0 0       | 44 4B 01 00 01 00 =
+buffer of 9 bytes       | 1 1 9     |  |           | 14
+empty buffer            | 1 1 0     |  |           | 14
+empty buffer, grant bad | 1 1 0     |  | 01        | 10
+buffer of 32,766 bytes  | 2 2 32766 |  | T*4094 00 | 0 32766 | 0 2 2 0 8189 8189 | J S*4094 47 52 00 01 =
+buffer of 32,765 bytes  | 2 2 32765 |  | T*4094 00 | 14
+",
+    )
+}
+
+// Reads every file.
+fn read_files(score: Score) -> Score {
+    io::write_all(
+        STDOUT_FILENO,
+        b"reader: number places heads requests grants runs\n",
+    );
+    let score = file_cuts(score);
+    let score = file_marks(score);
+    let score = file_sizes(score);
+    let score = file_fields(score);
+    let score = file_first_faults(score);
+    let score = file_sample(score);
+    let score = file_runs(score);
+    let score = file_requests(score);
+    file_lengths(score)
+}
+
+// Writes every job.
+fn write_jobs(score: Score) -> Score {
+    io::write_all(
+        STDOUT_FILENO,
+        b"writer: number bytes, then what the reader answers for the written file\n",
+    );
+    let score = job_runs(score);
+    let score = job_sizes(score);
+    let score = job_fields(score);
+    let score = job_requests(score);
+    let score = job_lengths(score);
+    job_buffers(score)
+}
+
+fn main() {
+    let score = Score { cases: 0, wrong: 0 };
+    let score = read_files(score);
+    let score = write_jobs(score);
+    print_score(score);
+}

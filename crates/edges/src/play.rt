@@ -1,0 +1,249 @@
+// How a row is played: a file is read, or a job is written and its file read again, and the answers are compared.
+//
+//   file row   label | file | number places heads requests grants runs
+//   job row    label | places heads [room] | requests | grants | number bytes | number places .. runs | file
+//
+// The last two fields of a job row are what the reader answers for the written file, and that file, built by hand; a
+// refusal has neither. Without a room the writer gets a buffer of 32,770 bytes. Numbers left out elsewhere are zeros.
+use crate::build::put_numbers;
+use crate::build::put_words;
+use crate::score::Score;
+use crate::score::judge;
+use crate::score::print_checked;
+use crate::score::print_label;
+use crate::score::print_written;
+use crate::text::field;
+use crate::text::find;
+use reader::Checked;
+use writer::Written;
+ghost use mathlib.Core.Path.{_≡_};
+ghost use lib.ListN.{length};
+
+// What stands in a buffer before the writer gets it.
+const UNWRITTEN: u8 = 0xEE;
+
+// Room for a file.
+fn file_room() -> [u8; 32770]
+    ensures { λ r. ⌜ 32770 ≡ length r ⌝ }
+{
+    [UNWRITTEN; 32770]
+}
+
+// Room for the numbers of 513 requests.
+fn request_room() -> [u32; 2052]
+    ensures { λ r. ⌜ 2052 ≡ length r ⌝ }
+{
+    [0; 2052]
+}
+
+// Room for the grants of 8,189 runs of 255, and one more.
+fn grant_room() -> [u8; 2088196]
+    ensures { λ r. ⌜ 2088196 ≡ length r ⌝ }
+{
+    [0; 2088196]
+}
+
+// The first bytes, or all where there are fewer.
+fn first_bytes(bytes: &[u8], count: usize) -> &[u8] {
+    if bytes.len() < count {
+        return bytes;
+    }
+    &bytes[..count]
+}
+
+// The first numbers, or all where there are fewer.
+fn first_numbers(numbers: &[u32], count: usize) -> &[u32] {
+    if numbers.len() < count {
+        return numbers;
+    }
+    &numbers[..count]
+}
+
+// The reader's answer that a field expects.
+fn checked_in(text: &[u8]) -> Checked {
+    let mut numbers = [0u32; 6];
+    put_numbers(&mut numbers, text);
+    Checked {
+        number: numbers[0],
+        nodes: numbers[1],
+        heads: numbers[2],
+        requests: numbers[3],
+        grants: numbers[4],
+        runs: numbers[5],
+    }
+}
+
+// The writer's answer that a field expects.
+fn written_in(text: &[u8]) -> Written {
+    let mut numbers = [0u32; 2];
+    put_numbers(&mut numbers, text);
+    Written {
+        number: numbers[0],
+        bytes: numbers[1],
+    }
+}
+
+// Whether two answers of the reader are the same in all six numbers.
+fn is_same_checked(a: Checked, b: Checked) -> bool {
+    if a.number != b.number {
+        return false;
+    }
+    if a.nodes != b.nodes {
+        return false;
+    }
+    if a.heads != b.heads {
+        return false;
+    }
+    if a.requests != b.requests {
+        return false;
+    }
+    if a.grants != b.grants {
+        return false;
+    }
+    a.runs == b.runs
+}
+
+// Whether two answers of the writer are the same in both numbers.
+fn is_same_written(a: Written, b: Written) -> bool {
+    if a.number != b.number {
+        return false;
+    }
+    a.bytes == b.bytes
+}
+
+// Plays a file row.
+fn play_file(score: Score, row: &[u8]) -> Score {
+    print_label(score, field(row, 0));
+    let mut file = file_room();
+    let end = put_words(&mut file, field(row, 1));
+    let answer = reader::check(first_bytes(&file, end));
+    print_checked(answer);
+    judge(score, is_same_checked(answer, checked_in(field(row, 2))))
+}
+
+// Writes the job of a row.
+fn write_row(row: &[u8], out: &mut [u8]) -> Written {
+    let mut sizes = [0u32; 3];
+    put_numbers(&mut sizes, field(row, 1));
+    let mut requests = request_room();
+    let numbers = put_numbers(&mut requests, field(row, 2));
+    let mut grants = grant_room();
+    let count = put_words(&mut grants, field(row, 3));
+    writer::write(
+        sizes[0],
+        sizes[1],
+        first_numbers(&requests, numbers),
+        first_bytes(&grants, count),
+        out,
+    )
+}
+
+// Whether a buffer is as it was from a position on.
+fn is_kept(out: &[u8], from: usize) -> bool {
+    let mut i = from;
+    while i < out.len() {
+        if out[i] != UNWRITTEN {
+            return false;
+        }
+        i += 1;
+    }
+    true
+}
+
+// Whether a buffer starts with the bytes of a field.
+fn is_file(out: &[u8], bytes: usize, text: &[u8]) -> bool {
+    let mut file = file_room();
+    let end = put_words(&mut file, text);
+    check::same(first_bytes(out, bytes), first_bytes(&file, end))
+}
+
+// What the reader answers for what the writer has left: no number but zero where it has left nothing.
+fn read_again(answer: Written, out: &[u8]) -> Checked {
+    if answer.bytes == 0 {
+        return checked_in(b"");
+    }
+    let again = reader::check(first_bytes(out, answer.bytes as usize));
+    print_checked(again);
+    again
+}
+
+// Whether the writer has answered and left what a job row expects.
+fn is_right(row: &[u8], answer: Written, out: &[u8]) -> bool {
+    let bytes = answer.bytes as usize;
+    if !is_same_checked(read_again(answer, out), checked_in(field(row, 5))) {
+        return false;
+    }
+    if !is_same_written(answer, written_in(field(row, 4))) {
+        return false;
+    }
+    if !is_file(out, bytes, field(row, 6)) {
+        return false;
+    }
+    is_kept(out, bytes)
+}
+
+// A number as a count.
+fn wide(number: u32) -> usize {
+    number as usize
+}
+
+// The room that a job row lends to the writer.
+fn room_in(row: &[u8]) -> usize {
+    let mut sizes = [0u32; 3];
+    if put_numbers(&mut sizes, field(row, 1)) < 3 {
+        return 32770;
+    }
+    wide(sizes[2])
+}
+
+// Plays a job row in a buffer: the writer gets its first part.
+fn play_within(score: Score, row: &[u8], out: &mut [u8]) -> Score {
+    print_label(score, field(row, 0));
+    let room = room_in(row);
+    if out.len() < room {
+        return judge(score, false);
+    }
+    let answer = write_row(row, &mut out[..room]);
+    print_written(answer);
+    judge(score, is_right(row, answer, out))
+}
+
+// Plays a job row.
+fn play_job(score: Score, row: &[u8]) -> Score {
+    let mut out = file_room();
+    play_within(score, row, &mut out)
+}
+
+// Plays the file rows of a table, one a line.
+pub fn play_files(start: Score, table: &[u8]) -> Score {
+    let mut score = start;
+    let mut from = 0;
+    while from < table.len() {
+        let end = find(table, from, b'\n');
+        if from < end {
+            score = play_file(score, &table[from..end]);
+        }
+        if end == table.len() {
+            return score;
+        }
+        from = end + 1;
+    }
+    score
+}
+
+// Plays the job rows of a table, one a line.
+pub fn play_jobs(start: Score, table: &[u8]) -> Score {
+    let mut score = start;
+    let mut from = 0;
+    while from < table.len() {
+        let end = find(table, from, b'\n');
+        if from < end {
+            score = play_job(score, &table[from..end]);
+        }
+        if end == table.len() {
+            return score;
+        }
+        from = end + 1;
+    }
+    score
+}

@@ -1,0 +1,94 @@
+// The text of a table: rows, their fields between bars, the words of a field, and the numbers in words.
+ghost use Prim.Native.Nat.{_≤_};
+ghost use lib.ListN.{length};
+
+// The position of the first such character from a position on, or the text's end.
+pub fn find(text: &[u8], from: usize, character: u8) -> usize
+    requires { ⌜ from ≤ length (now text) ⌝ }
+    ensures { λ r. ⌜ from ≤ r ⌝ }
+    ensures { λ r. ⌜ r ≤ length (now (text .entry)) ⌝ }
+{
+    let mut i = from;
+    while i < text.len() {
+        if text[i] == character {
+            return i;
+        }
+        i += 1;
+    }
+    i
+}
+
+// Where the field with a number starts; fields count from 0.
+fn field_start(row: &[u8], number: u32) -> usize
+    ensures { λ r. ⌜ r ≤ length (now (row .entry)) ⌝ }
+{
+    let mut from = 0;
+    let mut i = 0;
+    while i < number {
+        let bar = find(row, from, b'|');
+        if bar == row.len() {
+            return bar;
+        }
+        from = bar + 1;
+        i += 1;
+    }
+    from
+}
+
+// The field with a number, empty where the row has none.
+pub fn field(row: &[u8], number: u32) -> &[u8] {
+    let from = field_start(row, number);
+    let to = find(row, from, b'|');
+    &row[from..to]
+}
+
+// The value of a digit, hexadecimal too; 0 for any other character.
+pub fn digit(character: u8) -> u8
+    ensures { λ r. ⌜ r ≤ 15 ⌝ }
+{
+    if character < 48 {
+        return 0;
+    }
+    if character < 58 {
+        return character - 48;
+    }
+    if character < 65 {
+        return 0;
+    }
+    if character < 71 {
+        return character - 55;
+    }
+    0
+}
+
+// The decimal number of a word's leading digits, up to a star or the word's end.
+pub fn decimal(word: &[u8]) -> u32 {
+    let mut value: u32 = 0;
+    let mut i = 0;
+    while i < word.len() {
+        if word[i] == b'*' {
+            return value;
+        }
+        value = (value % 100000000) * 10 + digit(word[i]) as u32;
+        i += 1;
+    }
+    value
+}
+
+// The byte of a word's first two characters, as hexadecimal digits.
+pub fn hexadecimal(word: &[u8]) -> u8 {
+    if word.len() < 2 {
+        return 0;
+    }
+    16 * digit(word[0]) + digit(word[1])
+}
+
+// How many copies a word asks for: the number behind its star, 1 where it has none.
+pub fn copies(word: &[u8]) -> u32 {
+    let star = find(word, 0, b'*');
+    if star == word.len() {
+        return 1;
+    }
+    let start = star + 1;
+    decimal(&word[start..])
+}
