@@ -63,6 +63,7 @@ fn calls_to_a_round(mut call: impl FnMut()) -> u32 {
 }
 
 fn play(file: &[u8]) -> Times {
+    assert_eq!(Outcome::of(CORE.play, file, AMPLE), Outcome::of(PEER.play, file, AMPLE));
     let Outcome { mut table, mut report, mut lineup, .. } = Outcome::untouched(0, AMPLE);
     Times::of(|player| {
         black_box((player.play)(black_box(file), &mut table, &mut report, &mut lineup));
@@ -107,9 +108,9 @@ fn busy_job(seed: u64, nodes: u32, requests: u32, unions: u32, bursts: bool) -> 
 
 fn busy_grants() {
     println!("\nns a grant, 4096 nodes, 16 heads, 512 requests, {JOBS} jobs a row");
-    println!("{:<36} {:>26}   {:>26}", "", "whole call", "without reading the file");
+    println!("{:<40} {:>26}   {:>26}", "", "whole call", "without reading the file");
     let titles = "     core      peer  ratio";
-    println!("{:<36} {titles}   {titles}", "");
+    println!("{:<40} {titles}   {titles}", "");
     for (name, bursts) in [("one by one", false), ("bursts of 1 to 8", true)] {
         for unions in [10, 50, 90] {
             let (mut whole, mut reading, mut grants) = (Times::default(), Times::default(), 0.0);
@@ -121,37 +122,40 @@ fn busy_grants() {
             }
             let name = format!("busy, {name}, {unions} % unions");
             let playing = whole.less(reading).columns(grants);
-            println!("{name:<36} {}   {playing}", whole.columns(grants));
+            println!("{name:<40} {}   {playing}", whole.columns(grants));
         }
     }
     let idle = file(&Job::new(4096, 16, &[], &[(0, 2_088_195)]));
     let (whole, reading) = (play(&idle), read(&idle));
     let playing = whole.less(reading).columns(2_088_195.0);
-    println!("{:<36} {}   {playing}", "idle, the most in a file", whole.columns(2_088_195.0));
+    println!("{:<40} {}   {playing}", "idle, the most in a file", whole.columns(2_088_195.0));
 }
 
 fn bytes() {
     println!("\nns a byte");
-    println!("{:<36}      core      peer  ratio", "");
+    println!("{:<40}      core      peer  ratio", "");
     let requests = Job::new(4096, 16, &[Request::union(15, 4095, 0); 512], &[]);
     let singles: Vec<(u8, usize)> = (0..8_189).map(|n| ((n % 16) as u8, 1)).collect();
     let singles = Job::new(4096, 16, &[], &singles);
     let longest = Job::new(4096, 16, &[], &[(0, 2_088_195)]);
-    let jobs =
-        [("512 requests", &requests), ("8189 runs of 1", &singles), ("8189 runs of 255", &longest)];
+    let jobs = [
+        ("512 requests", &requests),
+        ("8189 runs of one grant", &singles),
+        ("8189 runs of 255 grants", &longest),
+    ];
     for (name, job) in jobs {
         let file = file(job);
-        println!("{:<36} {}", format!("read, {name}"), read(&file).columns(file.len() as f64));
+        println!("{:<40} {}", format!("read, {name}"), read(&file).columns(file.len() as f64));
     }
     for (name, job) in jobs {
         let bytes = file(job).len() as f64;
-        println!("{:<36} {}", format!("write, {name}"), write(job).columns(bytes));
+        println!("{:<40} {}", format!("write, {name}"), write(job).columns(bytes));
     }
 }
 
 fn enquiry() {
     println!("\nns a grant of an enquiry");
-    println!("{:<36}      core      peer  ratio", "");
+    println!("{:<40}      core      peer  ratio", "");
     let chain: Vec<u32> = (0..4_096).map(|node| (node + 1).min(4_095)).collect();
     let mut table = chain.clone();
     let ask = Times::of(|player| {
@@ -159,16 +163,16 @@ fn enquiry() {
         let told = black_box((player.query)(&mut table, 0, 1, u16::MAX));
         assert_eq!(told.grants, 12_290);
     });
-    println!("{:<36} {}", "a chain of 4096 nodes, 12290 grants", ask.columns(12_290.0));
+    println!("{:<40} {}", "a chain of 4096 nodes, 12290 grants", ask.columns(12_290.0));
 }
 
 fn growth() {
     println!("\ngrowth, 16 heads, one by one, 50 % unions, no idle grants");
-    println!("{:<36}   core us   peer us  ratio   core ns a grant", "");
+    println!("{:<40}   core us   peer us  ratio   core ns a grant", "");
     let row = |name: String, job: &Job| {
         let times = play(&file(job));
         let each = times.core / job.grants.len() as f64;
-        println!("{name:<36} {}   {each:>9.2}", times.columns(1_000.0));
+        println!("{name:<40} {}   {each:>9.2}", times.columns(1_000.0));
     };
     for nodes in [16, 64, 256, 1024, 4096] {
         let job = busy_job(1, nodes, 256, 50, false);
@@ -187,9 +191,9 @@ fn growth() {
 
 fn main() {
     println!(
-        "least of {ROUNDS} rounds, core and peer in turn; a round repeats a call for {ROUND:?}"
+        "Least of {ROUNDS} rounds, core and peer in turn. A round repeats one call for {ROUND:?},"
     );
-    println!("ratio: core to peer");
+    println!("so that caches and branch predictors know it. Ratio: core to peer.");
     busy_grants();
     bytes();
     enquiry();
