@@ -19,6 +19,12 @@ use writer::Written;
 ghost use mathlib.Core.Path.{_≡_};
 ghost use lib.ListN.{length};
 
+// What the rows of a table are.
+pub enum Rows {
+    Files,
+    Jobs,
+}
+
 // What stands in a buffer before the writer gets it.
 const UNWRITTEN: u8 = 0xEE;
 
@@ -157,22 +163,20 @@ fn is_file(out: &[u8], bytes: usize, text: &[u8]) -> bool {
     check::same(first_bytes(out, bytes), first_bytes(&file, end))
 }
 
-// What the reader answers for what the writer has left: no number but zero where it has left nothing.
-fn read_again(answer: Written, out: &[u8]) -> Checked {
+// Reads the written file again, prints the answer, and gives whether the row expects it. A refusal has left no file.
+fn read_again(row: &[u8], answer: Written, out: &[u8]) -> bool {
+    let expected = checked_in(field(row, 5));
     if answer.bytes == 0 {
-        return checked_in(b"");
+        return is_same_checked(checked_in(b""), expected);
     }
     let again = reader::check(first_bytes(out, answer.bytes as usize));
     print_checked(again);
-    again
+    is_same_checked(again, expected)
 }
 
 // Whether the writer has answered and left what a job row expects.
-fn is_right(row: &[u8], answer: Written, out: &[u8]) -> bool {
+fn is_left(row: &[u8], answer: Written, out: &[u8]) -> bool {
     let bytes = answer.bytes as usize;
-    if !is_same_checked(read_again(answer, out), checked_in(field(row, 5))) {
-        return false;
-    }
     if !is_same_written(answer, written_in(field(row, 4))) {
         return false;
     }
@@ -205,7 +209,10 @@ fn play_within(score: Score, row: &[u8], out: &mut [u8]) -> Score {
     }
     let answer = write_row(row, &mut out[..room]);
     print_written(answer);
-    judge(score, is_right(row, answer, out))
+    if !read_again(row, answer, out) {
+        return judge(score, false);
+    }
+    judge(score, is_left(row, answer, out))
 }
 
 // Plays a job row.
@@ -214,31 +221,22 @@ fn play_job(score: Score, row: &[u8]) -> Score {
     play_within(score, row, &mut out)
 }
 
-// Plays the file rows of a table, one a line.
-pub fn play_files(start: Score, table: &[u8]) -> Score {
-    let mut score = start;
-    let mut from = 0;
-    while from < table.len() {
-        let end = find(table, from, b'\n');
-        if from < end {
-            score = play_file(score, &table[from..end]);
-        }
-        if end == table.len() {
-            return score;
-        }
-        from = end + 1;
+// Plays a row.
+fn play_row(score: Score, rows: Rows, row: &[u8]) -> Score {
+    match rows {
+        Rows::Files => play_file(score, row),
+        Rows::Jobs => play_job(score, row),
     }
-    score
 }
 
-// Plays the job rows of a table, one a line.
-pub fn play_jobs(start: Score, table: &[u8]) -> Score {
+// Plays the rows of a table, one a line; the line before the first is empty.
+pub fn play(start: Score, rows: Rows, table: &[u8]) -> Score {
     let mut score = start;
     let mut from = 0;
     while from < table.len() {
         let end = find(table, from, b'\n');
         if from < end {
-            score = play_job(score, &table[from..end]);
+            score = play_row(score, rows, &table[from..end]);
         }
         if end == table.len() {
             return score;

@@ -61,7 +61,7 @@ pub fn digit(character: u8) -> u8
     0
 }
 
-// The decimal number of a word's leading digits, up to a star or the word's end.
+// The decimal number, of nine digits at most, that a word starts with; it ends at a star or with the word.
 pub fn decimal(word: &[u8]) -> u32 {
     let mut value: u32 = 0;
     let mut i = 0;

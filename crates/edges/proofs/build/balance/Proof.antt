@@ -1,14 +1,11 @@
-use mathlib.Core.Path.{_≡_, refl, _∙_}
-use Prim.Native.Nat.{_-_, _≤_}
+-- `build::balance` adds one byte a turn and keeps the sum below 65,536.
+use Prim.Native.Nat.{_-_}
 use native.Mathlib.Omega.{arith}
-use lib.ListN.{length, length-take, length-set}
-use Rattle.edges.proofs.Loops.{Searching, Storing, Summing}
+use lib.ListN.{length}
 use borrow.Author.Needs.{needs}
+use Rattle.edges.proofs.Loops.{Summing}
 use Rattle.edges.proofs.build.balance.Statement.{statement}
 use Rattle.edges.proofs.build.balance.Tie as tie
-use Rattle.edges.proofs.build.balance.Reads as reads
-use Rattle.edges.proofs.build.balance.Lts as lts
-use Rattle.edges.proofs.build.weight.Reads as weight-reads
 
 abbrev Inv-loop : tie.InvT-loop
 Inv-loop bytes sum₀ i₀ sum i = Summing bytes i sum

@@ -1,14 +1,12 @@
-use mathlib.Core.Path.{_≡_, refl, _∙_}
-use Prim.Native.Nat.{_-_, _≤_}
+-- `build::put_bytes` stores one byte a turn, and the buffer keeps its length.
+use mathlib.Core.Path.{refl}
+use Prim.Native.Nat.{_-_}
 use native.Mathlib.Omega.{arith}
-use lib.ListN.{length, length-take, length-set}
-use Rattle.edges.proofs.Loops.{Searching, Storing, Summing}
+use lib.ListN.{length}
 use borrow.Author.Needs.{needs}
+use Rattle.edges.proofs.Loops.{Storing}
 use Rattle.edges.proofs.build.put_bytes.Statement.{statement}
 use Rattle.edges.proofs.build.put_bytes.Tie as tie
-use Rattle.edges.proofs.build.put_bytes.Reads as reads
-use Rattle.edges.proofs.build.put_bytes.Lts as lts
-use Rattle.edges.proofs.build.put_byte.Reads as put-byte-reads
 
 abbrev Inv-loop : tie.InvT-loop
 Inv-loop file₀ start bytes at₀ i₀ file at i = Storing file₀ file bytes i

@@ -1,16 +1,9 @@
-use mathlib.Core.Path.{_≡_, refl, _∙_}
-use Prim.Native.Nat.{_-_, _≤_}
+-- `build::put_close` sums no more than the buffer has.
 use native.Mathlib.Omega.{arith}
-use lib.ListN.{length, length-take, length-set}
-use Rattle.edges.proofs.Loops.{Searching, Storing, Summing}
+use lib.ListN.{length-take}
 use borrow.Author.Needs.{needs}
 use Rattle.edges.proofs.build.put_close.Statement.{statement}
 use Rattle.edges.proofs.build.put_close.Tie as tie
-use Rattle.edges.proofs.build.put_close.Reads as reads
-use Rattle.edges.proofs.build.put_close.Lts as lts
-use Rattle.edges.proofs.build.balance.Reads as balance-reads
-use Rattle.edges.proofs.build.put_byte.Reads as put-byte-reads
-use Rattle.edges.proofs.build.put_bytes.Reads as put-bytes-reads
 
 slice-aggregate-put-bytes : tie.Need-slice-aggregate-put-bytes
 slice-aggregate-put-bytes c = search needs

@@ -1,14 +1,10 @@
-use mathlib.Core.Path.{_≡_, refl, _∙_}
-use Prim.Native.Nat.{_-_, _≤_}
-use native.Mathlib.Omega.{arith}
-use lib.ListN.{length, length-take, length-set}
-use Rattle.edges.proofs.Loops.{Searching, Storing, Summing}
+-- `build::put_copies` stores one copy a turn, and the buffer keeps its length.
+use mathlib.Core.Path.{_≡_, refl}
+use Prim.Native.Nat.{_-_}
+use lib.ListN.{length}
 use borrow.Author.Needs.{needs}
 use Rattle.edges.proofs.build.put_copies.Statement.{statement}
 use Rattle.edges.proofs.build.put_copies.Tie as tie
-use Rattle.edges.proofs.build.put_copies.Reads as reads
-use Rattle.edges.proofs.build.put_copies.Lts as lts
-use Rattle.edges.proofs.build.put_bytes.Reads as put-bytes-reads
 
 abbrev Inv-loop : tie.InvT-loop
 Inv-loop file₀ start bytes count at₀ i₀ file at i = length file ≡ length file₀

@@ -1,15 +1,12 @@
-use mathlib.Core.Path.{_≡_, refl, _∙_}
-use Prim.Native.Nat.{_-_, _≤_}
+-- `build::put_numbers` goes from word to word, and the list keeps its length.
+use mathlib.Core.Path.{refl}
+use Prim.Native.Nat.{_-_}
 use native.Mathlib.Omega.{arith}
-use lib.ListN.{length, length-take, length-set}
-use Rattle.edges.proofs.Loops.{Searching, Storing, Summing}
+use lib.ListN.{length}
 use borrow.Author.Needs.{needs}
+use Rattle.edges.proofs.Loops.{Storing}
 use Rattle.edges.proofs.build.put_numbers.Statement.{statement}
 use Rattle.edges.proofs.build.put_numbers.Tie as tie
-use Rattle.edges.proofs.build.put_numbers.Reads as reads
-use Rattle.edges.proofs.build.put_numbers.Lts as lts
-use Rattle.edges.proofs.build.put_word_numbers.Reads as put-word-numbers-reads
-use Rattle.edges.proofs.text.find.Reads as find-reads
 
 abbrev Inv-loop : tie.InvT-loop
 Inv-loop list₀ text at₀ i₀ list at i = Storing list₀ list text i

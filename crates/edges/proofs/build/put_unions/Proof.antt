@@ -1,14 +1,10 @@
-use mathlib.Core.Path.{_≡_, refl, _∙_}
-use Prim.Native.Nat.{_-_, _≤_}
-use native.Mathlib.Omega.{arith}
-use lib.ListN.{length, length-take, length-set}
-use Rattle.edges.proofs.Loops.{Searching, Storing, Summing}
+-- `build::put_unions` stores one request a turn, and the list keeps its length.
+use mathlib.Core.Path.{_≡_, refl}
+use Prim.Native.Nat.{_-_}
+use lib.ListN.{length}
 use borrow.Author.Needs.{needs}
 use Rattle.edges.proofs.build.put_unions.Statement.{statement}
 use Rattle.edges.proofs.build.put_unions.Tie as tie
-use Rattle.edges.proofs.build.put_unions.Reads as reads
-use Rattle.edges.proofs.build.put_unions.Lts as lts
-use Rattle.edges.proofs.build.put_number.Reads as put-number-reads
 
 abbrev Inv-loop : tie.InvT-loop
 Inv-loop list₀ start count at₀ i₀ list at i = length list ≡ length list₀

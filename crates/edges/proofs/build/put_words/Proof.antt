@@ -1,15 +1,12 @@
-use mathlib.Core.Path.{_≡_, refl, _∙_}
-use Prim.Native.Nat.{_-_, _≤_}
+-- `build::put_words` goes from word to word, and the buffer keeps its length.
+use mathlib.Core.Path.{refl}
+use Prim.Native.Nat.{_-_}
 use native.Mathlib.Omega.{arith}
-use lib.ListN.{length, length-take, length-set}
-use Rattle.edges.proofs.Loops.{Searching, Storing, Summing}
+use lib.ListN.{length}
 use borrow.Author.Needs.{needs}
+use Rattle.edges.proofs.Loops.{Storing}
 use Rattle.edges.proofs.build.put_words.Statement.{statement}
 use Rattle.edges.proofs.build.put_words.Tie as tie
-use Rattle.edges.proofs.build.put_words.Reads as reads
-use Rattle.edges.proofs.build.put_words.Lts as lts
-use Rattle.edges.proofs.build.put_word.Reads as put-word-reads
-use Rattle.edges.proofs.text.find.Reads as find-reads
 
 abbrev Inv-loop : tie.InvT-loop
 Inv-loop file₀ text at₀ i₀ file at i = Storing file₀ file text i

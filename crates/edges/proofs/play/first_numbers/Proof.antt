@@ -1,13 +1,9 @@
-use mathlib.Core.Path.{_≡_, refl, _∙_}
-use Prim.Native.Nat.{_-_, _≤_}
+-- `play::first_numbers` gives no more than there is.
 use native.Mathlib.Omega.{arith}
-use lib.ListN.{length, length-take, length-set}
-use Rattle.edges.proofs.Loops.{Searching, Storing, Summing}
+use lib.ListN.{length-take}
 use borrow.Author.Needs.{needs}
 use Rattle.edges.proofs.play.first_numbers.Statement.{statement}
 use Rattle.edges.proofs.play.first_numbers.Tie as tie
-use Rattle.edges.proofs.play.first_numbers.Reads as reads
-use Rattle.edges.proofs.play.first_numbers.Lts as lts
 
 returns : tie.Need-returns
 returns c = search needs

@@ -1,13 +1,9 @@
-use mathlib.Core.Path.{_≡_, refl, _∙_}
-use Prim.Native.Nat.{_-_, _≤_}
-use native.Mathlib.Omega.{arith}
-use lib.ListN.{length, length-take, length-set}
-use Rattle.edges.proofs.Loops.{Searching, Storing, Summing}
+-- `play::is_kept` looks at one byte a turn; nothing has to hold from turn to turn.
+use Prim.Native.Nat.{_-_}
+use lib.ListN.{length}
 use borrow.Author.Needs.{needs}
 use Rattle.edges.proofs.play.is_kept.Statement.{statement}
 use Rattle.edges.proofs.play.is_kept.Tie as tie
-use Rattle.edges.proofs.play.is_kept.Reads as reads
-use Rattle.edges.proofs.play.is_kept.Lts as lts
 
 abbrev Inv-loop : tie.InvT-loop
 Inv-loop out from i₀ i = Unit {0}

@@ -1,20 +1,9 @@
-use mathlib.Core.Path.{_≡_, refl, _∙_}
-use Prim.Native.Nat.{_-_, _≤_}
+-- `play::play_within` lends no more than the buffer has.
 use native.Mathlib.Omega.{arith}
-use lib.ListN.{length, length-take, length-set}
-use Rattle.edges.proofs.Loops.{Searching, Storing, Summing}
+use lib.ListN.{length-take}
 use borrow.Author.Needs.{needs}
 use Rattle.edges.proofs.play.play_within.Statement.{statement}
 use Rattle.edges.proofs.play.play_within.Tie as tie
-use Rattle.edges.proofs.play.play_within.Reads as reads
-use Rattle.edges.proofs.play.play_within.Lts as lts
-use Rattle.edges.proofs.play.is_right.Reads as is-right-reads
-use Rattle.edges.proofs.play.room_in.Reads as room-in-reads
-use Rattle.edges.proofs.play.write_row.Reads as write-row-reads
-use Rattle.edges.proofs.score.judge.Reads as judge-reads
-use Rattle.edges.proofs.score.print_label.Reads as print-label-reads
-use Rattle.edges.proofs.score.print_written.Reads as print-written-reads
-use Rattle.edges.proofs.text.field.Reads as field-reads
 
 field-requires : tie.Need-field-requires
 field-requires c κs = search needs
@@ -43,8 +32,8 @@ write-row-requires c κs = search needs
 print-written-requires : tie.Need-print-written-requires
 print-written-requires c κs = search needs
 
-is-right-requires : tie.Need-is-right-requires
-is-right-requires c κs = search needs
+read-again-requires : tie.Need-read-again-requires
+read-again-requires c κs = search needs
 
 judge-requires-2 : tie.Need-judge-requires-2
 judge-requires-2 c κs = search needs
@@ -54,6 +43,18 @@ same-length c = search needs
 
 returns-2 : tie.Need-returns-2
 returns-2 c = search needs
+
+is-left-requires : tie.Need-is-left-requires
+is-left-requires c κs = search needs
+
+judge-requires-3 : tie.Need-judge-requires-3
+judge-requires-3 c κs = search needs
+
+same-length-2 : tie.Need-same-length-2
+same-length-2 c = search needs
+
+returns-3 : tie.Need-returns-3
+returns-3 c = search needs
 
 pub play-within-spec : {M : Type 1} → statement M
 play-within-spec =
@@ -68,7 +69,11 @@ play-within-spec =
     slice-aggregate-write-row
     write-row-requires
     print-written-requires
-    is-right-requires
+    read-again-requires
     judge-requires-2
     same-length
-    returns-2)
+    returns-2
+    is-left-requires
+    judge-requires-3
+    same-length-2
+    returns-3)

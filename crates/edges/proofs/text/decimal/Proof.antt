@@ -1,14 +1,10 @@
-use mathlib.Core.Path.{_≡_, refl, _∙_}
+-- `text::decimal` goes through the digits; a number of nine digits and one more still fits.
 use Prim.Native.Nat.{_-_, _≤_}
 use native.Mathlib.Omega.{arith}
-use lib.ListN.{length, length-take, length-set}
-use Rattle.edges.proofs.Loops.{Searching, Storing, Summing}
+use lib.ListN.{length}
 use borrow.Author.Needs.{needs}
 use Rattle.edges.proofs.text.decimal.Statement.{statement}
 use Rattle.edges.proofs.text.decimal.Tie as tie
-use Rattle.edges.proofs.text.decimal.Reads as reads
-use Rattle.edges.proofs.text.decimal.Lts as lts
-use Rattle.edges.proofs.text.digit.Reads as digit-reads
 
 abbrev Inv-loop : tie.InvT-loop
 Inv-loop word value₀ i₀ value i = i ≤ length word

@@ -1,14 +1,10 @@
-use mathlib.Core.Path.{_≡_, refl, _∙_}
+-- `text::field_start` passes one bar a turn.
 use Prim.Native.Nat.{_-_, _≤_}
 use native.Mathlib.Omega.{arith}
-use lib.ListN.{length, length-take, length-set}
-use Rattle.edges.proofs.Loops.{Searching, Storing, Summing}
+use lib.ListN.{length}
 use borrow.Author.Needs.{needs}
 use Rattle.edges.proofs.text.field_start.Statement.{statement}
 use Rattle.edges.proofs.text.field_start.Tie as tie
-use Rattle.edges.proofs.text.field_start.Reads as reads
-use Rattle.edges.proofs.text.field_start.Lts as lts
-use Rattle.edges.proofs.text.find.Reads as find-reads
 
 abbrev Inv-loop : tie.InvT-loop
 Inv-loop row number from₀ i₀ from i = from ≤ length row

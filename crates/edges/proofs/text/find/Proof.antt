@@ -1,13 +1,11 @@
-use mathlib.Core.Path.{_≡_, refl, _∙_}
-use Prim.Native.Nat.{_-_, _≤_}
+-- `text::find` passes what is not the character, and ends at it or at the end.
+use Prim.Native.Nat.{_-_}
 use native.Mathlib.Omega.{arith}
-use lib.ListN.{length, length-take, length-set}
-use Rattle.edges.proofs.Loops.{Searching, Storing, Summing}
+use lib.ListN.{length}
 use borrow.Author.Needs.{needs}
+use Rattle.edges.proofs.Loops.{Searching}
 use Rattle.edges.proofs.text.find.Statement.{statement}
 use Rattle.edges.proofs.text.find.Tie as tie
-use Rattle.edges.proofs.text.find.Reads as reads
-use Rattle.edges.proofs.text.find.Lts as lts
 
 abbrev Inv-loop : tie.InvT-loop
 Inv-loop text from character i₀ i = Searching text from i
