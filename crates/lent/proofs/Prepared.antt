@@ -1,7 +1,6 @@
 -- The start on lent buffers: from the parts of `prepare` to what it leaves, and the refusals.
 use mathlib.Core.Path.{_≡_, refl, sym, ap, ap₂, _∙_}
 use mathlib.Core.Logic.{_≢_}
-use mathlib.Core.Bool.{true, false}
 use mathlib.Core.List.{List, _++_, map}
 use Prim.Native.Nat.{ℕ, _*_}
 use lib.Dec.{eqb}
@@ -9,7 +8,6 @@ use lib.ListN.{length, drop, replicate}
 use borrow.Author.Tests.{eq-eqb, ne-eqb}
 use Rattle.word.specs.Word.{encode}
 use Rattle.process.specs.declared.Head.{Head}
-use Rattle.jobfile.specs.Format.{_then_}
 use Rattle.jobfile.specs.Meaning.{meaning}
 use Rattle.mask.specs.Mask.{maskOf}
 use Rattle.reader.specs.declared.Checked.{Checked}
@@ -19,7 +17,7 @@ use Rattle.stepper.specs.Shown.{requestsIn}
 use Rattle.start.specs.Start.{workFlag}
 use Rattle.player.specs.Player.{lentRefusal, playRefusal, Checks}
 use Rattle.lent.specs.declared.Plan.{Plan}
-use Rattle.lent.specs.Lent.{planOf, refusedPlan, acceptedPlan, Laid, laidOf, cutLaidOf, Prepared, preparedOf}
+use Rattle.lent.specs.Lent.{planOf, refusedPlan, Laid, laidOf, cutLaidOf, Prepared, preparedOf}
 
 -- ---- the start
 

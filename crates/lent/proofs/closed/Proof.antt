@@ -1,5 +1,4 @@
 -- `lent::closed`: the counts and the tally, or a refusal's zeros.
-use mathlib.Core.Path.{sym, _∙_}
 use borrow.Author.Tests.{eq-eqb, ne-eqb}
 use borrow.Author.Needs.{needs}
 use Rattle.lent.proofs.closed.Statement.{statement}

@@ -1,5 +1,5 @@
 -- `lent::lay_out_cut`: the start on the parts that the job needs, the rest stays.
-use mathlib.Core.Path.{sym, ap, _∙_}
+use mathlib.Core.Path.{sym, ap}
 use Prim.Native.Nat.{_*_}
 use native.Mathlib.Omega.{arith}
 use lib.Seq.{length-take-le}

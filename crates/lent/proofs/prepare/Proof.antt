@@ -2,7 +2,6 @@
 use mathlib.Core.Path.{sym, ap, _∙_}
 use native.Mathlib.Omega.{arith}
 use Rattle.jobfile.specs.Meaning.{meaning}
-use Rattle.jobfile.specs.Admitted.{Bytes}
 use Rattle.player.proofs.Parts.{short-table, short-report, short-linearization, long-enough}
 use Rattle.lent.proofs.Prepared.{refusal-file, refusal-lent, prepared-refused, prepared-accepted}
 use borrow.Author.Needs.{needs}

@@ -1,7 +1,6 @@
 -- `lent::turn_on`: one grant on the parts that the job needs, the rest stays.
 use mathlib.Core.Path.{sym}
 use Prim.Native.Nat.{_*_}
-use native.Mathlib.Omega.{arith}
 use lib.Seq.{length-take-le}
 use Rattle.lent.proofs.Along.{turned-on}
 use borrow.Author.Needs.{needs}
