@@ -1,7 +1,7 @@
 -- Document 01, "Played cases": what the program prints for a job file.
 --
 --   textOf left               the text of what a play left
---   output file               the text of a file, played on a table, a report and a linearization of zeros
+--   output file               the text of a file
 --   longest                   room for every text
 --   Put text before after n   the n bytes of the text were written at the start of a buffer
 --   Printable p t r l         table t, report r and linearization l hold what the text of p shows, in not too many lines
@@ -14,10 +14,12 @@ use Rattle.player.specs.Player.{Left, playedOf}
 use Rattle.listing.specs.Listing.{listing}
 use Rattle.listing.specs.Writing.{Enough}
 
+-- A job's listing, or a refusal's line.
 abbrev pub textOf : Left → List ℕ
 textOf left = listing (left .result) (left .table) (left .report) (left .linearization)
 
--- The buffers are as long as the largest job needs: 4,096 places, and four and two numbers for each of 512 requests.
+-- The file is played on a table, a report and a linearization of zeros, as long as the largest job needs:
+-- 4,096 places, and four and two numbers for each of 512 requests.
 unfoldable pub output : List ℕ → List ℕ
 output file = textOf (playedOf file (replicate 4096 0) (replicate 2048 0) (replicate 1024 0))
 
@@ -25,6 +27,7 @@ output file = textOf (playedOf file (replicate 4096 0) (replicate 2048 0) (repli
 abbrev pub longest : ℕ
 longest = 64 * (4096 + 512 + 512 + 2)
 
+-- What is printed: the first `bytes` bytes of a buffer.
 pub record Put (text before after : List ℕ) (bytes : ℕ) : Type 0 where
   pub counted : bytes ≡ length text
   -- bytes beyond what is written stay

@@ -5,7 +5,7 @@ ghost use lib.ListN.{length};
 ghost use Rattle.listing.specs.Listing.{listing};
 ghost use Rattle.dock.specs.Dock.{output, longest, Put, Printable};
 
-// Writes the text of a play into `out`; answers the text's length.
+// Writes the text of a play into `out`, which has room for every text, and answers the text's length.
 fn put_text(
     played: Played,
     table: &[u32],
@@ -22,7 +22,7 @@ fn put_text(
     listed.bytes
 }
 
-// Plays a job file and writes its text, or its refusal's line, into `out`; answers the text's length.
+// Plays a job file on buffers for the largest job, and writes its text or its refusal's line into `out`.
 fn print_job(file: &[u8], out: &mut [u8]) -> usize
     requires { ⌜ longest ≤ length (now out) ⌝ }
     ensures { λ r. ⌜ Put (output (now (file .entry))) (now (out .entry)) (now (out .exit)) r ⌝ }
@@ -34,7 +34,7 @@ fn print_job(file: &[u8], out: &mut [u8]) -> usize
     put_text(played, &table, &report, &linearization, out)
 }
 
-// Reads one byte more than the longest job file has, so that a longer one is refused as too long.
+// Reads one byte more than a job file may have, so that a longer one is refused as too long.
 fn main() {
     let mut file = [0u8; 32769];
     let read = io::read_full(libc::STDIN_FILENO, &mut file);
