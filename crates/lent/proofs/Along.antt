@@ -36,14 +36,15 @@ use Rattle.turns.specs.Turns.{Roomy, countedOf, buffersOf, Turned}
 use Rattle.turns.proofs.Runs.{grants-few}
 use Rattle.turns.proofs.Counters.{small-roomy}
 use Rattle.turns.proofs.Going.{Going, going-start, going-turnable, going-next, going-end}
-use Rattle.player.specs.Player.{Left, refusedWith, cutOf, playedOf, lentRefusal, Checks, Whole}
+use Rattle.player.specs.Player.{Left, refusedWith, cutOf, playedOf, Checks, Whole}
+use Rattle.player.specs.Player.{Roomy as RoomyFor}
 use Rattle.player.specs.Demand.{LinearizedHere}
-use Rattle.player.proofs.Parts.{whole-left, cut-left, whole-startable, short-table, short-report, short-linearization}
+use Rattle.player.proofs.Refusals.{refusal, accepted-roomy}
+use Rattle.player.proofs.Parts.{whole-left, cut-left, whole-startable}
 use Rattle.player.proofs.Demand.{linearized-here}
 use Rattle.jobfile.proofs.RoundTrip.{admitted-meaning}
 use Rattle.lent.specs.declared.Plan.{Plan}
 use Rattle.lent.specs.Lent.{refusedPlan, acceptedPlan, cutLaidOf, Prepared, preparedOf, openedOf, TurnableOn, TurnedOn, closedOf, tallyLeft}
-use Rattle.lent.proofs.Prepared.{refusal, refusal-file, refusal-lent}
 
 -- ---- one turn on the lent buffers
 
@@ -72,8 +73,8 @@ module _ (file table₀ report₀ linearization₀ : List ℕ) (tally₀ : Tally
   m = 4 * counts .requests
 
   pub record Unchanged (tally : Tally) (table report linearization : List ℕ) : Type 0 where
-    pub refused : refusal file table₀ report₀ linearization₀ ≢ 0
-    pub which : counts .number ≡ refusal file table₀ report₀ linearization₀
+    pub refused : refusal file (length table₀) (length report₀) (length linearization₀) ≢ 0
+    pub which : counts .number ≡ refusal file (length table₀) (length report₀) (length linearization₀)
     pub grants : counts .grants ≡ 0
     pub same-table : table ≡ table₀
     pub same-report : report ≡ report₀
@@ -81,7 +82,7 @@ module _ (file table₀ report₀ linearization₀ : List ℕ) (tally₀ : Tally
     pub same-tally : tally ≡ tally₀
 
   pub record Lending (p : Progress) (tally : Tally) (table report linearization : List ℕ) : Type 0 where
-    pub accepted : refusal file table₀ report₀ linearization₀ ≡ 0
+    pub accepted : refusal file (length table₀) (length report₀) (length linearization₀) ≡ 0
     pub bytes : Bytes file
     pub checks : Checks file counts
     pub nodes : n ≤ length table
@@ -172,9 +173,9 @@ module _ (file table₀ report₀ linearization₀ : List ℕ) (tally₀ : Tally
     unfolding playedOf tallyLeft
     unchanged-end u d =
         record {
-          exact = rw (ne-eqb (counts .number) 0 d, ne-eqb (refusal file table₀ report₀ linearization₀) 0 (u .refused))
+          exact = rw (ne-eqb (counts .number) 0 d, ne-eqb (refusal file (length table₀) (length report₀) (length linearization₀)) 0 (u .refused))
               (λ i. record { table = u .same-table i; report = u .same-report i; linearization = u .same-linearization i; result = refusedWith (u .which i) });
-          counted = rw (ne-eqb (refusal file table₀ report₀ linearization₀) 0 (u .refused)) (u .same-tally);
+          counted = rw (ne-eqb (refusal file (length table₀) (length report₀) (length linearization₀)) 0 (u .refused)) (u .same-tally);
           linearized = rw (ne-eqb (counts .number) 0 d) (λ z. absurd (d z));
         }
 
@@ -211,8 +212,8 @@ module _ (file table₀ report₀ linearization₀ : List ℕ) (tally₀ : Tally
       unfolding playedOf tallyLeft
       lending-end e =
           record {
-            exact = rw (eq-eqb (counts .number) 0 e, eq-eqb (refusal file table₀ report₀ linearization₀) 0 (l .accepted)) ended-cut;
-            counted = rw (eq-eqb (refusal file table₀ report₀ linearization₀) 0 (l .accepted)) (ap (λ x. x .result .tally) ended-cut);
+            exact = rw (eq-eqb (counts .number) 0 e, eq-eqb (refusal file (length table₀) (length report₀) (length linearization₀)) 0 (l .accepted)) ended-cut;
+            counted = rw (eq-eqb (refusal file (length table₀) (length report₀) (length linearization₀)) 0 (l .accepted)) (ap (λ x. x .result .tally) ended-cut);
             linearized = rw (eq-eqb (counts .number) 0 e)
                 (λ z. linearized-here file (admitted-meaning file (l .bytes) (l .checks .accepted)) table₀ report₀ linearization₀ _ ended-cut);
           }
@@ -226,34 +227,11 @@ module _ (file table₀ report₀ linearization₀ : List ℕ) (tally₀ : Tally
 
 -- ---- the start
 
--- no refusal: the buffers are long enough
-module _ (j : Job) (table report linearization : ℕ) (none : lentRefusal j table report linearization ≡ 0) where
-  long-table : j .nodes ≤ table
-  long-table = by (decLt table (j .nodes))
-    where
-      by : Dec (table < j .nodes) → j .nodes ≤ table
-      by (yes l) = absurd (omega (arith, none, short-table j table report linearization l))
-      by (no l) = omega (arith, l)
-
-  long-report : 4 * length (j .requests) ≤ report
-  long-report = by (decLt report (4 * length (j .requests)))
-    where
-      by : Dec (report < 4 * length (j .requests)) → 4 * length (j .requests) ≤ report
-      by (yes l) = absurd (omega (arith, none, short-report j table report linearization long-table l))
-      by (no l) = omega (arith, l)
-
-  long-linearization : 2 * length (j .requests) ≤ linearization
-  long-linearization = by (decLt linearization (2 * length (j .requests)))
-    where
-      by : Dec (linearization < 2 * length (j .requests)) → 2 * length (j .requests) ≤ linearization
-      by (yes l) = absurd (omega (arith, none, short-linearization j table report linearization long-table long-report l))
-      by (no l) = omega (arith, l)
-
 module _ (file table₀ report₀ linearization₀ : List ℕ) (tally₀ : Tally) (table report linearization : List ℕ) (plan : Plan) (tally : Tally) (bytes : Bytes file)
     (prepared : _≡_ {A = Prepared} (record { table = table; report = report; linearization = linearization; plan = plan }) (preparedOf file table₀ report₀ linearization₀))
     (is-tally : tally ≡ openedOf tally₀ plan) where
   abbrev none : ℕ
-  none = refusal file table₀ report₀ linearization₀
+  none = refusal file (length table₀) (length report₀) (length linearization₀)
 
   -- ---- refused
 
@@ -298,21 +276,11 @@ module _ (file table₀ report₀ linearization₀ : List ℕ) (tally₀ : Tally
     rows-are : 4 * plan .counts .requests ≡ 4 * length (j .requests)
     rows-are = ap (λ c. 4 * c .requests) counts-are
 
-    file-accepted : Dec (meaning file .number ≡ 0) → meaning file .number ≡ 0
-    file-accepted (yes z) = z
-    file-accepted (no d) = absurd (d (sym (refusal-file file table₀ report₀ linearization₀ d) ∙ e))
-
-    accepted-file : meaning file .number ≡ 0
-    accepted-file = file-accepted (ℕ-discrete (meaning file .number) 0)
-
-    lent-fine : lentRefusal j (length table₀) (length report₀) (length linearization₀) ≡ 0
-    lent-fine = sym (refusal-lent file table₀ report₀ linearization₀ accepted-file) ∙ e
-
-    checked : Checks file (plan .counts)
-    checked = record { accepted = accepted-file; counts = counts-are }
+    roomy : RoomyFor file (plan .counts) (length table₀) (length report₀) (length linearization₀)
+    roomy = accepted-roomy file (length table₀) (length report₀) (length linearization₀) e (plan .counts) counts-are
 
     whole : Whole file (plan .counts) (plan .counts .nodes) (4 * plan .counts .requests) (length linearization₀)
-    whole = record { checks = checked; nodes = nodes-are; rows = rows-are; room = long-linearization j (length table₀) (length report₀) (length linearization₀) lent-fine }
+    whole = record { checks = roomy .checks; nodes = nodes-are; rows = rows-are; room = roomy .room }
 
     table-is : table ≡ map encode (fresh (plan .counts .nodes)) ++ drop (plan .counts .nodes) table₀
     table-is = ap (λ x. x .table) was-accepted ∙ ap (λ k. map encode (fresh k) ++ drop k table₀) (sym nodes-are)
@@ -326,8 +294,8 @@ module _ (file table₀ report₀ linearization₀ : List ℕ) (tally₀ : Tally
     heads-are : plan .progress .heads ≡ headsFrom (requestsIn file) 0 16
     heads-are = ap (λ x. x .plan .progress .heads) was-accepted
 
-    mask-is : plan .progress .mask ≡ maskOf (map (workFlag (plan .counts .requests)) (plan .progress .heads))
-    mask-is = ap (λ x. x .plan .progress .mask) was-accepted ∙ sym (ap₂ (λ k l. maskOf (map (workFlag k) l)) (ap (λ c. c .requests) counts-are) heads-are)
+    mask-is : plan .progress .mask ≡ maskOf (map (workFlag (length (requestsIn file))) (headsFrom (requestsIn file) 0 16))
+    mask-is = ap (λ x. x .plan .progress .mask) was-accepted
 
     progress-is : plan .progress ≡ record { heads = plan .progress .heads; entries = 0; mask = plan .progress .mask; number = 0; cursor = record { next = 0; head = 0; left = 0 }; done = plan .progress .done }
     progress-is = λ i. record {
@@ -340,7 +308,7 @@ module _ (file table₀ report₀ linearization₀ : List ℕ) (tally₀ : Tally
     }
 
     tally-is : tally ≡ record { idle = 0; failed = 0; links = 0; working = ones (plan .progress .mask) }
-    tally-is = is-tally ∙ rw (eq-eqb (plan .counts .number) 0 (ap (λ c. c .number) counts-are ∙ accepted-file)) refl
+    tally-is = is-tally ∙ rw (eq-eqb (plan .counts .number) 0 (ap (λ c. c .number) counts-are ∙ roomy .checks .accepted)) refl
 
     going : Going file (plan .counts .requests) linearization₀ (plan .progress) tally (take (plan .counts .nodes) table) (take (4 * plan .counts .requests) report) linearization₀
     going = going-start
@@ -354,9 +322,9 @@ module _ (file table₀ report₀ linearization₀ : List ℕ) (tally₀ : Tally
         record {
           accepted = e;
           bytes = bytes;
-          checks = checked;
-          nodes = omega (arith, nodes-are, table-long, long-table j (length table₀) (length report₀) (length linearization₀) lent-fine);
-          rows = omega (arith, rows-are, report-long, long-report j (length table₀) (length report₀) (length linearization₀) lent-fine);
+          checks = roomy .checks;
+          nodes = omega (arith, nodes-are, table-long, roomy .nodes);
+          rows = omega (arith, rows-are, report-long, roomy .rows);
           table-rest = ap (drop (plan .counts .nodes)) table-is ∙ drop-at (map encode (fresh (plan .counts .nodes))) (drop (plan .counts .nodes) table₀) (plan .counts .nodes) fresh-long;
           report-rest = ap (drop (4 * plan .counts .requests)) report-is
               ∙ drop-at (replicate (4 * plan .counts .requests) 0) (drop (4 * plan .counts .requests) report₀) (4 * plan .counts .requests) (length-replicate (4 * plan .counts .requests) 0);
@@ -368,7 +336,7 @@ module _ (file table₀ report₀ linearization₀ : List ℕ) (tally₀ : Tally
 
   pub refused-by : Dec (none ≡ 0) → length table ≡ length table₀ → length report ≡ length report₀ → plan .counts .number ≢ 0
       → Unchanged file table₀ report₀ linearization₀ tally₀ (plan .counts) tally table report linearization
-  refused-by (yes e) tl rl d = absurd (d (ap (λ c. c .number) (counts-are e tl rl) ∙ accepted-file e tl rl))
+  refused-by (yes e) tl rl d = absurd (d (ap (λ c. c .number) (counts-are e tl rl) ∙ roomy e tl rl .checks .accepted))
   refused-by (no d) tl rl _ = unchanged-start d
 
   pub accepted-by : Dec (none ≡ 0) → length table ≡ length table₀ → length report ≡ length report₀ → plan .counts .number ≡ 0

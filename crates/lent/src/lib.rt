@@ -1,14 +1,16 @@
 // The play on a tally that its owner lends: every grant adds to the owner's own tally.
 use job::Played;
 use job::Tally;
+use player::admission;
 use player::refused;
 use process::Head;
 use process::Stage;
 use reader::Checked;
 use start::clear_report;
-use start::first_heads;
 use start::first_mask;
+use start::first_requests;
 use start::fresh_table;
+use start::resting_heads;
 use stepper::Done;
 use turns::Cursor;
 use turns::Progress;
@@ -90,8 +92,9 @@ fn lay_out(file: &[u8], counts: Checked, table: &mut [u32], report: &mut [u32]) 
 {
     fresh_table(table);
     clear_report(report);
-    let heads = first_heads(file, counts.requests);
-    let mask = first_mask(heads, counts.requests);
+    let firsts = first_requests(file, counts.requests);
+    let heads = resting_heads(firsts);
+    let mask = first_mask(firsts, counts.requests);
     plan_of(counts, heads, mask)
 }
 
@@ -115,18 +118,9 @@ fn lay_out_cut(
 fn prepare(file: &[u8], table: &mut [u32], report: &mut [u32], linearization: &mut [u32]) -> Plan
     ensures { λ r. ⌜ (record { table = now (table .exit); report = now (report .exit); linearization = now (linearization .exit); plan = r } ≡ preparedOf (now (file .entry)) (now (table .entry)) (now (report .entry)) (now (linearization .entry))) × Bytes (now (file .entry)) ⌝ }
 {
-    let counts = reader::check(file);
+    let counts = admission(file, table.len(), report.len(), linearization.len());
     if counts.number != 0 {
         return turned_down(counts.number);
-    }
-    if table.len() < counts.nodes as usize {
-        return turned_down(14);
-    }
-    if report.len() < 4 * (counts.requests as usize) {
-        return turned_down(14);
-    }
-    if linearization.len() < 2 * (counts.requests as usize) {
-        return turned_down(14);
     }
     lay_out_cut(file, counts, table, report, linearization.len())
 }
@@ -207,8 +201,10 @@ pub fn add(tally: &mut Tally, progress: Progress)
     *tally = added(*tally, progress);
 }
 
-// Plays a job file on lent buffers and a lent tally: the tally is zeroed at an accepted start and added to at each grant.
-pub fn play_lent(
+// Plays a job file on lent buffers and a lent tally, for programs in C and Rust: the tally is zeroed at an accepted start
+// and added to at each grant.
+#[no_mangle]
+pub extern "C" fn grouping_play_lent(
     file: &[u8],
     table: &mut [u32],
     report: &mut [u32],

@@ -1,25 +1,18 @@
--- From the parts of a play to what it leaves: the start, the cut buffers, and the refusals.
-use mathlib.Core.Path.{_≡_, refl, sym, ap, ap₂, _∙_, subst₂}
-use mathlib.Core.Logic.{_≢_}
-use mathlib.Core.Bool.{true, false, cond}
+-- From the parts of a play to what it leaves: the start, and the cut buffers.
+use mathlib.Core.Path.{_≡_, sym, ap, _∙_, subst₂}
 use mathlib.Core.List.{List, [], _++_, map}
-use Prim.Native.Nat.{ℕ, _*_, _≤_, _<_}
+use Prim.Native.Nat.{ℕ, _*_, _≤_}
 use native.Mathlib.Omega.{arith}
-use lib.Dec.{eqb, ltb}
 use lib.ListN.{length, take, drop, replicate}
 use lib.Seq.{length-take-le}
-use borrow.Author.Tests.{eq-eqb, ne-eqb, lt-ltb, le-ltb}
-use Rattle.job.specs.declared.Played.{Played}
 use Rattle.job.specs.Job.{Job}
 use Rattle.word.specs.Word.{encode}
 use Rattle.process.specs.declared.Head.{Head}
-use Rattle.jobfile.specs.Format.{_then_}
 use Rattle.jobfile.specs.Meaning.{meaning}
 use Rattle.jobfile.specs.Admitted.{Admitted, Bytes}
 use Rattle.jobfile.proofs.RoundTrip.{admitted-meaning}
 use Rattle.mask.specs.Mask.{maskOf}
 use Rattle.reader.specs.declared.Checked.{Checked}
-use Rattle.reader.specs.Reader.{countsOf}
 use Rattle.rules.specs.Table.{fresh}
 use Rattle.rules.specs.State.{headsFrom}
 use Rattle.rules.proofs.Table.{length-fresh}
@@ -29,7 +22,7 @@ use Rattle.start.specs.Start.{workFlag}
 use Rattle.start.proofs.Start.{start-standing}
 use Rattle.turns.specs.declared.Ended.{Ended}
 use Rattle.turns.specs.Turns.{startOf, End, endOf, Startable}
-use Rattle.player.specs.Player.{refusedWith, lentRefusal, playRefusal, Left, wholeOf, cutOf, playedOf, Checks, Whole, Roomy}
+use Rattle.player.specs.Player.{Left, wholeOf, cutOf, Checks, Whole, Roomy}
 
 -- ---- the start
 
@@ -45,7 +38,7 @@ module _ {file : List ℕ} {checked : Checked} {n rows : ℕ} (lent : List ℕ) 
   whole-nodes = omega (arith, w .nodes, checks-admitted (w .checks) bytes .few-nodes)
 
   pub whole-startable : (heads : List Head) (mask : ℕ) (table report : List ℕ) → heads ≡ headsFrom (requestsIn file) 0 16
-      → mask ≡ maskOf (map (workFlag (checked .requests)) heads) → table ≡ map encode (fresh n) → report ≡ replicate rows 0
+      → mask ≡ maskOf (map (workFlag (length (requestsIn file))) (headsFrom (requestsIn file) 0 16)) → table ≡ map encode (fresh n) → report ≡ replicate rows 0
       → Startable file (checked .requests) (checked .grants) heads mask table report lent
   whole-startable heads mask table report is-heads is-mask is-table is-report =
       record {
@@ -58,9 +51,6 @@ module _ {file : List ℕ} {checked : Checked} {n rows : ℕ} (lent : List ℕ) 
     where
       length-table : length table ≡ meaning file .job .nodes
       length-table = ap length is-table ∙ length-mapped encode (fresh n) ∙ length-fresh 0 n ∙ w .nodes
-
-      mask-start : mask ≡ maskOf (map (workFlag (length (requestsIn file))) (headsFrom (requestsIn file) 0 16))
-      mask-start = is-mask ∙ ap₂ (λ k l. maskOf (map (workFlag k) l)) (ap (λ k. k .requests) (w .checks .counts)) is-heads
 
       shows :
           _≡_ {A = Buffers} (record { heads = heads; table = table; report = report; linearization = lent; entries = 0; mask = mask })
@@ -78,7 +68,7 @@ module _ {file : List ℕ} {checked : Checked} {n rows : ℕ} (lent : List ℕ) 
         report = (is-report ∙ ap (λ k. replicate k 0) (w .rows)) i;
         linearization = lent;
         entries = 0;
-        mask = mask-start i;
+        mask = is-mask i;
       }
 
 -- what the loop leaves, with the file's counts
@@ -135,53 +125,3 @@ roomy-whole {file} {checked} table report r =
       rows = length-take-le (4 * checked .requests) report (omega (arith, rows, r .rows)) ∙ rows;
       room = r .room;
     }
-
--- ---- refusals
-
-module _ (file table report linearization : List ℕ) where
-  abbrev unchanged : Played → Left
-  unchanged p = record { table = table; report = report; linearization = linearization; result = p }
-
-  -- the file's own refusal comes first
-  pub refused-file : (p : Played) (n : ℕ) → p ≡ refusedWith n → n ≡ meaning file .number → n ≢ 0 → unchanged p ≡ playedOf file table report linearization
-  unfolding playedOf playRefusal
-  refused-file p n is e d =
-      let own : eqb (meaning file .number) 0 ≡ false = ne-eqb (meaning file .number) 0 (λ z. d (e ∙ z)) in
-      ap unchanged (is ∙ ap refusedWith e) ∙ sym (rw (own, own) refl)
-
-  module _ (accepted : meaning file .number ≡ 0) where
-    abbrev lent : ℕ
-    lent = lentRefusal (meaning file .job) (length table) (length report) (length linearization)
-
-    refusal-lent : playRefusal file (length table) (length report) (length linearization) ≡ lent
-    unfolding playRefusal
-    refusal-lent = rw (eq-eqb (meaning file .number) 0 accepted)
-
-    pub refused-lent : (p : Played) → p ≡ refusedWith 14 → lent ≡ 14 → unchanged p ≡ playedOf file table report linearization
-    unfolding playedOf
-    refused-lent p is e = ap unchanged is ∙ sym (rw (refusal-lent, e) refl)
-
-    pub accepted-left : lent ≡ 0 → cutOf (meaning file .job) table report linearization ≡ playedOf file table report linearization
-    unfolding playedOf
-    accepted-left e = rw (refusal-lent, e)
-
--- ---- the lent buffers, in their order
-
-module _ (j : Job) (table report linearization : ℕ) where
-  pub short-table : table < j .nodes → lentRefusal j table report linearization ≡ 14
-  unfolding lentRefusal
-  short-table l = rw (lt-ltb table (j .nodes) l)
-
-  module _ (long : j .nodes ≤ table) where
-    pub short-report : report < 4 * length (j .requests) → lentRefusal j table report linearization ≡ 14
-    unfolding lentRefusal
-    short-report l = rw (le-ltb table (j .nodes) long, lt-ltb report (4 * length (j .requests)) l)
-
-    module _ (rows : 4 * length (j .requests) ≤ report) where
-      pub short-linearization : linearization < 2 * length (j .requests) → lentRefusal j table report linearization ≡ 14
-      unfolding lentRefusal
-      short-linearization l = rw (le-ltb table (j .nodes) long, le-ltb report (4 * length (j .requests)) rows, lt-ltb linearization (2 * length (j .requests)) l)
-
-      pub long-enough : 2 * length (j .requests) ≤ linearization → lentRefusal j table report linearization ≡ 0
-      unfolding lentRefusal
-      long-enough l = rw (le-ltb table (j .nodes) long, le-ltb report (4 * length (j .requests)) rows, le-ltb linearization (2 * length (j .requests)) l)

@@ -4,6 +4,7 @@
 --   acceptedWith j S    the answer of a play of the job j that ends in the state S
 --   lentRefusal j t r l the refusal of lent buffers of these lengths, 0 for none
 --   playRefusal         the refusal of a play
+--   admissionOf         what is known before anything is written
 --   Left, playedOf      the buffers and the answer
 use mathlib.Core.Path.{_≡_}
 use mathlib.Core.Bool.{cond}
@@ -16,7 +17,7 @@ use Rattle.job.specs.Job.{Job}
 use Rattle.word.specs.Word.{encode}
 use Rattle.linearization.specs.Entry.{flat}
 use Rattle.jobfile.specs.Format.{_then_}
-use Rattle.jobfile.specs.Meaning.{meaning}
+use Rattle.jobfile.specs.Meaning.{refused, meaning}
 use Rattle.jobfile.specs.Admitted.{Bytes}
 use Rattle.reader.specs.declared.Checked.{Checked}
 use Rattle.reader.specs.Reader.{countsOf}
@@ -59,6 +60,12 @@ lentRefusal j table report linearization =
 -- The file is checked first, then the lent buffers.
 unfoldable pub playRefusal : List ℕ → ℕ → ℕ → ℕ → ℕ
 playRefusal file table report linearization = meaning file .number then lentRefusal (meaning file .job) table report linearization
+
+-- Everything is checked before anything is written: the counts of an accepted job, or a refusal's number and zeros.
+unfoldable pub admissionOf : List ℕ → ℕ → ℕ → ℕ → Checked
+admissionOf file table report linearization =
+    let number = playRefusal file table report linearization in
+    cond (eqb number 0) (countsOf (meaning file)) (countsOf (refused number))
 
 pub record Left : Type 0 where
   pub table : List ℕ

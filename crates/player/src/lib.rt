@@ -3,14 +3,15 @@ use job::Played;
 use job::Tally;
 use reader::Checked;
 use start::clear_report;
-use start::first_heads;
 use start::first_mask;
+use start::first_requests;
 use start::fresh_table;
+use start::resting_heads;
 use turns::play_grants;
 ghost use mathlib.Core.Path.{_≡_};
 ghost use lib.ListN.{length};
 ghost use Rattle.jobfile.specs.Meaning.{meaning};
-ghost use Rattle.player.specs.Player.{refusedWith, Whole, wholeOf, Roomy, cutOf, playedOf};
+ghost use Rattle.player.specs.Player.{refusedWith, Whole, wholeOf, Roomy, cutOf, admissionOf, playedOf};
 ghost use Rattle.player.specs.Demand.{LinearizedHere};
 
 // A refusal: its number, and zero for every count.
@@ -46,8 +47,9 @@ fn play_whole(
 {
     fresh_table(table);
     clear_report(report);
-    let heads = first_heads(file, checked.requests);
-    let mask = first_mask(heads, checked.requests);
+    let firsts = first_requests(file, checked.requests);
+    let heads = resting_heads(firsts);
+    let mask = first_mask(firsts, checked.requests);
     let end = play_grants(
         file,
         checked.requests,
@@ -92,23 +94,35 @@ fn play_cut(
     )
 }
 
-// Plays a job file: any bytes, on any lent buffers. Everything is checked before anything is written.
+// What is known of a job file and of lent buffers of these lengths before anything is written: the counts of the job, or
+// the refusal's number and zeros. The file is checked first, then the buffers in their order.
+pub fn admission(file: &[u8], table: usize, report: usize, linearization: usize) -> Checked
+    ensures { λ r. ⌜ r ≡ admissionOf (now (file .entry)) table report linearization ⌝ }
+{
+    let checked = reader::check(file);
+    if checked.number != 0 {
+        return reader::refuse(checked.number);
+    }
+    if table < checked.nodes as usize {
+        return reader::refuse(14);
+    }
+    if report < 4 * (checked.requests as usize) {
+        return reader::refuse(14);
+    }
+    if linearization < 2 * (checked.requests as usize) {
+        return reader::refuse(14);
+    }
+    checked
+}
+
+// Plays a job file: any bytes, on any lent buffers.
 pub fn play(file: &[u8], table: &mut [u32], report: &mut [u32], linearization: &mut [u32]) -> Played
     ensures exact { λ r. ⌜ record { table = now (table .exit); report = now (report .exit); linearization = now (linearization .exit); result = r } ≡ playedOf (now (file .entry)) (now (table .entry)) (now (report .entry)) (now (linearization .entry)) ⌝ }
     ensures linearized { λ r. ⌜ (r .number ≡ 0 → LinearizedHere (now (file .entry)) r (now (table .exit)) (now (report .exit)) (now (linearization .exit))) ⌝ }
 {
-    let checked = reader::check(file);
+    let checked = admission(file, table.len(), report.len(), linearization.len());
     if checked.number != 0 {
         return refused(checked.number);
-    }
-    if table.len() < checked.nodes as usize {
-        return refused(14);
-    }
-    if report.len() < 4 * (checked.requests as usize) {
-        return refused(14);
-    }
-    if linearization.len() < 2 * (checked.requests as usize) {
-        return refused(14);
     }
     play_cut(file, checked, table, report, linearization)
 }

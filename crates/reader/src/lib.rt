@@ -33,7 +33,7 @@ pub struct Checked {
 }
 
 // The answer of a refusal.
-fn refuse(number: u32) -> Checked
+pub fn refuse(number: u32) -> Checked
     ensures { λ r. ⌜ r ≡ countsOf (refused number) ⌝ }
 {
     Checked {

@@ -1,8 +1,9 @@
 -- What the loops of the code keep: a list is filled from the front, and a mask is built from its last flag.
 --
 --   Filled d value n i l            of the n places of l, those before i have their values
---   Gathered requests heads h mask  the mask has a bit for each head from h on
+--   Gathered flag numbers h mask    the mask has the flags of the numbers from place h on
 use mathlib.Core.Path.{_≡_, sym, ap, _∙_}
+use mathlib.Core.Bool.{Bool}
 use mathlib.Core.List.{List, map}
 use Prim.Native.Nat.{ℕ, zero, suc, _+_, _*_, _-_, _^_, _≤_, _<_}
 use native.Mathlib.Omega.{arith}
@@ -10,11 +11,8 @@ use native.Mathlib.Decide.{ℕ-discrete}
 use lib.ListN.{length, getD, set, drop, length-set, length-drop, length-map, drop-of-length-le}
 use lib.Pow.{pow-mono}
 use lib.Seq.{drop-cons, getD-set-same, getD-set-other, ext-getD}
-use Rattle.process.specs.declared.Head.{Head}
 use Rattle.mask.specs.Mask.{bitOf, maskOf}
 use Rattle.mask.proofs.Laws.{mask-none, mask-more, mask-bound}
-use Rattle.rules.specs.State.{resting}
-use Rattle.start.specs.Start.{workFlag}
 
 pub record Filled {A : Type 0} (d : A) (value : ℕ → A) (n i : ℕ) (l : List A) : Type 0 where
   pub size : length l ≡ n
@@ -40,43 +38,43 @@ module _ {A : Type 0} (d : A) (value : ℕ → A) (n : ℕ) (l : List A) where
       ext-getD d l target (done .size ∙ sym size)
       (λ j h. done .filled j (omega (arith, done .size)) ∙ sym (same j (omega (arith, done .size))))
 
--- ---- the mask of the heads from h on
+-- ---- the mask of the flags from h on
 
-pub record Gathered (requests : ℕ) (heads : List Head) (h mask : ℕ) : Type 0 where
-  pub within : h ≤ length heads
-  pub same : mask ≡ maskOf (map (workFlag requests) (drop h heads))
+pub record Gathered (flag : ℕ → Bool) (numbers : List ℕ) (h mask : ℕ) : Type 0 where
+  pub within : h ≤ length numbers
+  pub same : mask ≡ maskOf (map flag (drop h numbers))
 
-module _ (requests : ℕ) (heads : List Head) where
-  pub gathered-none : (h : ℕ) → length heads ≡ h → Gathered requests heads h 0
+module _ (flag : ℕ → Bool) (numbers : List ℕ) where
+  pub gathered-none : (h : ℕ) → length numbers ≡ h → Gathered flag numbers h 0
   gathered-none h size =
       record {
         within = omega arith;
-        same = sym (ap (λ l. maskOf (map (workFlag requests) l)) (drop-of-length-le heads {i = h} (omega arith)) ∙ mask-none);
+        same = sym (ap (λ l. maskOf (map flag l)) (drop-of-length-le numbers {i = h} (omega arith)) ∙ mask-none);
       }
 
-  -- the mask of sixteen heads leaves room for a flag more
-  pub gathered-small : (h mask : ℕ) → length heads ≤ 16 → Gathered requests heads h mask → mask < 2 ^ 31
+  -- the mask of sixteen flags leaves room for a flag more
+  pub gathered-small : (h mask : ℕ) → length numbers ≤ 16 → Gathered flag numbers h mask → mask < 2 ^ 31
   gathered-small h mask few before =
-      let flags = map (workFlag requests) (drop h heads) in
-      let size : length flags ≤ 16 = omega (arith, length-map (drop h heads) (workFlag requests), length-drop h heads) in
+      let flags = map flag (drop h numbers) in
+      let size : length flags ≤ 16 = omega (arith, length-map (drop h numbers) flag, length-drop h numbers) in
       omega (arith, before .same, mask-bound flags, pow-mono size)
 
-  -- one head more, below the others
-  pub gathered-on : (h mask : ℕ) → 0 < h → Gathered requests heads h mask
-      → Gathered requests heads (h - 1) (2 * mask + bitOf (workFlag requests (getD heads (h - 1) (resting 0))))
+  -- one flag more, below the others
+  pub gathered-on : (h mask : ℕ) → 0 < h → Gathered flag numbers h mask
+      → Gathered flag numbers (h - 1) (2 * mask + bitOf (flag (getD numbers (h - 1) 0)))
   gathered-on zero mask positive before = absurd (omega arith)
   gathered-on (suc h) mask positive before =
       let down : suc h - 1 ≡ h = omega arith in
-      let flag = workFlag requests (getD heads h (resting 0)) in
+      let next = flag (getD numbers h 0) in
       rw down
       (record {
         within = omega (arith, before .within);
         same =
-            ap (λ m. 2 * m + bitOf flag) (before .same)
-            ∙ sym (ap (λ l. maskOf (map (workFlag requests) l)) (drop-cons heads h (resting 0) (omega (arith, before .within)))
-            ∙ mask-more flag (map (workFlag requests) (drop (suc h) heads)));
+            ap (λ m. 2 * m + bitOf next) (before .same)
+            ∙ sym (ap (λ l. maskOf (map flag l)) (drop-cons numbers h 0 (omega (arith, before .within)))
+            ∙ mask-more next (map flag (drop (suc h) numbers)));
       })
 
-  pub gathered-all : (h mask : ℕ) → h ≤ 0 → Gathered requests heads h mask → mask ≡ maskOf (map (workFlag requests) heads)
+  pub gathered-all : (h mask : ℕ) → h ≤ 0 → Gathered flag numbers h mask → mask ≡ maskOf (map flag numbers)
   gathered-all zero mask none-left all = all .same
   gathered-all (suc h) mask none-left all = absurd (omega arith)

@@ -1,12 +1,13 @@
 -- What stands before the first grant is the start of the rules, shown on the lent buffers.
 --
---   firstNode i      the node i at the start
---   firstWord i      its word
---   firstHead qs h   the head h at the start
+--   firstNode i         the node i at the start
+--   firstWord i         its word
+--   firstRequest qs h   the first request of head h
 --
--- Main laws: fresh-word and first-head, each place of the table and of the heads; start-rows, the report's zeros are
--- rows; start-standing, the buffers show the start.
-use mathlib.Core.Path.{_≡_, refl, sym, ap, _∙_, subst}
+-- Main laws: fresh-word and first-request, each place of the table and of the first requests; first-heads and
+-- first-flags, the heads and their flags; start-rows, the report's zeros are rows; start-standing, the buffers show the
+-- start.
+use mathlib.Core.Path.{_≡_, refl, sym, ap, ap₂, _∙_, subst}
 use mathlib.Core.List.{List, [], _∷_, map}
 use Prim.Native.Nat.{ℕ, zero, suc, _+_, _*_, _≤_, _<_}
 use native.Mathlib.Omega.{arith}
@@ -27,7 +28,7 @@ use Rattle.rules.proofs.Theorem.{length-heads, start-invariant, fresh-startable
 use Rattle.stepper.specs.Buffers.{flatRows}
 use Rattle.stepper.specs.Shown.{Standing}
 use Rattle.stepper.proofs.Lists.{getD-mapped}
-use Rattle.start.specs.Start.{workFlag}
+use Rattle.start.specs.Start.{firstRequests, isRequest, workFlag}
 
 -- ---- the table
 
@@ -54,18 +55,41 @@ fresh-word n i l =
 
 -- ---- the heads
 
-abbrev pub firstHead : List Request → ℕ → Head
-firstHead qs h = resting (seek qs h 0)
+abbrev pub firstRequest : List Request → ℕ → ℕ
+firstRequest qs h = seek qs h 0
 
-heads-at : (qs : List Request) (h m k : ℕ) → k < m → getD (headsFrom qs h m) k (resting 0) ≡ firstHead qs (h + k)
-heads-at qs h zero k l = absurd (omega arith)
-heads-at qs h (suc m) zero l = let same : h ≡ h + 0 = omega arith in ap (firstHead qs) same
-heads-at qs h (suc m) (suc k) l =
+pub length-first-requests : (qs : List Request) (h m : ℕ) → length (firstRequests qs h m) ≡ m
+length-first-requests qs h zero = refl
+length-first-requests qs h (suc m) = ap suc (length-first-requests qs (suc h) m)
+
+requests-at : (qs : List Request) (h m k : ℕ) → k < m → getD (firstRequests qs h m) k 0 ≡ firstRequest qs (h + k)
+requests-at qs h zero k l = absurd (omega arith)
+requests-at qs h (suc m) zero l = let same : h ≡ h + 0 = omega arith in ap (firstRequest qs) same
+requests-at qs h (suc m) (suc k) l =
     let same : suc h + k ≡ h + suc k = omega arith in
-    heads-at qs (suc h) m k (omega arith) ∙ ap (firstHead qs) same
+    requests-at qs (suc h) m k (omega arith) ∙ ap (firstRequest qs) same
 
-pub first-head : (qs : List Request) (m h : ℕ) → h < m → getD (headsFrom qs 0 m) h (resting 0) ≡ firstHead qs h
-first-head qs m h l = let same : 0 + h ≡ h = omega arith in heads-at qs 0 m h l ∙ ap (firstHead qs) same
+pub first-request : (qs : List Request) (m h : ℕ) → h < m → getD (firstRequests qs 0 m) h 0 ≡ firstRequest qs h
+first-request qs m h l = let same : 0 + h ≡ h = omega arith in requests-at qs 0 m h l ∙ ap (firstRequest qs) same
+
+resting-first : (qs : List Request) (h m : ℕ) → map resting (firstRequests qs h m) ≡ headsFrom qs h m
+resting-first qs h zero = refl
+resting-first qs h (suc m) = ap (λ l. resting (firstRequest qs h) ∷ l) (resting-first qs (suc h) m)
+
+-- a head has work exactly if it has a first request
+flags-first : (k : ℕ) (qs : List Request) (h m : ℕ) → map (isRequest k) (firstRequests qs h m) ≡ map (workFlag k) (headsFrom qs h m)
+flags-first k qs h zero = refl
+flags-first k qs h (suc m) = ap (λ l. isRequest k (firstRequest qs h) ∷ l) (flags-first k qs (suc h) m)
+
+-- the heads that rest before the first requests are the heads of the start, and their flags are those of the mask
+module _ (qs : List Request) (firsts : List ℕ) where
+  pub first-heads : (heads : List Head) → firsts ≡ firstRequests qs 0 16 → heads ≡ map resting firsts → heads ≡ headsFrom qs 0 16
+  first-heads heads are-first are = are ∙ ap (map resting) are-first ∙ resting-first qs 0 16
+
+  pub first-flags : (mask : ℕ) {requests : ℕ} → firsts ≡ firstRequests qs 0 16 → requests ≡ length qs → mask ≡ maskOf (map (isRequest requests) firsts)
+      → mask ≡ maskOf (map (workFlag (length qs)) (headsFrom qs 0 16))
+  first-flags mask are-first count are =
+      are ∙ ap₂ (λ k l. maskOf (map (isRequest k) l)) count are-first ∙ ap maskOf (flags-first (length qs) qs 0 16)
 
 -- ---- the report
 

@@ -1,2 +1,2 @@
--- The test that a bit of the first work mask stands for.
+-- What stands before the first grant.
 pub mod Start

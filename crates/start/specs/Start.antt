@@ -1,11 +1,24 @@
--- Document 01, "One grant, one word": the heads with work left, before the first grant.
+-- Document 01, "One grant, one word": what stands before the first grant, by the numbers of the heads' first requests.
 --
+--   firstRequests qs h m     the first request of each of the m heads from h on
+--   isRequest requests q     q is the number of a request, of that many
 --   workFlag requests head   the head has a request left, of that many
 use mathlib.Core.Bool.{Bool}
-use Prim.Native.Nat.{ℕ}
+use mathlib.Core.List.{List, [], _∷_}
+use Prim.Native.Nat.{ℕ, zero, suc}
 use lib.Dec.{ltb}
+use Rattle.job.specs.declared.Request.{Request}
 use Rattle.process.specs.declared.Head.{Head}
+use Rattle.rules.specs.State.{seek}
+
+-- Every head rests before its first request; one that has none stands at the number of requests.
+abbrev pub firstRequests : List Request → ℕ → ℕ → List ℕ
+firstRequests qs h zero = []
+firstRequests qs h (suc m) = seek qs h 0 ∷ firstRequests qs (suc h) m
+
+abbrev pub isRequest : ℕ → ℕ → Bool
+isRequest requests q = ltb q requests
 
 -- The heads with work left are kept as a bit mask: one flag a head.
 abbrev pub workFlag : ℕ → Head → Bool
-workFlag requests head = ltb (head .request) requests
+workFlag requests head = isRequest requests (head .request)

@@ -10,9 +10,9 @@ ghost use lib.ListN.{length, replicate};
 ghost use Rattle.word.specs.Word.{encode, nodeLimit};
 ghost use Rattle.mask.specs.Mask.{maskOf};
 ghost use Rattle.rules.specs.Table.{fresh};
-ghost use Rattle.rules.specs.State.{headsFrom};
+ghost use Rattle.rules.specs.State.{resting};
 ghost use Rattle.stepper.specs.Shown.{requestsIn, Playing};
-ghost use Rattle.start.specs.Start.{workFlag};
+ghost use Rattle.start.specs.Start.{firstRequests, isRequest};
 
 // Each node its own parent, rank 0.
 pub fn fresh_table(table: &mut [u32])
@@ -40,10 +40,24 @@ pub fn clear_report(report: &mut [u32])
     }
 }
 
-// Every head resting before its first request.
-pub fn first_heads(file: &[u8], requests: u32) -> [Head; 16]
+// The first request of each head, or the number of requests where it has none.
+pub fn first_requests(file: &[u8], requests: u32) -> [u16; 16]
     requires { ⌜ Playing (now file) requests ⌝ }
-    ensures { λ r. ⌜ r ≡ headsFrom (requestsIn (now (file .entry))) 0 16 ⌝ }
+    ensures { λ r. ⌜ r ≡ firstRequests (requestsIn (now (file .entry))) 0 16 ⌝ }
+{
+    let mut firsts = [0u16; 16];
+    let mut h: u32 = 0;
+    while h < 16 {
+        firsts[h as usize] = next_request(file, requests, h, 0) as u16;
+        h += 1;
+    }
+    firsts
+}
+
+// Every head resting before its first request. The loop does nothing but store whole heads: the compiler then keeps the
+// array in registers' pieces, and a grant copies it twice as fast (docs/DECISIONS.md, "Heads by value").
+pub fn resting_heads(firsts: [u16; 16]) -> [Head; 16]
+    ensures { λ r. ⌜ r ≡ map resting firsts ⌝ }
 {
     let first = Head {
         stage: Stage::Resting,
@@ -52,11 +66,10 @@ pub fn first_heads(file: &[u8], requests: u32) -> [Head; 16]
         request: 0,
     };
     let mut heads = [first; 16];
-    let mut h: u32 = 0;
+    let mut h: usize = 0;
     while h < 16 {
-        let next = next_request(file, requests, h, 0);
-        heads[h as usize] = Head {
-            request: next as u16,
+        heads[h] = Head {
+            request: firsts[h],
             ..first
         };
         h += 1;
@@ -64,16 +77,15 @@ pub fn first_heads(file: &[u8], requests: u32) -> [Head; 16]
     heads
 }
 
-// The work mask of the heads: a bit for each that has a request left.
-pub fn first_mask(heads: [Head; 16], requests: u32) -> u32
-    ensures { λ r. ⌜ r ≡ maskOf (map (workFlag requests) heads) ⌝ }
+// The work mask of the heads: a bit for each that has a first request.
+pub fn first_mask(firsts: [u16; 16], requests: u32) -> u32
+    ensures { λ r. ⌜ r ≡ maskOf (map (isRequest requests) firsts) ⌝ }
 {
     let mut mask: u32 = 0;
     let mut h: usize = 16;
     while 0 < h {
         h -= 1;
-        let head = heads[h];
-        mask = mask::pushed(mask, (head.request as u32) < requests);
+        mask = mask::pushed(mask, (firsts[h] as u32) < requests);
     }
     mask
 }

@@ -1,10 +1,10 @@
 -- `lent::lay_out`: the table's start, the report's zeros, and every head before its first request.
 use native.Mathlib.Omega.{arith}
+use borrow.Author.Needs.{needs}
 use lib.ListN.{length}
 use Rattle.jobfile.specs.Admitted.{Bytes}
 use Rattle.player.proofs.Parts.{checks-admitted, checks-playing}
 use Rattle.lent.proofs.Prepared.{laid}
-use borrow.Author.Needs.{needs}
 use Rattle.lent.proofs.lay_out.Statement.{statement}
 use Rattle.lent.proofs.lay_out.Tie as tie
 
@@ -17,11 +17,14 @@ fresh-table-requires c κs =
 clear-report-requires : tie.Need-clear-report-requires
 clear-report-requires c κs = search needs
 
-first-heads-requires : tie.Need-first-heads-requires
-first-heads-requires c κs =
+first-requests-requires : tie.Need-first-requests-requires
+first-requests-requires c κs =
     let k = c .before .before .before .before .before .before .before .before .before .before .before in
     let bytes : Bytes (k .args .file .now) = λ i. omega (arith, c .before .before .before .before .before .before .before .before .before .before .shared-slice-known .given i) in
     checks-playing (k .pre .0) bytes
+
+resting-heads-requires : tie.Need-resting-heads-requires
+resting-heads-requires c κs = search needs
 
 first-mask-requires : tie.Need-first-mask-requires
 first-mask-requires c κs = search needs
@@ -37,9 +40,10 @@ same-length-2 c = search needs
 
 returns : tie.Need-returns
 returns c =
-    let k = c .before .before .before .before .before .before .before .before .before .before .before .before .before .before in
-    laid (k .pre .0) (c .before .before .first-heads .result) (c .before .first-mask .result) (length (k .args .table .now)) (length (k .args .report .now)) _ _ (c .plan-of .result) (c .before .before .first-heads .ensures) (c .before .first-mask .ensures) (k .pre .1)
-    (c .before .before .before .before .before .before .before .before .before .fresh-table .ensures) (c .before .before .before .before .before .clear-report .ensures) (c .plan-of .ensures)
+    let k = c .before .before .before .before .before .before .before .before .before .before .before .before .before .before .before in
+    laid (k .pre .0) (c .before .before .before .first-requests .result) (c .before .before .resting-heads .result) (c .before .first-mask .result) (length (k .args .table .now)) (length (k .args .report .now)) _ _ (c .plan-of .result)
+    (c .before .before .before .first-requests .ensures) (c .before .before .resting-heads .ensures) (c .before .first-mask .ensures) (k .pre .1)
+    (c .before .before .before .before .before .before .before .before .before .before .fresh-table .ensures) (c .before .before .before .before .before .before .clear-report .ensures) (c .plan-of .ensures)
 
 pub lay-out-spec : {M : Type 1} → statement M
 lay-out-spec =
@@ -47,7 +51,8 @@ lay-out-spec =
     (tie.spec
     fresh-table-requires
     clear-report-requires
-    first-heads-requires
+    first-requests-requires
+    resting-heads-requires
     first-mask-requires
     plan-of-requires
     same-length

@@ -1,8 +1,10 @@
 -- `player::play_whole`: the start is laid out, and the loop leaves what the rules' run leaves.
+use mathlib.Core.Path.{ap}
 use native.Mathlib.Omega.{arith}
-use Rattle.jobfile.specs.Admitted.{Bytes}
-use Rattle.player.proofs.Parts.{checks-playing, whole-nodes, whole-startable, whole-left}
 use borrow.Author.Needs.{needs}
+use Rattle.jobfile.specs.Admitted.{Bytes}
+use Rattle.start.proofs.Start.{first-heads, first-flags}
+use Rattle.player.proofs.Parts.{checks-playing, whole-nodes, whole-startable, whole-left}
 use Rattle.player.proofs.play_whole.Statement.{statement}
 use Rattle.player.proofs.play_whole.Tie as tie
 
@@ -15,20 +17,26 @@ fresh-table-requires c κs =
 clear-report-requires : tie.Need-clear-report-requires
 clear-report-requires c κs = search needs
 
-first-heads-requires : tie.Need-first-heads-requires
-first-heads-requires c κs =
+first-requests-requires : tie.Need-first-requests-requires
+first-requests-requires c κs =
     let k = c .before .before .before .before .before .before .before .before .before .before .before .before in
     let bytes : Bytes (k .args .file .now) = λ i. omega (arith, c .before .before .before .before .before .before .before .before .before .before .before .shared-slice-known .given i) in
     checks-playing (k .pre .checks) bytes
+
+resting-heads-requires : tie.Need-resting-heads-requires
+resting-heads-requires c κs = search needs
 
 first-mask-requires : tie.Need-first-mask-requires
 first-mask-requires c κs = search needs
 
 play-grants-requires : tie.Need-play-grants-requires
 play-grants-requires c κs =
-    let k = c .before .before .before .before .before .before .before .before .before .before .before .before .before .before .before .before .before in
-    let bytes : Bytes (k .args .file .now) = λ i. omega (arith, c .before .before .before .before .before .before .before .before .before .before .before .before .before .before .before .before .shared-slice-known .given i) in
-    whole-startable (k .args .linearization .now) (k .pre) bytes (c .before .before .before .before .first-heads .result) (c .before .before .before .first-mask .result) _ _ (c .before .before .before .before .first-heads .ensures) (c .before .before .before .first-mask .ensures) (c .before .before .before .before .before .before .before .before .before .before .before .fresh-table .ensures) (c .before .before .before .before .before .before .before .clear-report .ensures)
+    let k = c .before .before .before .before .before .before .before .before .before .before .before .before .before .before .before .before .before .before in
+    let bytes : Bytes (k .args .file .now) = λ i. omega (arith, c .before .before .before .before .before .before .before .before .before .before .before .before .before .before .before .before .before .shared-slice-known .given i) in
+    let firsts = c .before .before .before .before .before .first-requests .ensures in
+    whole-startable (k .args .linearization .now) (k .pre) bytes (c .before .before .before .before .resting-heads .result) (c .before .before .before .first-mask .result) _ _
+    (first-heads _ _ _ firsts (c .before .before .before .before .resting-heads .ensures)) (first-flags _ _ _ firsts (ap (λ n. n .requests) (k .pre .checks .counts)) (c .before .before .before .first-mask .ensures))
+    (c .before .before .before .before .before .before .before .before .before .before .before .before .fresh-table .ensures) (c .before .before .before .before .before .before .before .before .clear-report .ensures)
 
 same-length : tie.Need-same-length
 same-length c = search needs
@@ -40,7 +48,9 @@ same-length-3 : tie.Need-same-length-3
 same-length-3 c = search needs
 
 returns : tie.Need-returns
-returns c = let k = c .before .before .before .before .before .before .before .before .before .before .before .before .before .before .before .before .before .before .before .before .before .before .before .before .before in whole-left (k .pre .checks) (k .args .linearization .now) _ _ _ (c .before .before .before .before .before .before .before .play-grants .result) (c .before .before .before .before .before .before .before .play-grants .ensures)
+returns c =
+    let k = c .before .before .before .before .before .before .before .before .before .before .before .before .before .before .before .before .before .before .before .before .before .before .before .before .before .before in
+    whole-left (k .pre .checks) (k .args .linearization .now) _ _ _ (c .before .before .before .before .before .before .before .play-grants .result) (c .before .before .before .before .before .before .before .play-grants .ensures)
 
 pub play-whole-spec : {M : Type 1} → statement M
 play-whole-spec =
@@ -48,7 +58,8 @@ play-whole-spec =
     (tie.spec
     fresh-table-requires
     clear-report-requires
-    first-heads-requires
+    first-requests-requires
+    resting-heads-requires
     first-mask-requires
     play-grants-requires
     same-length

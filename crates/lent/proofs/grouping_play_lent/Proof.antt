@@ -1,4 +1,4 @@
--- `lent::play_lent` meets its contract: a walk of its MIR, by hand, with one loop and no branch. All that it knows of its callees is that each meets its contract.
+-- `lent::grouping_play_lent` meets its contract: a walk of its MIR, by hand, with one loop and no branch. All that it knows of its callees is that each meets its contract.
 -- The three slices are lent on for each call and come back; the tally's borrow is opened to read and to store it, and lent on to `add` at each grant.
 --
 --   FileHeld, TableHeld, .., TallyHeld   what is owned of a parameter: a slice at a list, the tally at a value
@@ -99,11 +99,11 @@ use Rattle.lent.proofs.closed as closed
 use Rattle.lent.proofs.closed.Symbol as closed-def
 use Rattle.lent.proofs.closed.Symbol.{name as #lent·closed}
 use Rattle.lent.proofs.closed.Met as closed-thm
-use Rattle.lent.proofs.play_lent.Key.{name as #lent·play-lent}
-use Rattle.lent.proofs.play_lent as f
-use Rattle.lent.proofs.play_lent.Statement as stated
-use Rattle.lent.proofs.play_lent.Code as code
-use Rattle.lent.proofs.play_lent.Code.Mir as mir-of
+use Rattle.lent.proofs.grouping_play_lent.Key.{name as #lent·grouping-play-lent}
+use Rattle.lent.proofs.grouping_play_lent as f
+use Rattle.lent.proofs.grouping_play_lent.Statement as stated
+use Rattle.lent.proofs.grouping_play_lent.Code as code
+use Rattle.lent.proofs.grouping_play_lent.Code.Mir as mir-of
 
 abbrev stayed : Stays (f.ended .signature .params) (f.ended .kept)
 stayed = (stay-none-slice (0 ∷ []) tt (plain (λ _. u8)) yes, (stay-slice (1 ∷ []) tt (plain (λ _. u32)), (stay-slice (2 ∷ []) tt (plain (λ _. u32)), (stay-slice (3 ∷ []) tt (plain (λ _. u32)), (stay-ref (4 ∷ []) tt (plain (λ _. tally-type.the-row)), tt)))))
@@ -627,9 +627,9 @@ module _ {M : Type 1} (𝓤 : URA M) (H : Heap 𝓤) (A : Atoms 𝓤) (W : Given
       preparing 𝓣 known-prepare known-opened known-turn-on known-add known-closed (λ k. getD (l0 ∷ l1 ∷ l2 ∷ l3 ∷ l4 ∷ l5 ∷ l6 ∷ l7 ∷ l8 ∷ l9 ∷ l10 ∷ l11 ∷ l12 ∷ l13 ∷ l14 ∷ l15 ∷ l16 ∷ l17 ∷ l18 ∷ l19 ∷ l20 ∷ l21 ∷ l22 ∷ l23 ∷ l24 ∷ l25 ∷ []) k 0)))))))))))))))))))))))))))
 
 module _ {M : Type 1} (𝓤 : URA M) (H : Heap 𝓤) (A : Atoms 𝓤) (W : Given 𝓤 H A) (at-mem : Memory → SProp 𝓤) (run : Routine → Fun 𝓤) where
-  play-lent-walks : (𝓣 : Tables 𝓤 H) → Triple 𝓤 (𝓣 .C #lent·prepare) (Prepare 𝓤 H A at-mem run) → Triple 𝓤 (𝓣 .C #lent·opened) (Opened 𝓤 H A at-mem run) → Triple 𝓤 (𝓣 .C #lent·turn-on) (TurnOn 𝓤 H A at-mem run) → Triple 𝓤 (𝓣 .C #lent·add) (Add 𝓤 H A at-mem run) → Triple 𝓤 (𝓣 .C #lent·closed) (Closed 𝓤 H A at-mem run)
+  grouping-play-lent-walks : (𝓣 : Tables 𝓤 H) → Triple 𝓤 (𝓣 .C #lent·prepare) (Prepare 𝓤 H A at-mem run) → Triple 𝓤 (𝓣 .C #lent·opened) (Opened 𝓤 H A at-mem run) → Triple 𝓤 (𝓣 .C #lent·turn-on) (TurnOn 𝓤 H A at-mem run) → Triple 𝓤 (𝓣 .C #lent·add) (Add 𝓤 H A at-mem run) → Triple 𝓤 (𝓣 .C #lent·closed) (Closed 𝓤 H A at-mem run)
       → Walks 𝓤 H A f.ended stayed (WpFn 𝓤 H (𝓣 .C) (𝓣 .Λ) code.function) (f.clauses 𝓤 H A at-mem run)
-  play-lent-walks 𝓣 known-prepare known-opened known-turn-on known-add known-closed = walked 𝓤 H A f.ended stayed (f.clauses 𝓤 H A at-mem run) (WpFn 𝓤 H (𝓣 .C) (𝓣 .Λ) code.function)
+  grouping-play-lent-walks 𝓣 known-prepare known-opened known-turn-on known-add known-closed = walked 𝓤 H A f.ended stayed (f.clauses 𝓤 H A at-mem run) (WpFn 𝓤 H (𝓣 .C) (𝓣 .Λ) code.function)
       (λ κs. (slice-vals, (slice-vals, (slice-vals, (slice-vals, (ptr-vals, tt))))))
       (λ κs. (shr-slice-tells (named 0) (κs .0) u8, (mut-slice-tells (named 1) (κs .1 .0) u32, (mut-slice-tells (named 2) (κs .1 .1 .0) u32, (mut-slice-tells (named 3) (κs .1 .1 .1 .0) u32, (mut-tells (named 4) (κs .1 .1 .1 .1 .0) tally-type.the-row, tt))))))
       (λ κs qs bounds a g are. via 𝓤 _ (fst∗ 𝓤 _ (emp 𝓤)) (walk 𝓤 H A W at-mem run (κs .0) (κs .1 .0) (κs .1 .1 .0) (κs .1 .1 .1 .0) (κs .1 .1 .1 .1 .0) (qs .0) (qs .1 .0) (qs .1 .1 .0) (qs .1 .1 .1 .0) (qs .1 .1 .1 .1 .0)
@@ -640,17 +640,17 @@ module _ {M : Type 1} (𝓤 : URA M) (H : Heap 𝓤) (A : Atoms 𝓤) (W : Given
   goes : AllGo 𝓤 H A W 5 (f.signature .params) (f.ended .kept) stayed
   goes = (goes-none-slice 𝓤 H A W 5 (0 ∷ []) tt (plain (λ _. u8)) yes, (goes-slice 𝓤 H A W 5 1 tt (plain (λ _. u32)), (goes-slice 𝓤 H A W 5 2 tt (plain (λ _. u32)), (goes-slice 𝓤 H A W 5 3 tt (plain (λ _. u32)), (goes-ref 𝓤 H A W 5 4 tt (plain (λ _. tally-type.the-row)), tt)))))
 
-play-lent-meets : {M : Type 1} (𝓤 : URA M) (H : Heap 𝓤) (A : Atoms 𝓤) (W : Given 𝓤 H A) (at-mem : Memory → SProp 𝓤) (run : Routine → Fun 𝓤) (𝓣 : Tables 𝓤 H)
+grouping-play-lent-meets : {M : Type 1} (𝓤 : URA M) (H : Heap 𝓤) (A : Atoms 𝓤) (W : Given 𝓤 H A) (at-mem : Memory → SProp 𝓤) (run : Routine → Fun 𝓤) (𝓣 : Tables 𝓤 H)
     → Triple 𝓤 (𝓣 .C #lent·prepare) (Prepare 𝓤 H A at-mem run) → Triple 𝓤 (𝓣 .C #lent·opened) (Opened 𝓤 H A at-mem run) → Triple 𝓤 (𝓣 .C #lent·turn-on) (TurnOn 𝓤 H A at-mem run) → Triple 𝓤 (𝓣 .C #lent·add) (Add 𝓤 H A at-mem run) → Triple 𝓤 (𝓣 .C #lent·closed) (Closed 𝓤 H A at-mem run) → Meets 𝓤 H A f.signature (WpFn 𝓤 H (𝓣 .C) (𝓣 .Λ) code.function) (f.spec 𝓤 H A at-mem run)
-play-lent-meets 𝓤 H A W at-mem run 𝓣 known-prepare known-opened known-turn-on known-add known-closed = walk-meets 𝓤 H A f.ended stayed W (goes 𝓤 H A W at-mem run) (f.clauses 𝓤 H A at-mem run) (WpFn 𝓤 H (𝓣 .C) (𝓣 .Λ) code.function) (WpFn-mono 𝓤 H (W .laws) 𝓣 code.function)
-    (play-lent-walks 𝓤 H A W at-mem run 𝓣 known-prepare known-opened known-turn-on known-add known-closed)
+grouping-play-lent-meets 𝓤 H A W at-mem run 𝓣 known-prepare known-opened known-turn-on known-add known-closed = walk-meets 𝓤 H A f.ended stayed W (goes 𝓤 H A W at-mem run) (f.clauses 𝓤 H A at-mem run) (WpFn 𝓤 H (𝓣 .C) (𝓣 .Λ) code.function) (WpFn-mono 𝓤 H (W .laws) 𝓣 code.function)
+    (grouping-play-lent-walks 𝓤 H A W at-mem run 𝓣 known-prepare known-opened known-turn-on known-add known-closed)
 
-pub play-lent-spec : {M : Type 1} → stated.statement M
+pub grouping-play-lent-spec : {M : Type 1} → stated.statement M
 unfolding code.routine tablesOf
-play-lent-spec 𝓤 H 𝓜 𝓖 𝓡 =
+grouping-play-lent-spec 𝓤 H 𝓜 𝓖 𝓡 =
     entered 𝓤 H (tripleOf 𝓤 H (𝓖 .A) f.signature (f.spec 𝓤 H (𝓖 .A) (𝓜 .mem) (𝓡 .run)))
-    (tables 𝓤 H 𝓜 𝓡 code.env .C) (tables 𝓤 H 𝓜 𝓡 code.env .Λ) #lent·play-lent code.function (code.unfolded 𝓤 H 𝓜 𝓡)
-    (play-lent-meets 𝓤 H (𝓖 .A) (givenOf 𝓤 H 𝓜 𝓖) (𝓜 .mem) (𝓡 .run) (tablesOf 𝓤 H 𝓜 (tables 𝓤 H 𝓜 𝓡 code.env))
+    (tables 𝓤 H 𝓜 𝓡 code.env .C) (tables 𝓤 H 𝓜 𝓡 code.env .Λ) #lent·grouping-play-lent code.function (code.unfolded 𝓤 H 𝓜 𝓡)
+    (grouping-play-lent-meets 𝓤 H (𝓖 .A) (givenOf 𝓤 H 𝓜 𝓖) (𝓜 .mem) (𝓡 .run) (tablesOf 𝓤 H 𝓜 (tables 𝓤 H 𝓜 𝓡 code.env))
     (cited 𝓤 H (Prepare 𝓤 H (𝓖 .A) (𝓜 .mem) (𝓡 .run)) 𝓜 𝓡 code.env #lent·prepare prepare-def.routine code.calls-lent·prepare (prepare-thm.met 𝓤 H 𝓜 𝓖 𝓡))
     (cited 𝓤 H (Opened 𝓤 H (𝓖 .A) (𝓜 .mem) (𝓡 .run)) 𝓜 𝓡 code.env #lent·opened opened-def.routine code.calls-lent·opened (opened-thm.met 𝓤 H 𝓜 𝓖 𝓡))
     (cited 𝓤 H (TurnOn 𝓤 H (𝓖 .A) (𝓜 .mem) (𝓡 .run)) 𝓜 𝓡 code.env #lent·turn-on turn-on-def.routine code.calls-lent·turn-on (turn-on-thm.met 𝓤 H 𝓜 𝓖 𝓡))
