@@ -1,4 +1,4 @@
-/* Plays the job that document 01 prints and shows its listing. */
+/* Plays the job that document 01 prints, on a lent tally, and shows its listing. */
 #include "grouping.h"
 
 #include <stdio.h>
@@ -19,13 +19,14 @@ int main(void) {
     static uint32_t linearization[GROUPING_MOST_LINEARIZATION];
     static uint8_t text[1024];
 
-    struct grouping_played played = grouping_play(
+    struct grouping_tally tally = {0, 0, 0, 0};
+    struct grouping_played played = grouping_play_lent(
         job, sizeof job, table, GROUPING_MOST_TABLE, report, GROUPING_MOST_REPORT,
-        linearization, GROUPING_MOST_LINEARIZATION);
+        linearization, GROUPING_MOST_LINEARIZATION, &tally);
     struct grouping_listed listed = grouping_list(
         played, table, GROUPING_MOST_TABLE, report, GROUPING_MOST_REPORT,
         linearization, GROUPING_MOST_LINEARIZATION, text, sizeof text);
-    if (listed.number != 0) {
+    if (listed.number != 0 || tally.links != played.tally.links) {
         return 1;
     }
     if (fwrite(text, 1, listed.bytes, stdout) != listed.bytes) {

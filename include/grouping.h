@@ -3,7 +3,8 @@
  * A buffer is a pointer and its length in elements. Every pointer is valid for that many elements, not null and
  * aligned, and a buffer that is written overlaps no other. Any bytes, numbers and lengths are admitted: what cannot be
  * served is refused by number, with zero for every count and nothing written. Numbers and bytes past what a call
- * writes stay as they were. The static library is libexports.a. */
+ * writes stay as they were. The static library is
+ * libexports.a, and liblent.a for grouping_play_lent. */
 #ifndef GROUPING_H
 #define GROUPING_H
 
@@ -66,6 +67,14 @@ struct grouping_played grouping_play(const uint8_t *file, size_t file_length,
                                      uint32_t *table, size_t table_length,
                                      uint32_t *report, size_t report_length,
                                      uint32_t *linearization, size_t linearization_length);
+
+/* Plays a job file as grouping_play does, on a tally that its owner lends: an accepted job sets it to zeros and each
+ * grant adds to it; a refusal leaves it as it was. */
+struct grouping_played grouping_play_lent(const uint8_t *file, size_t file_length,
+                                          uint32_t *table, size_t table_length,
+                                          uint32_t *report, size_t report_length,
+                                          uint32_t *linearization, size_t linearization_length,
+                                          struct grouping_tally *tally);
 
 /* Writes a job file. requests has four numbers a request (head, kind, x, y), and a rest of fewer than four is no
  * request; grants has one head number a grant. */

@@ -1,5 +1,5 @@
-//! Safe Rust over the proved grouping core: play a job file, write one, make a counter enquiry,
-//! print a played job.
+//! Safe Rust over the proved grouping core: play a job file, with a tally of its own or on one that
+//! is lent, write one, make a counter enquiry, print a played job.
 //!
 //! Any bytes, numbers and lengths are admitted: what cannot be served is refused by number, with
 //! zero for every count and nothing written. What a call does not write stays as it was.
@@ -55,9 +55,18 @@ pub struct Listed {
     pub bytes: usize,
 }
 
+/// The sizes that the functions below are compiled for.
+const _: () = {
+    assert!(size_of::<Tally>() == 16);
+    assert!(size_of::<Played>() == 40);
+    assert!(size_of::<Written>() == 8);
+    assert!(size_of::<Queried>() == 12);
+    assert!(size_of::<Listed>() == 16);
+};
+
 /// The functions of include/grouping.h.
 mod exports {
-    use super::{Listed, Played, Queried, Written};
+    use super::{Listed, Played, Queried, Tally, Written};
 
     extern "C" {
         pub fn grouping_play(
@@ -69,6 +78,18 @@ mod exports {
             report_length: usize,
             linearization: *mut u32,
             linearization_length: usize,
+        ) -> Played;
+
+        pub fn grouping_play_lent(
+            file: *const u8,
+            file_length: usize,
+            table: *mut u32,
+            table_length: usize,
+            report: *mut u32,
+            report_length: usize,
+            linearization: *mut u32,
+            linearization_length: usize,
+            tally: *mut Tally,
         ) -> Played;
 
         pub fn grouping_write(
@@ -104,8 +125,8 @@ mod exports {
     }
 }
 
-// In all four calls each pointer and length come from one slice, which is valid for the call and,
-// where it is written, held by nobody else; the functions keep no pointer.
+// In all calls each pointer and length come from one slice, which is valid for the call and, where
+// it is written, held by nobody else; so is the tally. The functions keep no pointer.
 
 /// Plays a job file. `table` gets a word a node, `report` four numbers a request, `linearization`
 /// two numbers an entry.
@@ -126,6 +147,31 @@ pub fn play(
             report.len(),
             linearization.as_mut_ptr(),
             linearization.len(),
+        )
+    }
+}
+
+/// Plays a job file as `play` does, on a tally that its owner lends: an accepted job sets it to zeros
+/// and each grant adds to it; a refusal leaves it as it was.
+pub fn play_lent(
+    file: &[u8],
+    table: &mut [u32],
+    report: &mut [u32],
+    linearization: &mut [u32],
+    tally: &mut Tally,
+) -> Played {
+    // SAFETY: pointers and lengths of slices, and one reference, as said above.
+    unsafe {
+        exports::grouping_play_lent(
+            file.as_ptr(),
+            file.len(),
+            table.as_mut_ptr(),
+            table.len(),
+            report.as_mut_ptr(),
+            report.len(),
+            linearization.as_mut_ptr(),
+            linearization.len(),
+            tally,
         )
     }
 }

@@ -8,9 +8,25 @@ use crate::player::{Outcome, Player, AMPLE};
 use crate::query::Queried;
 
 pub const CORE: Player = Player { name: "core", play, write, query, list };
+/// The core with a tally lent to it.
+pub const LENT: Player =
+    Player { name: "core, tally lent", play: play_lent, write, query, list };
+
+/// What stands in a lent tally before the call.
+const BEFORE: core::Tally =
+    core::Tally { idle: 0xA5A5_0000, failed: 0xA5A5_0001, links: 0xA5A5_0002, working: 0xA5A5_0003 };
 
 fn play(file: &[u8], table: &mut [u32], report: &mut [u32], lineup: &mut [u32]) -> Played {
     told(core::play(file, table, report, lineup))
+}
+
+/// The owner's tally ends as the result's, or as it was lent where the job is refused.
+fn play_lent(file: &[u8], table: &mut [u32], report: &mut [u32], lineup: &mut [u32]) -> Played {
+    let mut tally = BEFORE;
+    let played = core::play_lent(file, table, report, lineup, &mut tally);
+    let expected = if played.number == 0 { played.tally } else { BEFORE };
+    assert_eq!(tally, expected, "number {}", played.number);
+    told(played)
 }
 
 fn write(nodes: u32, heads: u32, requests: &[u32], grants: &[u8], buffer: &mut [u8]) -> Written {

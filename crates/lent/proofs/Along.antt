@@ -32,7 +32,7 @@ use Rattle.start.specs.Start.{workFlag}
 use Rattle.stepper.specs.Shown.{requestsIn, Standing}
 use Rattle.stepper.proofs.Lists.{length-mapped}
 use Rattle.turns.specs.declared.Progress.{Progress}
-use Rattle.turns.specs.Turns.{Roomy, countedOf, buffersOf, Turned}
+use Rattle.turns.specs.Turns.{Roomy, countedOf, buffersOf, Turned, firstProgress, firstTally}
 use Rattle.turns.proofs.Runs.{grants-few}
 use Rattle.turns.proofs.Counters.{small-roomy}
 use Rattle.turns.proofs.Going.{Going, going-start, going-turnable, going-next, going-end}
@@ -297,17 +297,17 @@ module _ (file table₀ report₀ linearization₀ : List ℕ) (tally₀ : Tally
     mask-is : plan .progress .mask ≡ maskOf (map (workFlag (length (requestsIn file))) (headsFrom (requestsIn file) 0 16))
     mask-is = ap (λ x. x .plan .progress .mask) was-accepted
 
-    progress-is : plan .progress ≡ record { heads = plan .progress .heads; entries = 0; mask = plan .progress .mask; number = 0; cursor = record { next = 0; head = 0; left = 0 }; done = plan .progress .done }
+    progress-is : plan .progress ≡ firstProgress (plan .progress .heads) (plan .progress .mask)
     progress-is = λ i. record {
       heads = plan .progress .heads;
       entries = was-accepted i .plan .progress .entries;
       mask = plan .progress .mask;
       number = was-accepted i .plan .progress .number;
       cursor = was-accepted i .plan .progress .cursor;
-      done = plan .progress .done;
+      done = was-accepted i .plan .progress .done;
     }
 
-    tally-is : tally ≡ record { idle = 0; failed = 0; links = 0; working = ones (plan .progress .mask) }
+    tally-is : tally ≡ firstTally (plan .progress .mask)
     tally-is = is-tally ∙ rw (eq-eqb (plan .counts .number) 0 (ap (λ c. c .number) counts-are ∙ roomy .checks .accepted)) refl
 
     going : Going file (plan .counts .requests) linearization₀ (plan .progress) tally (take (plan .counts .nodes) table) (take (4 * plan .counts .requests) report) linearization₀

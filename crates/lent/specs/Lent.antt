@@ -10,10 +10,9 @@
 --   closedOf c p t         the answer
 --   tallyLeft              what the owner's tally holds at the end
 use mathlib.Core.Path.{_≡_}
-use mathlib.Core.Bool.{false, cond}
+use mathlib.Core.Bool.{cond}
 use mathlib.Core.List.{List, _++_, map}
 use Prim.Native.Nat.{ℕ, _*_, _≤_}
-use lib.Count.{ones}
 use lib.Dec.{eqb}
 use lib.ListN.{length, take, drop, replicate}
 use Rattle.job.specs.declared.Tally.{Tally}
@@ -30,25 +29,14 @@ use Rattle.rules.specs.State.{State, headsFrom, tallyOf}
 use Rattle.stepper.specs.Shown.{requestsIn}
 use Rattle.start.specs.Start.{workFlag}
 use Rattle.turns.specs.declared.Progress.{Progress}
-use Rattle.turns.specs.Turns.{buffersOf, Turnable, Turned, runOf}
+use Rattle.turns.specs.Turns.{buffersOf, Turnable, Turned, firstProgress, firstTally, runOf}
 use Rattle.player.specs.Player.{refusedWith, playRefusal}
 use Rattle.lent.specs.declared.Plan.{Plan}
 
 -- ---- before the first grant
 
 abbrev pub planOf : Checked → List Head → ℕ → Plan
-planOf counts heads mask =
-    record {
-      counts = counts;
-      progress = record {
-        heads = heads;
-        entries = 0;
-        mask = mask;
-        number = 0;
-        cursor = record { next = 0; head = 0; left = 0 };
-        done = record { idle = false; failed = false; linked = false };
-      };
-    }
+planOf counts heads mask = record { counts = counts; progress = firstProgress heads mask }
 
 -- Each refusal gives its number and zero for every count; there is no grant to play.
 abbrev pub refusedPlan : ℕ → Plan
@@ -105,8 +93,7 @@ preparedOf file table report linearization =
 
 -- All three numbers are set to zero when an accepted job starts; the fourth is the mask's count of ones.
 abbrev pub openedOf : Tally → Plan → Tally
-openedOf tally plan =
-    cond (eqb (plan .counts .number) 0) (record { idle = 0; failed = 0; links = 0; working = ones (plan .progress .mask) }) tally
+openedOf tally plan = cond (eqb (plan .counts .number) 0) (firstTally (plan .progress .mask)) tally
 
 -- ---- one grant, on the parts of the lent buffers that the job needs
 

@@ -11,10 +11,10 @@ use start::first_mask;
 use start::first_requests;
 use start::fresh_table;
 use start::resting_heads;
-use stepper::Done;
-use turns::Cursor;
 use turns::Progress;
 use turns::counted;
+use turns::first_progress;
+use turns::first_tally;
 use turns::turn;
 ghost use mathlib.Core.Path.{_≡_};
 ghost use mathlib.Core.List.{List};
@@ -43,22 +43,7 @@ fn plan_of(counts: Checked, heads: [Head; 16], mask: u32) -> Plan
 {
     Plan {
         counts,
-        progress: Progress {
-            heads,
-            entries: 0,
-            mask,
-            number: 0,
-            cursor: Cursor {
-                next: 0,
-                head: 0,
-                left: 0,
-            },
-            done: Done {
-                idle: false,
-                failed: false,
-                linked: false,
-            },
-        },
+        progress: first_progress(heads, mask),
     }
 }
 
@@ -134,12 +119,7 @@ fn opened(tally: Tally, plan: Plan) -> Tally
         return tally;
     }
     let progress = plan.progress;
-    Tally {
-        idle: 0,
-        failed: 0,
-        links: 0,
-        working: mask::count(progress.mask),
-    }
+    first_tally(progress.mask)
 }
 
 // One grant on the parts of the lent buffers that the job needs.

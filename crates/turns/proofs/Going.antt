@@ -32,7 +32,7 @@ use Rattle.stepper.proofs.Lists.{length-mapped, length-rows}
 use Rattle.stepper.proofs.Needs.{invariant-few, playing-inside, playing-admitted}
 use Rattle.turns.specs.declared.Progress.{Progress}
 use Rattle.turns.specs.declared.Ended.{Ended}
-use Rattle.turns.specs.Turns.{runsIn, remaining, countedOf, buffersOf, Turnable, Turned, startOf, runOf, End, endAt, endOf, Startable}
+use Rattle.turns.specs.Turns.{runsIn, remaining, countedOf, buffersOf, Turnable, Turned, firstProgress, firstTally, startOf, runOf, End, endAt, endOf, Startable}
 use Rattle.turns.proofs.Runs.{grants-few}
 use Rattle.turns.proofs.Counters.{working-ones, counted-step, Small, counted-small}
 
@@ -48,28 +48,6 @@ pub record Going (file : List ℕ) (requests : ℕ) (lent : List ℕ) (p : Progr
   pub on : run (requestsIn file) state (drop (p .number) (meaning file .job .schedule)) ≡ runOf (meaning file .job)
   pub counts : tally ≡ tallyOf (requestsIn file) state
   pub small : Small tally (p .number)
-
-abbrev pub noDone : Done
-noDone = record { idle = false; failed = false; linked = false }
-
--- what the last grant was does not matter to the loop
-pub going-done : {file : List ℕ} {requests : ℕ} {lent : List ℕ} {tally : Tally} {table report linearization : List ℕ} (p : Progress) (d : Done)
-    → Going file requests lent p tally table report linearization
-    → Going file requests lent (record { heads = p .heads; entries = p .entries; mask = p .mask; number = p .number; cursor = p .cursor; done = d })
-    tally table report linearization
-going-done p d g =
-    record {
-      playing = g .playing;
-      nodes = g .nodes;
-      within = g .within;
-      left = g .left;
-      state = g .state;
-      past = g .past;
-      standing = g .standing;
-      on = g .on;
-      counts = g .counts;
-      small = g .small;
-    }
 
 -- ---- the buffers keep their lengths
 
@@ -94,8 +72,7 @@ module _ {qs : List Request} {n number : ℕ} {b : Buffers} {S : State} {past : 
 
 pub going-start : {file : List ℕ} {requests count mask : ℕ} {heads : List Head} {table report linearization : List ℕ}
     → Startable file requests count heads mask table report linearization → (p : Progress) (tally : Tally)
-    → p ≡ record { heads = heads; entries = 0; mask = mask; number = 0; cursor = record { next = 0; head = 0; left = 0 }; done = p .done }
-    → tally ≡ record { idle = 0; failed = 0; links = 0; working = ones mask }
+    → p ≡ firstProgress heads mask → tally ≡ firstTally mask
     → Going file requests linearization p tally table report linearization
 going-start {file} {requests} {count} {mask} {heads} {table} {report} {linearization} s p tally is counts =
     record {

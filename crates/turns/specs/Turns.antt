@@ -9,10 +9,12 @@
 --   buffersOf p t r l     the buffers t, r, l with what the play carries
 --   Turnable, Turned      what a turn asks and what it leaves
 --   Turns                 what it leaves, from every state that the buffers show
+--   firstProgress hs m    what a play carries before its first grant
+--   firstTally m          the tally before the first grant
 --   runOf j               the rules' run of the job j
 --   End, endOf j lent     what the play of the job j leaves
 use mathlib.Core.Path.{_≡_}
-use mathlib.Core.Bool.{cond}
+use mathlib.Core.Bool.{false, cond}
 use mathlib.Core.List.{List, [], _++_, map}
 use Prim.Native.Nat.{ℕ, _+_, _-_, _*_, _<_, _≤_}
 use lib.Count.{ones}
@@ -103,6 +105,22 @@ Turns file p p′ b b′ =
     (S : State) (past : List Happening) (lent : List ℕ) → Standing (requestsIn file) (length (b .table)) 16 b (p .number + 1) S past lent → Turned file p p′ b′ S lent
 
 -- ---- the whole schedule
+
+-- What a play carries before its first grant.
+abbrev pub firstProgress : List Head → ℕ → Progress
+firstProgress heads mask =
+    record {
+      heads = heads;
+      entries = 0;
+      mask = mask;
+      number = 0;
+      cursor = record { next = 0; head = 0; left = 0 };
+      done = record { idle = false; failed = false; linked = false };
+    }
+
+-- All three numbers are zero when an accepted job starts; the fourth is the mask's count of ones.
+abbrev pub firstTally : ℕ → Tally
+firstTally mask = record { idle = 0; failed = 0; links = 0; working = ones mask }
 
 -- Every job is played with sixteen heads; those that it does not have get no request and no grant.
 abbrev pub startOf : Job → State

@@ -8,7 +8,7 @@ ghost use Prim.Native.Nat.{_<_};
 ghost use Rattle.jobfile.specs.Meaning.{meaning};
 ghost use Rattle.rules.specs.Step.{plus};
 ghost use Rattle.stepper.specs.Shown.{Playing};
-ghost use Rattle.turns.specs.Turns.{Roomy, countedOf, runsIn, openedOf, takenOf, Openable, buffersOf, Turnable, Turns, Startable, endOf};
+ghost use Rattle.turns.specs.Turns.{Roomy, countedOf, runsIn, openedOf, takenOf, Openable, buffersOf, Turnable, Turns, firstProgress, firstTally, Startable, endOf};
 
 // Where a play stands among the runs of the file: the next run, and the head and the grants left of the one under way.
 pub struct Cursor {
@@ -125,8 +125,41 @@ pub fn turn(
     }
 }
 
-// Plays all grants of an accepted file, from buffers that show the start. The heads are a local of the loop and go into and out
-// of each grant, so that an idle grant copies nothing.
+// What a play carries before its first grant.
+pub fn first_progress(heads: [Head; 16], mask: u32) -> Progress
+    ensures { λ r. ⌜ r ≡ firstProgress heads mask ⌝ }
+{
+    Progress {
+        heads,
+        entries: 0,
+        mask,
+        number: 0,
+        cursor: Cursor {
+            next: 0,
+            head: 0,
+            left: 0,
+        },
+        done: Done {
+            idle: false,
+            failed: false,
+            linked: false,
+        },
+    }
+}
+
+// The tally before the first grant; its fourth number is the mask's count of ones.
+pub fn first_tally(mask: u32) -> Tally
+    ensures { λ r. ⌜ r ≡ firstTally mask ⌝ }
+{
+    Tally {
+        idle: 0,
+        failed: 0,
+        links: 0,
+        working: mask::count(mask),
+    }
+}
+
+// Plays all grants of an accepted file, from buffers that show the start.
 pub fn play_grants(
     file: &[u8],
     requests: u32,
@@ -140,42 +173,15 @@ pub fn play_grants(
     requires { ⌜ Startable (now file) requests grants heads mask (now table) (now report) (now linearization) ⌝ }
     ensures { λ r. ⌜ record { table = now (table .exit); report = now (report .exit); linearization = now (linearization .exit); ended = r } ≡ endOf (meaning (now (file .entry)) .job) (now (linearization .entry)) ⌝ }
 {
-    let mut now_heads = heads;
-    let mut work = mask;
-    let mut entries: u32 = 0;
-    let mut number: u32 = 0;
-    let mut cursor = Cursor {
-        next: 0,
-        head: 0,
-        left: 0,
-    };
-    let mut tally = Tally {
-        idle: 0,
-        failed: 0,
-        links: 0,
-        working: mask::count(mask),
-    };
-    while number < grants {
-        let run = open_run(file, requests, cursor);
-        number += 1;
-        let granted = grant(
-            file,
-            requests,
-            now_heads,
-            run.head,
-            number,
-            table,
-            report,
-            linearization,
-            entries,
-            work,
-        );
-        let next = granted.heads;
-        now_heads = next;
-        entries = granted.entries;
-        work = granted.mask;
-        cursor = taken(run);
-        tally = counted(tally, granted.done, work);
+    let mut progress = first_progress(heads, mask);
+    let mut tally = first_tally(mask);
+    while progress.number < grants {
+        progress = turn(file, requests, progress, table, report, linearization);
+        let done = progress.done;
+        tally = counted(tally, done, progress.mask);
     }
-    Ended { entries, tally }
+    Ended {
+        entries: progress.entries,
+        tally,
+    }
 }

@@ -17,4 +17,4 @@ mod wrong_turns;
 #[cfg(not(feature = "core"))]
 const PLAYERS: [Player; 1] = [PEER];
 #[cfg(feature = "core")]
-const PLAYERS: [Player; 2] = [PEER, peer::proved::CORE];
+const PLAYERS: [Player; 3] = [PEER, peer::proved::CORE, peer::proved::LENT];
