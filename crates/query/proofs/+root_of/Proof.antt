@@ -65,10 +65,10 @@ root-of-root-of-requires : (t : ℕ) → root-of-lts.Need-root-of-requires (
 ) (root-of-at t) root-of.Post
 root-of-root-of-requires t c κs =
     let start = c .before .before .before .before in
-    let ws = now (start .args .table) in
+    let words = now (start .args .table) in
     let above = c .before .parent in (
-      omega (arith, start .pre .0, walk-falls ws (start .args .node) (start .pre .1 .0) (start .pre .1 .1) (above .result) (above .ensures) (c .if1 .left)),
-      (start .pre .1 .0, walk-inside ws (start .args .node) (start .pre .1 .0) (start .pre .1 .1) (above .result) (above .ensures)),
+      omega (arith, start .pre .0, walk-falls words (start .args .node) (start .pre .1 .0) (start .pre .1 .1) (above .result) (above .ensures) (c .if1 .left)),
+      (start .pre .1 .0, walk-inside words (start .args .node) (start .pre .1 .0) (start .pre .1 .1) (above .result) (above .ensures)),
     )
 
 root-of-returns-2 : (t : ℕ) → root-of-lts.Need-returns-2 (

@@ -31,8 +31,8 @@ is-faulty-requires c κs = omega (arith, c .before .loop .inv .0)
 returns : tie.Need-returns Inv-loop μ-loop
 returns c =
     let l = c .before .before in
-    let ws = now (l .before .before .before .args .table) in
-    sym (any-faulty-step ws (l .before .loop .i) (omega arith) ∙ rw (← c .before .is-faulty .ensures, c .if1 .taken) refl) ∙ l .before .loop .inv .1
+    let words = now (l .before .before .before .args .table) in
+    sym (any-faulty-step words (l .before .loop .i) (omega arith) ∙ rw (← c .before .is-faulty .ensures, c .if1 .taken) refl) ∙ l .before .loop .inv .1
 
 loop-less : tie.Need-loop-less Inv-loop μ-loop
 loop-less c = search needs
@@ -40,15 +40,15 @@ loop-less c = search needs
 loop-again : tie.Need-loop-again Inv-loop μ-loop
 loop-again c =
     let l = c .before .before in
-    let ws = now (l .before .before .before .args .table) in
-    (omega (arith, l .before .loop .inv .0), sym (any-faulty-step ws (l .before .loop .i) (omega arith) ∙ rw (← c .before .is-faulty .ensures, c .if1 .left) refl) ∙ l .before .loop .inv .1)
+    let words = now (l .before .before .before .args .table) in
+    (omega (arith, l .before .loop .inv .0), sym (any-faulty-step words (l .before .loop .i) (omega arith) ∙ rw (← c .before .is-faulty .ensures, c .if1 .left) refl) ∙ l .before .loop .inv .1)
 
 returns-2 : tie.Need-returns-2 Inv-loop μ-loop
 returns-2 c =
     let l = c .before .loop in
-    let ws = now (c .before .before .before .args .table) in
+    let words = now (c .before .before .before .args .table) in
     let none : 0 ≡ l .i = omega arith in
-    ap (λ k. anyFaulty ws k) none ∙ l .inv .1
+    ap (λ k. anyFaulty words k) none ∙ l .inv .1
 
 pub has-faulty-spec : {M : Type 1} → statement M
 has-faulty-spec =
