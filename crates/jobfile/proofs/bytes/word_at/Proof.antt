@@ -1,9 +1,15 @@
--- `bytes::word_at`: the two bytes of a word.
+-- `jobfile::bytes::word_at`: nothing past the end, else the two bytes of a word.
+use mathlib.Core.Path.{sym}
 use denote.Ref.{now}
 use borrow.Author.Needs.{needs}
-use Rattle.reader.proofs.Words.{word-drop}
-use Rattle.reader.proofs.bytes.word_at.Statement.{statement}
-use Rattle.reader.proofs.bytes.word_at.Tie as tie
+use Rattle.jobfile.proofs.Words.{word-past, word-drop}
+use Rattle.jobfile.proofs.bytes.word_at.Statement.{statement}
+use Rattle.jobfile.proofs.bytes.word_at.Tie as tie
+
+returns : tie.Need-returns
+returns c =
+    let a = c .before .before .args in
+    sym (word-past (now (a .file)) (a .at) (c .if1 .taken))
 
 byte-at-requires : tie.Need-byte-at-requires
 byte-at-requires c κs = search needs
@@ -26,13 +32,16 @@ mul-result c = search needs
 add-result : tie.Need-add-result
 add-result c = search needs
 
-returns : tie.Need-returns
-returns c = rw (word-drop (now (c .before .before .before .args .file)) (c .before .before .before .args .at)) (cc)
+returns-2 : tie.Need-returns-2
+returns-2 c =
+    let a = c .before .before .before .before .args in
+    rw (word-drop (now (a .file)) (a .at)) (cc)
 
 pub word-at-spec : {M : Type 1} → statement M
 word-at-spec =
     tie.close
     (tie.spec
+    returns
     byte-at-requires
     add-byte-at
     byte-at-requires-2
@@ -40,4 +49,4 @@ word-at-spec =
     cast-result-2
     mul-result
     add-result
-    returns)
+    returns-2)

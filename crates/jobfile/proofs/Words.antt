@@ -1,7 +1,7 @@
 -- Words of a file, and the loop that adds them up.
 --
---   word-drop           the word at a place, by its two bytes
---   Summed s sum at     sum is that of the words before the place `at`, without carries out of 16 bits
+--   word-drop, word-past   the word at a place, by its two bytes; past the end it is 0
+--   Summed s sum at        sum is that of the words before the place `at`, without carries out of 16 bits
 --   sum-start, sum-next, sum-end   it holds at first, after a word, and what it gives at the end
 use mathlib.Core.Path.{_≡_, refl}
 use mathlib.Core.List.{List, [], _∷_}
@@ -10,10 +10,13 @@ use native.Mathlib.Omega.{arith}
 use native.Mathlib.Nat.{add-zero}
 use lib.ListN.{length, getD, drop, drop-of-length-le}
 use lib.Seq.{getD-drop, drop-drop}
 use Rattle.jobfile.specs.Format.{word, wordSum}
 
 pub word-drop : (s : List ℕ) (at : ℕ) → word (drop at s) ≡ getD s at 0 + 256 * getD s (at + 1) 0
 word-drop s at = simp (getD-drop, add-zero)
+
+pub word-past : (s : List ℕ) (at : ℕ) → length s ≤ at → word (drop at s) ≡ 0
+word-past s at l = rw (drop-of-length-le s {i = at} l)
 
 wordSum-next : (t : List ℕ) → wordSum t ≡ word t + wordSum (drop 2 t)
 wordSum-next [] = refl

@@ -1,11 +1,11 @@
--- `bytes::sum_words`: what is left of the words adds up to what the whole does, without carries out of 16 bits.
+-- `jobfile::bytes::sum_words`: what is left of the words adds up to what the whole does, without carries out of 16 bits.
 use Prim.Native.Nat.{_+_, _-_}
 use native.Mathlib.Omega.{arith}
 use lib.ListN.{length}
 use borrow.Author.Needs.{needs}
-use Rattle.reader.proofs.Words.{Summed, sum-start, sum-next, sum-end}
-use Rattle.reader.proofs.bytes.sum_words.Statement.{statement}
-use Rattle.reader.proofs.bytes.sum_words.Tie as tie
+use Rattle.jobfile.proofs.Words.{Summed, sum-start, sum-next, sum-end}
+use Rattle.jobfile.proofs.bytes.sum_words.Statement.{statement}
+use Rattle.jobfile.proofs.bytes.sum_words.Tie as tie
 
 abbrev Inv-loop : tie.InvT-loop
 Inv-loop file sum₀ at₀ sum at = Summed file sum at
@@ -17,13 +17,13 @@ loop-holds : tie.Need-loop-holds Inv-loop μ-loop
 loop-holds c = sum-start (c .before .args .file .now)
 
 word-at-requires : tie.Need-word-at-requires Inv-loop μ-loop
-word-at-requires c κs = omega arith
+word-at-requires c κs = search needs
 
 wrapping-add-u16-requires : tie.Need-wrapping-add-u16-requires Inv-loop μ-loop
 wrapping-add-u16-requires c κs = search needs
 
 add-at : tie.Need-add-at Inv-loop μ-loop
-add-at c = omega arith
+add-at c = omega (arith, c .before .before .before .before .before .good .0 .1)
 
 loop-less : tie.Need-loop-less Inv-loop μ-loop
 loop-less c = omega arith
