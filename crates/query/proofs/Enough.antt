@@ -4,8 +4,8 @@
 --
 --   higher n r v             how many nodes come after v
 --   findNeed n p r v         the grants that a find from v needs at most
---   tailNeed n r (h .y) s         the grants that are needed at most after the find of side s
---   Fixed p h s              in the find from y, x is a root
+--   tailNeed n r y s         the grants that are needed at most after the find of side s
+--   Fixed p x s              in the find from y, x is a root
 --   Needs Root need m        at most m grants are needed, with what is known of x
 --   Enough n p r h stage m   m grants are enough from this stage on
 --

@@ -1,6 +1,7 @@
 -- What the refusals leave: the table of an enquiry that is not refused is admitted.
 --
 --   Accepted words x y   the enquiry about x and y is not refused
+--   Looked words i       the words from node i on are looked at, and none of them is faulty
 --   Sane words i         the word of node i may stand in the table
 --
 -- Main law: accepted-admitted.
@@ -44,11 +45,26 @@ others-false false c e = e
 -- ---- the words
 
 -- one word fewer to look at
-pub any-faulty-step : (words : List ℕ) (i : ℕ) → 0 < i → anyFaulty words i ≡ cond (isFaulty words (i - 1)) true (anyFaulty words (i - 1))
+any-faulty-step : (words : List ℕ) (i : ℕ) → 0 < i → anyFaulty words i ≡ cond (isFaulty words (i - 1)) true (anyFaulty words (i - 1))
 any-faulty-step words zero l = absurd (omega arith)
 any-faulty-step words (suc k) l =
     let same : suc k - 1 ≡ k = omega arith in
     rw same refl
+
+pub record Looked (words : List ℕ) (i : ℕ) : Type 0 where
+  pub within : i ≤ length words
+  pub same : anyFaulty words i ≡ anyFaulty words (length words)
+
+module _ {words : List ℕ} {i : ℕ} (looked : Looked words i) where
+  pub looked-faulty : 0 < i → isFaulty words (i - 1) ≡ true → true ≡ anyFaulty words (length words)
+  looked-faulty l e = sym (any-faulty-step words i l ∙ rw e refl) ∙ looked .same
+
+  pub looked-on : 0 < i → isFaulty words (i - 1) ≡ false → Looked words (i - 1)
+  looked-on l e =
+      record { within = omega (arith, looked .within); same = sym (any-faulty-step words i l ∙ rw e refl) ∙ looked .same }
+
+  pub looked-all : 0 ≡ i → false ≡ anyFaulty words (length words)
+  looked-all none = ap (anyFaulty words) none ∙ looked .same
 
 none-faulty : (words : List ℕ) (k : ℕ) → anyFaulty words k ≡ false → (i : ℕ) → i < k → isFaulty words i ≡ false
 none-faulty words zero e i l = absurd (omega arith)

@@ -1,5 +1,8 @@
 -- One step of an enquiry, stage by stage: the table stays admitted, its sets stay, and an answer is right about them.
 --
+--   Known t′ head    what the head knows after its grant, on the table t′
+--   Next t′ next     what holds of the enquiry after the grant that led to `next`, on the table t′
+--
 -- Main laws: serving-step, what holds of an enquiry holds after one step more; serving-start, it holds at the start.
 use mathlib.Core.Path.{_≡_, refl, sym, ap, _∙_, subst}
 use mathlib.Core.Logic.{_≢_}
@@ -56,7 +59,6 @@ no-union e = let z : _≡_ {A = ℕ} 2 1 = ap kindNumber e in absurd (omega arit
 
 module _ {n : ℕ} {t : List Node} {B : ℕ → ℕ} {a b : ℕ} (admitted : Admitted n t) (labelled : Labelled n (parent t) B)
     (inside : Inside n (sameSet a b)) (used : ℕ) (h : Head) where
-  -- what the head knows after its grant on a table t′
   abbrev Known : List Node → Head → Type 0
   Known t′ head = Knows n (parent t′) (rank t′) B (λ point. B a ≢ B b) (suc used) (sameSet a b) head (head .stage)
 
