@@ -1,5 +1,5 @@
 -- The laws of job files: words and their sum, what a refusal of 0 says, how records follow one another, runs, and the round trips.
-mod Words
+mod Sums
 pub mod Tests
 pub mod Records
 pub mod Runs

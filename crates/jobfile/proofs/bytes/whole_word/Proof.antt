@@ -1,0 +1,45 @@
+-- `jobfile::bytes::whole_word`: two bytes make a word.
+use Prim.Native.Nat.{_+_}
+use native.Mathlib.Omega.{arith}
+use native.Mathlib.Nat.{add-zero}
+use lib.Seq.{getD-drop}
+use borrow.Author.Needs.{needs}
+use Rattle.jobfile.proofs.bytes.whole_word.Statement.{statement}
+use Rattle.jobfile.proofs.bytes.whole_word.Tie as tie
+
+shared-slice-read-wide : tie.Need-shared-slice-read-wide
+shared-slice-read-wide c = search needs
+
+wide-requires : tie.Need-wide-requires
+wide-requires c κs = search needs
+
+add-wide : tie.Need-add-wide
+add-wide c = search needs
+
+shared-slice-read-wide-2 : tie.Need-shared-slice-read-wide-2
+shared-slice-read-wide-2 c = search needs
+
+wide-requires-2 : tie.Need-wide-requires-2
+wide-requires-2 c κs = search needs
+
+mul-result : tie.Need-mul-result
+mul-result c = let a = c .before .before .before .before .before .args in omega (arith, c .before .shared-slice-known3 .given (a .at + 1))
+
+add-result : tie.Need-add-result
+add-result c = let a = c .before .before .before .before .before .args in omega (arith, c .before .shared-slice-known3 .given (a .at + 1), c .before .before .before .shared-slice-known2 .given (a .at))
+
+returns : tie.Need-returns
+returns c = simp (c .wide2 .ensures, c .before .before .wide .ensures, getD-drop, add-zero)
+
+pub whole-word-spec : {M : Type 1} → statement M
+whole-word-spec =
+    tie.close
+    (tie.spec
+    shared-slice-read-wide
+    wide-requires
+    add-wide
+    shared-slice-read-wide-2
+    wide-requires-2
+    mul-result
+    add-result
+    returns)
