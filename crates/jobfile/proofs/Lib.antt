@@ -1,4 +1,5 @@
--- The laws of job files: what a refusal of 0 says, how records follow one another, runs, and the round trips.
+-- The laws of job files: words and their sum, what a refusal of 0 says, how records follow one another, runs, and the round trips.
+mod Sums
 pub mod Tests
 pub mod Records
 pub mod Runs

@@ -1,4 +1,6 @@
-// What the reader and the writer of job files share: the numbers of a request, a run, and the checks on them.
+// What the reader and the writer of job files share: bytes and words, the numbers of a request, a run, and the checks on them.
+pub mod bytes;
+
 ghost use mathlib.Core.Path.{_≡_};
 ghost use Rattle.jobfile.specs.Format.{sizesRefusal, fieldsRefusal, extends};
 

@@ -4,8 +4,8 @@
 --
 --   higher n r v             how many nodes come after v
 --   findNeed n p r v         the grants that a find from v needs at most
---   tailNeed n r (h .y) s         the grants that are needed at most after the find of side s
---   Fixed p h s              in the find from y, x is a root
+--   tailNeed n r y s         the grants that are needed at most after the find of side s
+--   Fixed p x s              in the find from y, x is a root
 --   Needs Root need m        at most m grants are needed, with what is known of x
 --   Enough n p r h stage m   m grants are enough from this stage on
 --
@@ -210,9 +210,9 @@ module _ {n : ℕ} {t : List Node} (r : ℕ → ℕ) (admitted : Admitted n t) (
   reread-x : (point : ℕ) → Enough n (parent t) r h (RereadX point) (suc m) → Goes t (reread h point (at t (h .x)))
   reread-x point needs = rw (eq-eqb (parent t (h .x)) (h .x) (needs .fixed)) (λ f. absurd (true≢false f))
 
-  stage-enough : (B : ℕ → ℕ) (a b : ℕ) (st : Stage) → restingAt st ≡ false
-      → Knows n (parent t) (rank t) B (λ point. B a ≢ B b) used (sameSet a b) h st → Enough n (parent t) r h st (suc m)
-      → Goes (touched t (accessAt h st)) (advanceAt h (seen t (accessAt h st)) (suc used) st)
+  stage-enough : (B : ℕ → ℕ) (a b : ℕ) (stage : Stage) → restingAt stage ≡ false
+      → Knows n (parent t) (rank t) B (λ point. B a ≢ B b) used (sameSet a b) h stage → Enough n (parent t) r h stage (suc m)
+      → Goes (touched t (accessAt h stage)) (advanceAt h (seen t (accessAt h stage)) (suc used) stage)
   stage-enough B a b Resting busy knows needs = absurd (true≢false busy)
   stage-enough B a b (ReadNode k s) busy knows needs = read-node k s (knows .kind) needs
   stage-enough B a b (ReadParent k s rank u) busy knows needs = λ f. record { fixed = needs .fixed; enough = omega (arith, needs .enough) }
@@ -231,8 +231,8 @@ module _ {n : ℕ} {t : List Node} (r : ℕ → ℕ) (admitted : Admitted n t) (
 -- ---- the whole enquiry
 
 -- a head that has not answered needs a grant
-enough-positive : (n : ℕ) (p r : ℕ → ℕ) (B : ℕ → ℕ) (a b used : ℕ) (ranks : ℕ → ℕ) (h : Head) (st : Stage) → restingAt st ≡ false
-    → Knows n p ranks B (λ point. B a ≢ B b) used (sameSet a b) h st → Enough n p r h st 0 → ⊥
+enough-positive : (n : ℕ) (p r : ℕ → ℕ) (B : ℕ → ℕ) (a b used : ℕ) (ranks : ℕ → ℕ) (h : Head) (stage : Stage) → restingAt stage ≡ false
+    → Knows n p ranks B (λ point. B a ≢ B b) used (sameSet a b) h stage → Enough n p r h stage 0 → ⊥
 enough-positive n p r B a b used ranks h Resting busy knows needs = true≢false busy
 enough-positive n p r B a b used ranks h (ReadNode k s) busy knows needs =
     absurd (omega (arith, find-least n p r (nodeAt h s), needs .enough))

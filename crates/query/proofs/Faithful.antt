@@ -5,7 +5,7 @@
 -- Main law: queried-faithful.
 use mathlib.Core.Path.{_≡_, refl, sym, ap, _∙_, subst}
 use mathlib.Core.Logic.{_≢_, _↔_}
-use mathlib.Core.Bool.{true, false, true≢false}
+use mathlib.Core.Bool.{false, true≢false}
 use mathlib.Core.List.{List, map}
 use Prim.Native.Nat.{ℕ, zero, suc, _+_, _*_, _≤_, _<_}
 use native.Mathlib.Omega.{arith}
@@ -28,11 +28,11 @@ use Rattle.rules.specs.Table.{parent, rank, touched}
 use Rattle.query.specs.Query.{Result, answered, granted, steps, sameSet, refusal, queried}
 use Rattle.query.specs.Ready.{Admitted, Says, Serving}
 use Rattle.query.specs.Faithful.{parentsOf, Faithful}
-use Rattle.query.proofs.Words.{length-map, decode-words}
+use Rattle.table.proofs.Words.{length-mapped, decode-words}
 use Rattle.query.proofs.Labels.{rootLabel, root-labelled}
 use Rattle.query.proofs.Refusal.{Accepted, accepted, accepted-admitted}
 use Rattle.query.proofs.Steps.{serving-step, serving-goes-on, serving-start}
-use Rattle.query.proofs.Accesses.{admitted-encodable}
+use Rattle.query.proofs.Words.{admitted-worded}
 use Rattle.query.proofs.Enough.{steps-enough, start-enough}
 
 pub record Ended (n : ℕ) (B : ℕ → ℕ) (x y limit : ℕ) (result : Result) : Type 0 where
@@ -100,37 +100,37 @@ module _ {n : ℕ} {B : ℕ → ℕ} {x y : ℕ} where
 
 -- ---- from labels to sets
 
-module _ (ws : List ℕ) (x y budget : ℕ) (good : Accepted ws x y) where
+module _ (words : List ℕ) (x y budget : ℕ) (good : Accepted words x y) where
   abbrev start : List Node
-  start = map decode ws
+  start = map decode words
 
   abbrev labels : ℕ → ℕ
   labels = rootLabel (accepted-admitted good .formed)
 
-  start-labelled : Labelled (length ws) (parent start) labels
+  start-labelled : Labelled (length words) (parent start) labels
   start-labelled = root-labelled (accepted-admitted good .formed)
 
-  start-serving : Serving (length ws) labels x y start 0 (begin (sameSet x y) 0) Unfinished
+  start-serving : Serving (length words) labels x y start 0 (begin (sameSet x y) 0) Unfinished
   start-serving = serving-start (accepted-admitted good) start-labelled (record { x = good .left; y = good .right })
 
-  module _ (result : Result) (end : Ended (length ws) labels x y budget result) where
+  module _ (result : Result) (end : Ended (length words) labels x y budget result) where
     end-nodes : map decode (result .table) ≡ end .nodes
-    end-nodes = ap (λ l. map decode l) (end .shown) ∙ decode-words (end .nodes) (admitted-encodable (end .admitted))
+    end-nodes = ap (λ l. map decode l) (end .shown) ∙ decode-words (end .nodes) (admitted-worded (end .admitted))
 
-    same-sets : (i j : ℕ) → i < length ws → j < length ws
-        → forest.Together (parentsOf ws) i j ↔ forest.Together (parent (end .nodes)) i j
-    same-sets i j li lj = (
-      λ z. label-together (end .admitted .formed) (end .labelled) i j li lj
-          (together-label (accepted-admitted good .formed) start-labelled i j li lj z),
-      λ z. label-together (accepted-admitted good .formed) start-labelled i j li lj
-          (together-label (end .admitted .formed) (end .labelled) i j li lj z),
+    same-sets : (i j : ℕ) → i < length words → j < length words
+        → forest.Together (parentsOf words) i j ↔ forest.Together (parent (end .nodes)) i j
+    same-sets i j inside-i inside-j = (
+      λ z. label-together (end .admitted .formed) (end .labelled) i j inside-i inside-j
+          (together-label (accepted-admitted good .formed) start-labelled i j inside-i inside-j z),
+      λ z. label-together (accepted-admitted good .formed) start-labelled i j inside-i inside-j
+          (together-label (end .admitted .formed) (end .labelled) i j inside-i inside-j z),
     )
 
-    ended-faithful : (4 * length ws + 3 ≤ budget → result .queried .answer ≢ 0) → Faithful ws x y budget result
+    ended-faithful : (4 * length words + 3 ≤ budget → result .queried .answer ≢ 0) → Faithful words x y budget result
     ended-faithful enough =
         record {
-          nodes = sym (length-map decode (result .table)) ∙ ap length end-nodes ∙ end .admitted .nodes;
-          sets = λ i j li lj. subst (λ t. forest.Together (parentsOf ws) i j ↔ forest.Together (parent t) i j) (sym end-nodes) (same-sets i j li lj);
+          nodes = sym (length-mapped decode (result .table)) ∙ ap length end-nodes ∙ end .admitted .nodes;
+          sets = λ i j inside-i inside-j. subst (λ t. forest.Together (parentsOf words) i j ↔ forest.Together (parent t) i j) (sym end-nodes) (same-sets i j inside-i inside-j);
           yes = λ e. label-together (accepted-admitted good .formed) start-labelled x y (good .left) (good .right) (end .yes e);
           no = λ e z. end .no e (together-label (accepted-admitted good .formed) start-labelled x y (good .left) (good .right) z);
           within = end .within;
@@ -138,24 +138,24 @@ module _ (ws : List ℕ) (x y budget : ℕ) (good : Accepted ws x y) where
           enough = enough;
         }
 
-  steps-faithful : Faithful ws x y budget (steps budget 0 (begin (sameSet x y) 0) start)
+  steps-faithful : Faithful words x y budget (steps budget 0 (begin (sameSet x y) 0) start)
   steps-faithful =
       ended-faithful (steps budget 0 (begin (sameSet x y) 0) start)
       (steps-ended budget 0 budget (begin (sameSet x y) 0) start (omega arith) start-serving)
       (λ l. steps-enough (rank start) budget 0 (begin (sameSet x y) 0) start start-serving (λ i. refl)
-      (start-enough (length ws) (parent start) (rank start) x y budget (good .left) (good .right) l))
+      (start-enough (length words) (parent start) (rank start) x y budget (good .left) (good .right) l))
 
 -- an enquiry that is not refused is faithful
-pub queried-faithful : (ws : List ℕ) (x y budget : ℕ) → queried ws x y budget .queried .number ≡ 0
-    → Faithful ws x y budget (queried ws x y budget)
+pub queried-faithful : (words : List ℕ) (x y budget : ℕ) → queried words x y budget .queried .number ≡ 0
+    → Faithful words x y budget (queried words x y budget)
 unfolding queried
-queried-faithful ws x y budget =
-    split (eqb (refusal ws x y) 0)
-    (λ e. rw e (λ z. steps-faithful ws x y budget (accepted ws x y (eqb-true (refusal ws x y) 0 e))))
-    (λ e. rw e (λ z. absurd (eqb-false (refusal ws x y) 0 e z)))
+queried-faithful words x y budget =
+    split (eqb (refusal words x y) 0)
+    (λ e. rw e (λ z. steps-faithful words x y budget (accepted words x y (eqb-true (refusal words x y) 0 e))))
+    (λ e. rw e (λ z. absurd (eqb-false (refusal words x y) 0 e z)))
 
 -- and so is what the caller is told of it
-pub told-faithful : (ws : List ℕ) (x y budget : ℕ) (result : Result) → result ≡ queried ws x y budget
-    → result .queried .number ≡ 0 → Faithful ws x y budget result
-told-faithful ws x y budget result e none =
-    subst (Faithful ws x y budget) (sym e) (queried-faithful ws x y budget (ap (λ k. k .queried .number) (sym e) ∙ none))
+pub told-faithful : (words : List ℕ) (x y budget : ℕ) (result : Result) → result ≡ queried words x y budget
+    → result .queried .number ≡ 0 → Faithful words x y budget result
+told-faithful words x y budget result e none =
+    subst (Faithful words x y budget) (sym e) (queried-faithful words x y budget (ap (λ k. k .queried .number) (sym e) ∙ none))

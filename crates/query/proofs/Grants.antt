@@ -1,7 +1,7 @@
 -- An enquiry from grant to grant, on words: what holds of it stays, its result stays, and the grants left fall.
 --
 --   Going p               not over: unanswered, with a grant left
---   Carried ws p ws′ p′   the enquiry p on the words ws has become p′ on ws′ by one grant
+--   Carried words p words′ p′   the enquiry p on the words words has become p′ on words′ by one grant or more
 --
 -- Main laws: carried, one grant carries an enquiry on; rest-over, the result of one that is over; query-refused and
 -- query-answered, the whole enquiry.
@@ -27,16 +27,17 @@ use Rattle.process.specs.Access.{accessOf}
 use Rattle.process.specs.Advance.{advanceOf}
 use Rattle.rules.specs.Report.{isFinal}
 use Rattle.rules.specs.Table.{seen, touched}
+use Rattle.table.specs.Touch.{Touchable}
+use Rattle.table.proofs.Words.{decode-words}
 use Rattle.query.specs.declared.Queried.{Queried}
 use Rattle.query.specs.declared.Progress.{Progress}
 use Rattle.query.specs.Query.{refusal, Result, answered, granted, steps, sameSet, queried}
 use Rattle.query.specs.Progress.{isOver, advanced, progressed, tableAfter, rest}
-use Rattle.query.specs.Ready.{Touchable, Serving, Ready}
-use Rattle.query.proofs.Words.{decode-words}
+use Rattle.query.specs.Ready.{Serving, Ready}
+use Rattle.query.proofs.Words.{admitted-worded, words-kept}
 use Rattle.query.proofs.Labels.{rootLabel, root-labelled}
 use Rattle.query.proofs.Refusal.{Accepted, accepted, accepted-admitted}
-use Rattle.query.proofs.Accesses.{admitted-encodable, words-kept, Sees}
-use Rattle.query.proofs.Steps.{unfinished, serving-step, serving-inner, serving-start}
+use Rattle.query.proofs.Steps.{unfinished, serving-step, serving-within, serving-start}
 
 -- ---- one grant
 
@@ -60,29 +61,31 @@ unfolding progressed
 progress-keeps p t = split (isOver p) (λ e. rw e (omega arith)) (λ e. rw e (omega arith))
 
 -- a grant to an enquiry that is over does nothing
-pub grant-over : (ws : List ℕ) (p : Progress) → Ready (map decode ws) p → isOver p ≡ true
-    → (p ≡ progressed p (map decode ws)) × (ws ≡ map encode (tableAfter p (map decode ws)))
+pub grant-over : (words : List ℕ) (p : Progress) → Ready (map decode words) p → isOver p ≡ true
+    → (p ≡ progressed p (map decode words)) × (words ≡ map encode (tableAfter p (map decode words)))
 unfolding progressed tableAfter
-grant-over ws p ready e = rw e (refl, words-kept ws (ready .serving .admitted))
+grant-over words p ready e = rw e (refl, words-kept words (ready .serving .admitted))
 
 -- the access that the head makes is one that it may make
 pub grant-touchable : {t : List Node} (p : Progress) (access : Access) → Ready t p → access ≡ accessOf (p .head) → Touchable t access
-grant-touchable p access ready e =
-    record { nodes = ready .nodes; admitted = ready .serving .admitted; inner = rw e (serving-inner (ready .serving)) }
+grant-touchable {t} p access ready e =
+    let admitted = ready .serving .admitted in
+    record { node = rw (e, admitted .nodes) (serving-within (ready .serving)); worded = admitted-worded admitted }
 
 -- a grant is the head's access, and where it leads
-pub grant-made : (ws : List ℕ) (p : Progress) (access : Access) (found : Node) (ws′ : List ℕ) (next : Advanced) → isOver p ≡ false
-    → access ≡ accessOf (p .head) → Sees ws access found ws′ → next ≡ advanceOf (p .head) found (p .used + 1)
-    → (record { head = next .head; answer = next .event .answer; used = p .used + 1; left = p .left - 1 } ≡ progressed p (map decode ws))
-    × (ws′ ≡ map encode (tableAfter p (map decode ws)))
+pub grant-made : (words : List ℕ) (p : Progress) (access : Access) (found : Node) (words′ : List ℕ) (next : Advanced) → isOver p ≡ false
+    → access ≡ accessOf (p .head) → found ≡ seen (map decode words) access → words′ ≡ map encode (touched (map decode words) access)
+    → next ≡ advanceOf (p .head) found (p .used + 1)
+    → (record { head = next .head; answer = next .event .answer; used = p .used + 1; left = p .left - 1 } ≡ progressed p (map decode words))
+    × (words′ ≡ map encode (tableAfter p (map decode words)))
 unfolding progressed tableAfter
-grant-made ws p access found ws′ next more chosen sees made =
+grant-made words p access found words′ next more chosen sees leaves made =
     let number : p .used + 1 ≡ suc (p .used) = omega arith in
-    let word : found ≡ seen (map decode ws) (accessOf (p .head)) = sees .0 ∙ ap (seen (map decode ws)) chosen in
-    let to : next ≡ granted (p .head) (map decode ws) (p .used) = made ∙ ap₂ (advanceOf (p .head)) word number in
+    let word : found ≡ seen (map decode words) (accessOf (p .head)) = sees ∙ ap (seen (map decode words)) chosen in
+    let to : next ≡ granted (p .head) (map decode words) (p .used) = made ∙ ap₂ (advanceOf (p .head)) word number in
     rw more (
       λ i. record { head = to i .head; answer = to i .event .answer; used = p .used + 1; left = p .left - 1 },
-      sees .1 ∙ ap (λ a. map encode (touched (map decode ws) a)) chosen,
+      leaves ∙ ap (λ a. map encode (touched (map decode words) a)) chosen,
     )
 
 pub ready-step : {p : Progress} {t : List Node} → Ready t p → Ready (tableAfter p t) (progressed p t)
@@ -137,48 +140,55 @@ rest-over p t e = split (isFinal (p .answer)) (λ f. rw f refl) (λ f. rw f (spe
         ap (λ k. steps k (p .used) (p .head) t) none ∙ ap (λ a. answered a (p .used) t) (sym (unfinished (p .answer) f))
 
 -- an enquiry that is over is told so, and its table stays
-pub told-over : (ws : List ℕ) (p : Progress) (told : Queried) → Ready (map decode ws) p → isOver p ≡ true
+pub told-over : (words : List ℕ) (p : Progress) (told : Queried) → Ready (map decode words) p → isOver p ≡ true
     → told ≡ record { number = 0; answer = answerNumber (p .answer); used = p .used }
-    → record { queried = told; table = ws } ≡ rest p (map decode ws)
-told-over ws p told ready over e =
-    (λ i. record { queried = e i; table = words-kept ws (ready .serving .admitted) i }) ∙ sym (rest-over p (map decode ws) over)
+    → record { queried = told; table = words } ≡ rest p (map decode words)
+told-over words p told ready over e =
+    (λ i. record { queried = e i; table = words-kept words (ready .serving .admitted) i }) ∙ sym (rest-over p (map decode words) over)
 
 -- ---- one grant, on words
 
-pub record Carried (ws : List ℕ) (p : Progress) (ws′ : List ℕ) (p′ : Progress) : Type 0 where
-  pub ready : Ready (map decode ws′) p′
-  pub same : rest p′ (map decode ws′) ≡ rest p (map decode ws)
+pub record Carried (words : List ℕ) (p : Progress) (words′ : List ℕ) (p′ : Progress) : Type 0 where
+  pub ready : Ready (map decode words′) p′
+  pub same : rest p′ (map decode words′) ≡ rest p (map decode words)
   pub keeps : p′ .left ≤ p .left
   pub falls : isOver p ≡ false → p′ .left < p .left
 
-module _ (ws ws′ : List ℕ) (p p′ : Progress) (ready : Ready (map decode ws) p)
-    (head : p′ ≡ progressed p (map decode ws)) (table : ws′ ≡ map encode (tableAfter p (map decode ws))) where
-  next-nodes : map decode ws′ ≡ tableAfter p (map decode ws)
+module _ (words words′ : List ℕ) (p p′ : Progress) (ready : Ready (map decode words) p)
+    (head : p′ ≡ progressed p (map decode words)) (table : words′ ≡ map encode (tableAfter p (map decode words))) where
+  next-nodes : map decode words′ ≡ tableAfter p (map decode words)
   next-nodes =
       ap (λ l. map decode l) table
-      ∙ decode-words (tableAfter p (map decode ws)) (admitted-encodable (ready-step ready .serving .admitted))
+      ∙ decode-words (tableAfter p (map decode words)) (admitted-worded (ready-step ready .serving .admitted))
 
-  pub carried : Carried ws p ws′ p′
+  pub carried : Carried words p words′ p′
   carried =
       record {
         ready = rw (next-nodes, head) (ready-step ready);
-        same = rw (next-nodes, head) (rest-step p (map decode ws));
-        keeps = rw head (progress-keeps p (map decode ws));
-        falls = λ e. rw head (progress-falls p (map decode ws) e);
+        same = rw (next-nodes, head) (rest-step p (map decode words));
+        keeps = rw head (progress-keeps p (map decode words));
+        falls = λ e. rw head (progress-falls p (map decode words) e);
       }
 
 -- and the next grant carries it further
-pub carried-on : {ws ws′ ws″ : List ℕ} {p p′ p″ : Progress} → Carried ws p ws′ p′ → p″ ≡ progressed p′ (map decode ws′)
-    → ws″ ≡ map encode (tableAfter p′ (map decode ws′)) → Carried ws′ p′ ws″ p″
-carried-on {ws} {ws′} {ws″} {p} {p′} {p″} before head table = carried ws′ ws″ p′ p″ (before .ready) head table
+pub carried-on : {words words′ words″ : List ℕ} {p p′ p″ : Progress} → Carried words p words′ p′ → p″ ≡ progressed p′ (map decode words′)
+    → words″ ≡ map encode (tableAfter p′ (map decode words′)) → Carried words p words″ p″
+carried-on {words} {words′} {words″} {p} {p′} {p″} before head table =
+    let next = carried words′ words″ p′ p″ (before .ready) head table in
+    record {
+      ready = next .ready;
+      same = next .same ∙ before .same;
+      keeps = omega (arith, next .keeps, before .keeps);
+      falls = λ e. omega (arith, next .keeps, before .falls e);
+    }
 
 -- ---- the start
 
-ready-start : (ws : List ℕ) (x y budget : ℕ) (h : Head) → h ≡ begin (sameSet x y) 0 → budget ≤ 65535 → Accepted ws x y
-    → Ready (map decode ws) (record { head = h; answer = Unfinished; used = 0; left = budget })
-ready-start ws x y budget h e small good =
+ready-start : (words : List ℕ) (x y budget : ℕ) (h : Head) → h ≡ begin (sameSet x y) 0 → budget ≤ 65535 → Accepted words x y
+    → Ready (map decode words) (record { head = h; answer = Unfinished; used = 0; left = budget })
+ready-start words x y budget h e small good =
     record {
-      nodes = length ws;
+      nodes = length words;
       labels = rootLabel (accepted-admitted good .formed);
       x = x;
       y = y;
@@ -191,26 +201,26 @@ ready-start ws x y budget h e small good =
       room = omega (arith, small);
     }
 
-module _ (ws : List ℕ) (x y number : ℕ) (told : number ≡ refusal ws x y) where
+module _ (words : List ℕ) (x y number : ℕ) (told : number ≡ refusal words x y) where
   pub query-refused : number ≢ 0 → (budget : ℕ)
-      → record { queried = record { number = number; answer = 0; used = 0 }; table = ws } ≡ queried ws x y budget
+      → record { queried = record { number = number; answer = 0; used = 0 }; table = words } ≡ queried words x y budget
   unfolding queried
   query-refused some budget =
-      let test : eqb (refusal ws x y) 0 ≡ false = ne-eqb (refusal ws x y) 0 (λ e. some (told ∙ e)) in
-      rw test (λ i. record { queried = record { number = told i; answer = 0; used = 0 }; table = ws })
+      let test : eqb (refusal words x y) 0 ≡ false = ne-eqb (refusal words x y) 0 (λ e. some (told ∙ e)) in
+      rw test (λ i. record { queried = record { number = told i; answer = 0; used = 0 }; table = words })
 
   module _ (none : number ≡ 0) where
-    pub query-accepted : Accepted ws x y
-    query-accepted = accepted ws x y (sym told ∙ none)
+    pub query-accepted : Accepted words x y
+    query-accepted = accepted words x y (sym told ∙ none)
 
     module _ (budget : ℕ) (h : Head) (begun : h ≡ begin (sameSet x y) 0) where
-      pub query-ready : budget ≤ 65535 → Ready (map decode ws) (record { head = h; answer = Unfinished; used = 0; left = budget })
-      query-ready small = ready-start ws x y budget h begun small query-accepted
+      pub query-ready : budget ≤ 65535 → Ready (map decode words) (record { head = h; answer = Unfinished; used = 0; left = budget })
+      query-ready small = ready-start words x y budget h begun small query-accepted
 
       pub query-answered : (result : Result)
-          → result ≡ rest (record { head = h; answer = Unfinished; used = 0; left = budget }) (map decode ws)
-          → result ≡ queried ws x y budget
+          → result ≡ rest (record { head = h; answer = Unfinished; used = 0; left = budget }) (map decode words)
+          → result ≡ queried words x y budget
       unfolding queried rest
       query-answered result e =
-          let test : eqb (refusal ws x y) 0 ≡ true = eq-eqb (refusal ws x y) 0 (sym told ∙ none) in
-          rw test (e ∙ ap (λ k. steps budget 0 k (map decode ws)) begun)
+          let test : eqb (refusal words x y) 0 ≡ true = eq-eqb (refusal words x y) 0 (sym told ∙ none) in
+          rw test (e ∙ ap (λ k. steps budget 0 k (map decode words)) begun)

@@ -30,7 +30,7 @@ module _ {n : ℕ} {p r B p′ r′ : ℕ → ℕ} {v k u : ℕ} (formed : WellF
   halved-labelled labelled =
       record {
         along = λ i l. along i l (ℕ-discrete i v);
-        apart = λ i j li lj ri rj. labelled .apart i j li lj (halved-root i ri) (halved-root j rj);
+        apart = λ i j inside-i inside-j root-i root-j. labelled .apart i j inside-i inside-j (halved-root i root-i) (halved-root j root-j);
       }
     where
       along : (i : ℕ) → i < n → Dec (i ≡ v) → B (p′ i) ≡ B i
@@ -43,6 +43,6 @@ module _ {n : ℕ} {p r B p′ r′ : ℕ → ℕ} {v k u : ℕ} (formed : WellF
         root = λ i l. halved-root i;
         frozen = λ i l d. halved-ranks i;
         grows = λ i l. omega (arith, halved-ranks i);
-        merges = λ i j li lj e. e;
+        merges = λ i j inside-i inside-j e. e;
         larger = λ i l. omega arith;
       }

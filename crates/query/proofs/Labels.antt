@@ -31,7 +31,7 @@ module _ {n : ℕ} {p r : ℕ → ℕ} (formed : WellFormed n p r) where
   root-labelled =
       record {
         along = λ i l. along i l (ℕ-discrete (p i) i);
-        apart = λ i j li lj ri rj e. label-root i li ri ∙ e ∙ sym (label-root j lj rj);
+        apart = λ i j inside-i inside-j root-i root-j e. label-root i inside-i root-i ∙ e ∙ sym (label-root j inside-j root-j);
       }
     where
       along : (i : ℕ) → i < n → Dec (p i ≡ i) → rootLabel (p i) ≡ rootLabel i

@@ -2,7 +2,6 @@
 pub mod Words
 pub mod Labels
 pub mod Refusal
-pub mod Accesses
 pub mod Halving
 pub mod Steps
 pub mod Grants

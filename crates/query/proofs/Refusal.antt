@@ -1,7 +1,8 @@
 -- What the refusals leave: the table of an enquiry that is not refused is admitted.
 --
---   Accepted ws x y   the enquiry about x and y is not refused
---   Sane ws i         the word of node i may stand in the table
+--   Accepted words x y   the enquiry about x and y is not refused
+--   Looked words i       the words from node i on are looked at, and none of them is faulty
+--   Sane words i         the word of node i may stand in the table
 --
 -- Main law: accepted-admitted.
 use mathlib.Core.Path.{_≡_, refl, sym, ap, _∙_}
@@ -18,9 +19,10 @@ use Rattle.word.specs.declared.Node.{Node}
 use Rattle.word.specs.Word.{rankOf, parentOf, decode, before, key}
 use Rattle.word.proofs.Laws.{before-key}
 use Rattle.rules.specs.Table.{parent, rank}
+use Rattle.table.proofs.Words.{length-mapped}
 use Rattle.query.specs.Query.{wordAt, isFaulty, anyFaulty, refusal}
 use Rattle.query.specs.Ready.{Admitted}
-use Rattle.query.proofs.Words.{length-map, parent-decoded, rank-decoded}
+use Rattle.query.proofs.Words.{parent-decoded, rank-decoded}
 
 -- ---- chains of tests
 
@@ -43,90 +45,105 @@ others-false false c e = e
 -- ---- the words
 
 -- one word fewer to look at
-pub any-faulty-step : (ws : List ℕ) (i : ℕ) → 0 < i → anyFaulty ws i ≡ cond (isFaulty ws (i - 1)) true (anyFaulty ws (i - 1))
-any-faulty-step ws zero l = absurd (omega arith)
-any-faulty-step ws (suc k) l =
+any-faulty-step : (words : List ℕ) (i : ℕ) → 0 < i → anyFaulty words i ≡ cond (isFaulty words (i - 1)) true (anyFaulty words (i - 1))
+any-faulty-step words zero l = absurd (omega arith)
+any-faulty-step words (suc k) l =
     let same : suc k - 1 ≡ k = omega arith in
     rw same refl
 
-none-faulty : (ws : List ℕ) (k : ℕ) → anyFaulty ws k ≡ false → (i : ℕ) → i < k → isFaulty ws i ≡ false
-none-faulty ws zero e i l = absurd (omega arith)
-none-faulty ws (suc k) e i l = go (ℕ-discrete i k) (λ m. none-faulty ws k (others-false (isFaulty ws k) _ e) i m)
+pub record Looked (words : List ℕ) (i : ℕ) : Type 0 where
+  pub within : i ≤ length words
+  pub same : anyFaulty words i ≡ anyFaulty words (length words)
+
+module _ {words : List ℕ} {i : ℕ} (looked : Looked words i) where
+  pub looked-faulty : 0 < i → isFaulty words (i - 1) ≡ true → true ≡ anyFaulty words (length words)
+  looked-faulty l e = sym (any-faulty-step words i l ∙ rw e refl) ∙ looked .same
+
+  pub looked-on : 0 < i → isFaulty words (i - 1) ≡ false → Looked words (i - 1)
+  looked-on l e =
+      record { within = omega (arith, looked .within); same = sym (any-faulty-step words i l ∙ rw e refl) ∙ looked .same }
+
+  pub looked-all : 0 ≡ i → false ≡ anyFaulty words (length words)
+  looked-all none = ap (anyFaulty words) none ∙ looked .same
+
+none-faulty : (words : List ℕ) (k : ℕ) → anyFaulty words k ≡ false → (i : ℕ) → i < k → isFaulty words i ≡ false
+none-faulty words zero e i l = absurd (omega arith)
+none-faulty words (suc k) e i l = go (ℕ-discrete i k) (λ m. none-faulty words k (others-false (isFaulty words k) _ e) i m)
   where
-    go : Dec (i ≡ k) → (i < k → isFaulty ws i ≡ false) → isFaulty ws i ≡ false
-    go (yes d) on = rw d (first-false (isFaulty ws k) _ e)
+    go : Dec (i ≡ k) → (i < k → isFaulty words i ≡ false) → isFaulty words i ≡ false
+    go (yes d) on = rw d (first-false (isFaulty words k) _ e)
     go (no d) on = on (omega arith)
 
-pub record Accepted (ws : List ℕ) (x y : ℕ) : Type 0 where
-  pub few : length ws ≤ 4096
-  pub left : x < length ws
-  pub right : y < length ws
-  pub words : (i : ℕ) → i < length ws → isFaulty ws i ≡ false
+pub record Accepted (words : List ℕ) (x y : ℕ) : Type 0 where
+  pub few : length words ≤ 4096
+  pub left : x < length words
+  pub right : y < length words
+  pub each : (i : ℕ) → i < length words → isFaulty words i ≡ false
 
-pub accepted : (ws : List ℕ) (x y : ℕ) → refusal ws x y ≡ 0 → Accepted ws x y
+pub accepted : (words : List ℕ) (x y : ℕ) → refusal words x y ≡ 0 → Accepted words x y
 unfolding refusal
-accepted ws x y none =
-    let long = others-passed (eqb (length ws) 0) _ _ (omega arith) none in
-    let left = others-passed (ltb 4096 (length ws)) _ _ (omega arith) long in
-    let right = others-passed (leb (length ws) x) _ _ (omega arith) left in
-    let words = others-passed (leb (length ws) y) _ _ (omega arith) right in
+accepted words x y none =
+    let long = others-passed (eqb (length words) 0) _ _ (omega arith) none in
+    let left = others-passed (ltb 4096 (length words)) _ _ (omega arith) long in
+    let right = others-passed (leb (length words) x) _ _ (omega arith) left in
+    let faulty = others-passed (leb (length words) y) _ _ (omega arith) right in
     record {
-      few = ltb-false 4096 (length ws) (first-passed (ltb 4096 (length ws)) _ _ (omega arith) long);
-      left = leb-false (length ws) x (first-passed (leb (length ws) x) _ _ (omega arith) left);
-      right = leb-false (length ws) y (first-passed (leb (length ws) y) _ _ (omega arith) right);
-      words = none-faulty ws (length ws) (first-passed (anyFaulty ws (length ws)) _ _ (omega arith) words);
+      few = ltb-false 4096 (length words) (first-passed (ltb 4096 (length words)) _ _ (omega arith) long);
+      left = leb-false (length words) x (first-passed (leb (length words) x) _ _ (omega arith) left);
+      right = leb-false (length words) y (first-passed (leb (length words) y) _ _ (omega arith) right);
+      each = none-faulty words (length words) (first-passed (anyFaulty words (length words)) _ _ (omega arith) faulty);
     }
 
-pub record Sane (ws : List ℕ) (i : ℕ) : Type 0 where
-  pub inside : parentOf (wordAt ws i) < length ws
-  pub rank : rankOf (wordAt ws i) ≤ 12
-  pub order : before (rankOf (wordAt ws (parentOf (wordAt ws i)))) (parentOf (wordAt ws i)) (rankOf (wordAt ws i)) i ≡ false
+pub record Sane (words : List ℕ) (i : ℕ) : Type 0 where
+  pub inside : parentOf (wordAt words i) < length words
+  pub rank : rankOf (wordAt words i) ≤ 12
+  pub order : before (rankOf (wordAt words (parentOf (wordAt words i)))) (parentOf (wordAt words i)) (rankOf (wordAt words i)) i ≡ false
 
-sane : (ws : List ℕ) (i : ℕ) → isFaulty ws i ≡ false → Sane ws i
-sane ws i e =
-    let within = leb (length ws) (parentOf (wordAt ws i)) in
-    let small = ltb 12 (rankOf (wordAt ws i)) in
+sane : (words : List ℕ) (i : ℕ) → isFaulty words i ≡ false → Sane words i
+sane words i e =
+    let within = leb (length words) (parentOf (wordAt words i)) in
+    let small = ltb 12 (rankOf (wordAt words i)) in
     let others = others-false within _ e in
     record {
-      inside = leb-false (length ws) (parentOf (wordAt ws i)) (first-false within _ e);
-      rank = ltb-false 12 (rankOf (wordAt ws i)) (first-false small _ others);
+      inside = leb-false (length words) (parentOf (wordAt words i)) (first-false within _ e);
+      rank = ltb-false 12 (rankOf (wordAt words i)) (first-false small _ others);
       order = others-false small _ others;
     }
 
 -- ---- the table
 
-module _ {ws : List ℕ} {x y : ℕ} (accepted : Accepted ws x y) where
+module _ {words : List ℕ} {x y : ℕ} (accepted : Accepted words x y) where
   abbrev t : List Node
-  t = map decode ws
+  t = map decode words
 
-  sane-at : (i : ℕ) → i < length ws → Sane ws i
-  sane-at i l = sane ws i (accepted .words i l)
+  sane-at : (i : ℕ) → i < length words → Sane words i
+  sane-at i l = sane words i (accepted .each i l)
 
   -- a parent other than the node comes after it: it does not come before it, and has another number
-  rising : (i : ℕ) → i < length ws → parent t i ≢ i → key (rank t i) i < key (rank t (parent t i)) (parent t i)
+  rising : (i : ℕ) → i < length words → parent t i ≢ i → key (rank t i) i < key (rank t (parent t i)) (parent t i)
   rising i l d =
-      let above = parentOf (wordAt ws i) in
+      let above = parentOf (wordAt words i) in
       let inside = sane-at i l .inside in
-      let order = sym (before-key (rankOf (wordAt ws above)) above (rankOf (wordAt ws i)) i (omega (arith, accepted .few)) (omega (arith, accepted .few))) ∙ sane-at i l .order in
+      let order = sym (before-key (rankOf (wordAt words above)) above (rankOf (wordAt words i)) i (omega (arith, accepted .few)) (omega (arith, accepted .few))) ∙ sane-at i l .order in
       omega (
         arith,
         d,
         accepted .few,
-        parent-decoded ws i l,
-        rank-decoded ws i l,
-        rank-decoded ws above inside,
-        ap (rank t) (parent-decoded ws i l),
-        ltb-false (key (rankOf (wordAt ws above)) above) (key (rankOf (wordAt ws i)) i) order,
+        parent-decoded words i l,
+        rank-decoded words i l,
+        rank-decoded words above inside,
+        ap (rank t) (parent-decoded words i l),
+        ltb-false (key (rankOf (wordAt words above)) above) (key (rankOf (wordAt words i)) i) order,
       )
 
-  pub accepted-admitted : Admitted (length ws) (map decode ws)
+  pub accepted-admitted : Admitted (length words) (map decode words)
   accepted-admitted =
       record {
-        nodes = length-map decode ws;
+        nodes = length-mapped decode words;
         formed = record {
           limit = omega (arith, accepted .few);
-          inside = λ i l. omega (arith, parent-decoded ws i l, sane-at i l .inside);
+          inside = λ i l. omega (arith, parent-decoded words i l, sane-at i l .inside);
           rising = rising;
         };
-        ranks = λ i l. omega (arith, rank-decoded ws i l, sane-at i l .rank);
+        ranks = λ i l. omega (arith, rank-decoded words i l, sane-at i l .rank);
       }

@@ -1,5 +1,8 @@
 -- One step of an enquiry, stage by stage: the table stays admitted, its sets stay, and an answer is right about them.
 --
+--   Known t′ head    what the head knows after its grant, on the table t′
+--   Next t′ next     what holds of the enquiry after the grant that led to `next`, on the table t′
+--
 -- Main laws: serving-step, what holds of an enquiry holds after one step more; serving-start, it holds at the start.
 use mathlib.Core.Path.{_≡_, refl, sym, ap, _∙_, subst}
 use mathlib.Core.Logic.{_≢_}
@@ -36,8 +39,10 @@ use Rattle.rules.specs.Table.{at, parent, rank, seen, touched}
 use Rattle.rules.proofs.Table.{parent-changed, rank-changed}
 use Rattle.rules.proofs.Stages.{Inside, Finding, Above, ReadingParent, Halving, ReadingAgain, Rereading, Knows, side-node, knows-later, finding-begin}
 use Rattle.rules.proofs.Steps.{ends-one, ends-two, finding-moved}
+use Rattle.table.specs.Touch.{Within}
+use Rattle.table.proofs.Within.{access-within}
 use Rattle.query.specs.Query.{granted, sameSet}
-use Rattle.query.specs.Ready.{Admitted, Inner, Says, Serving}
+use Rattle.query.specs.Ready.{Admitted, Says, Serving}
 use Rattle.query.proofs.Halving.{halved-ranks, halved-formed, halved-labelled, halved-later}
 
 -- an answer that is not final is none
@@ -54,7 +59,6 @@ no-union e = let z : _≡_ {A = ℕ} 2 1 = ap kindNumber e in absurd (omega arit
 
 module _ {n : ℕ} {t : List Node} {B : ℕ → ℕ} {a b : ℕ} (admitted : Admitted n t) (labelled : Labelled n (parent t) B)
     (inside : Inside n (sameSet a b)) (used : ℕ) (h : Head) where
-  -- what the head knows after its grant on a table t′
   abbrev Known : List Node → Head → Type 0
   Known t′ head = Knows n (parent t′) (rank t′) B (λ point. B a ≢ B b) (suc used) (sameSet a b) head (head .stage)
 
@@ -221,9 +225,9 @@ module _ {n : ℕ} {t : List Node} {B : ℕ → ℕ} {a b : ℕ} (admitted : Adm
       (λ e. rw e (read-on (staged h (restart SameSet)) refl (knows .finding)))
 
   -- every stage; a same-set has none of a union's
-  stage-step : (st : Stage) → restingAt st ≡ false
-      → Knows n (parent t) (rank t) B (λ point. B a ≢ B b) used (sameSet a b) h st
-      → Next (touched t (accessAt h st)) (advanceAt h (seen t (accessAt h st)) (suc used) st)
+  stage-step : (stage : Stage) → restingAt stage ≡ false
+      → Knows n (parent t) (rank t) B (λ point. B a ≢ B b) used (sameSet a b) h stage
+      → Next (touched t (accessAt h stage)) (advanceAt h (seen t (accessAt h stage)) (suc used) stage)
   stage-step Resting busy knows = absurd (true≢false busy)
   stage-step (ReadNode k s) busy knows = read-node k s knows
   stage-step (ReadParent k s r u) busy knows = read-parent k s r u knows
@@ -235,8 +239,8 @@ module _ {n : ℕ} {t : List Node} {B : ℕ → ℕ} {a b : ℕ} (admitted : Adm
   stage-step (Link r e) busy knows = no-union (knows .finding .kind)
   stage-step (Raise r) busy knows = no-union (knows .kind)
 
-  stage-ranks : (st : Stage) → Knows n (parent t) (rank t) B (λ point. B a ≢ B b) used (sameSet a b) h st
-      → (i : ℕ) → rank (touched t (accessAt h st)) i ≡ rank t i
+  stage-ranks : (stage : Stage) → Knows n (parent t) (rank t) B (λ point. B a ≢ B b) used (sameSet a b) h stage
+      → (i : ℕ) → rank (touched t (accessAt h stage)) i ≡ rank t i
   stage-ranks Resting knows i = refl
   stage-ranks (ReadNode k s) knows i = refl
   stage-ranks (ReadParent k s r u) knows i = refl
@@ -263,23 +267,12 @@ module _ {n : ℕ} {t : List Node} {B : ℕ → ℕ} {a b used : ℕ} {h : Head}
 
   -- ---- what the code needs of the head's stage
 
-  inner-at : (st : Stage) → Knows n (parent t) (rank t) B (λ point. B a ≢ B b) used (sameSet a b) h st → Inner n (accessAt h st)
-  inner-at Resting knows = tt
-  inner-at (ReadNode k s) knows = side-node h knows s
-  inner-at (ReadParent k s r u) knows = knows .parent .node
-  inner-at (Halve k s r u w) knows = side-node h (knows .finding) s
-  inner-at (ReadAgain k s u) knows = knows .parent .node
-  inner-at (RereadX point) knows = knows .finding .left
-  inner-at ReadRankX knows = knows .finding .left
-  inner-at (ReadRankY r) knows = knows .finding .right
-  inner-at (Link r e) knows = knows .finding .left
-  inner-at (Raise r) knows = knows .node
-
-  pub serving-inner : Inner n (accessOf h)
+  pub serving-within : Within n (accessOf h)
   unfolding accessOf
-  serving-inner = inner-at (h .stage) (serving .knows)
+  serving-within =
+      access-within n (parent t) (rank t) B (λ point. B a ≢ B b) used (sameSet a b) h (h .stage) (serving .knows)
 
-  raisable-at : (st : Stage) → Knows n (parent t) (rank t) B (λ point. B a ≢ B b) used (sameSet a b) h st → Raisable st
+  raisable-at : (stage : Stage) → Knows n (parent t) (rank t) B (λ point. B a ≢ B b) used (sameSet a b) h stage → Raisable stage
   raisable-at Resting knows = tt
   raisable-at (ReadNode k s) knows = tt
   raisable-at (ReadParent k s r u) knows = tt

@@ -1,14 +1,14 @@
 -- Document 01, "Counter enquiry", and refusals 15 and 16: a same-set alone on a lent table, with a budget of grants
 -- (document 01: allowance).
 --
---   isFaulty ws i             the word of node i cannot stand in a table
---   anyFaulty ws k            one of the first k words cannot
---   refusal ws x y            the refusal's number, 0 for none
---   Result                    what the caller is told, and the words at exit
---   answered a used t         the result of an enquiry that was told a after so many grants
---   steps budget used h t     the steps of head h on the table t, after the grants used so far
---   sameSet x y               the request that the enquiry serves
---   queried ws x y budget     the enquiry
+--   isFaulty words i           the word of node i cannot stand in a table
+--   anyFaulty words k          one of the first k words cannot
+--   refusal words x y          the refusal's number, 0 for none
+--   Result                     what the caller is told, and the words at exit
+--   answered a used t          the result of an enquiry that was told a after so many grants
+--   steps budget used h t      the steps of head h on the table t, after the grants used so far
+--   sameSet x y                the request that the enquiry serves
+--   queried words x y budget   the enquiry
 use mathlib.Core.Bool.{Bool, true, false, cond}
 use mathlib.Core.List.{List, map}
 use Prim.Native.Nat.{ℕ, zero, suc}
@@ -31,28 +31,28 @@ use Rattle.rules.specs.Table.{seen, touched}
 use Rattle.query.specs.declared.Queried.{Queried}
 
 abbrev pub wordAt : List ℕ → ℕ → ℕ
-wordAt ws i = getD ws i 0
+wordAt words i = getD words i 0
 
 -- 16: a word has a parent not below the length, a rank above 12, or a parent other than itself that comes before it
 -- (no node comes before itself).
 abbrev pub isFaulty : List ℕ → ℕ → Bool
-isFaulty ws i =
-    cond (leb (length ws) (parentOf (wordAt ws i))) true
-    (cond (ltb 12 (rankOf (wordAt ws i))) true
-    (before (rankOf (wordAt ws (parentOf (wordAt ws i)))) (parentOf (wordAt ws i)) (rankOf (wordAt ws i)) i))
+isFaulty words i =
+    cond (leb (length words) (parentOf (wordAt words i))) true
+    (cond (ltb 12 (rankOf (wordAt words i))) true
+    (before (rankOf (wordAt words (parentOf (wordAt words i)))) (parentOf (wordAt words i)) (rankOf (wordAt words i)) i))
 
 abbrev pub anyFaulty : List ℕ → ℕ → Bool
-anyFaulty ws zero = false
-anyFaulty ws (suc k) = cond (isFaulty ws k) true (anyFaulty ws k)
+anyFaulty words zero = false
+anyFaulty words (suc k) = cond (isFaulty words k) true (anyFaulty words k)
 
 -- 15: the table is empty or over 4,096, or a place isn't below its length. Checked before 16.
 unfoldable pub refusal : List ℕ → ℕ → ℕ → ℕ
-refusal ws x y =
-    cond (eqb (length ws) 0) 15
-    (cond (ltb 4096 (length ws)) 15
-    (cond (leb (length ws) x) 15
-    (cond (leb (length ws) y) 15
-    (cond (anyFaulty ws (length ws)) 16 0))))
+refusal words x y =
+    cond (eqb (length words) 0) 15
+    (cond (ltb 4096 (length words)) 15
+    (cond (leb (length words) x) 15
+    (cond (leb (length words) y) 15
+    (cond (anyFaulty words (length words)) 16 0))))
 
 pub record Result : Type 0 where
   pub queried : Queried
@@ -81,10 +81,10 @@ sameSet x y = record { head = 0; kind = SameSet; x = x; y = y }
 
 -- A refusal gives its number and zero for every count, and writes nothing.
 abbrev pub refused : ℕ → List ℕ → Result
-refused number ws = record { queried = record { number = number; answer = 0; used = 0 }; table = ws }
+refused number words = record { queried = record { number = number; answer = 0; used = 0 }; table = words }
 
 unfoldable pub queried : List ℕ → ℕ → ℕ → ℕ → Result
-queried ws x y budget =
-    cond (eqb (refusal ws x y) 0)
-    (steps budget 0 (begin (sameSet x y) 0) (map decode ws))
-    (refused (refusal ws x y) ws)
+queried words x y budget =
+    cond (eqb (refusal words x y) 0)
+    (steps budget 0 (begin (sameSet x y) 0) (map decode words))
+    (refused (refusal words x y) words)

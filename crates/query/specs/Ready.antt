@@ -2,8 +2,6 @@
 -- Everywhere n is the number of nodes, and B gives each node a label: two nodes have one label when they share a set.
 --
 --   Admitted n t             a table whose words were admitted
---   Inner n access           the access is to one of n nodes
---   Touchable t access       the access is to a node of the admitted table t
 --   Says B x y answer        the answer is right about the sets of x and y
 --   Serving n B x y t used   what holds of the enquiry about x and y after so many grants
 --   Ready t p                what holds of an enquiry that may go on
@@ -15,8 +13,6 @@ use lib.ListN.{length}
 use Rattle.job.specs.declared.Answer.{Answer}
 use Rattle.job.specs.declared.Answer.the-variants.{Unfinished, Joined, Together, Yes, No}
 use Rattle.word.specs.declared.Node.{Node}
-use Rattle.process.specs.declared.Access.{Access}
-use Rattle.process.specs.declared.Access.the-variants.{Idle, Load, Cas}
 use Rattle.process.specs.declared.Head.{Head}
 use Rattle.process.specs.Process.{isResting}
 use Rattle.forest.proofs.Forest.{WellFormed, Labelled}
@@ -30,16 +26,6 @@ pub record Admitted (n : ℕ) (t : List Node) : Type 0 where
   pub nodes : length t ≡ n
   pub formed : WellFormed n (parent t) (rank t)
   pub ranks : (i : ℕ) → i < n → rank t i ≤ 12
-
-abbrev pub Inner : ℕ → Access → Type 0
-Inner n Idle = Unit {0}
-Inner n (Load i) = i < n
-Inner n (Cas i expected new) = i < n
-
-pub record Touchable (t : List Node) (access : Access) : Type 0 where
-  pub nodes : ℕ
-  pub admitted : Admitted nodes t
-  pub inner : Inner nodes access
 
 abbrev pub Says : (ℕ → ℕ) → ℕ → ℕ → Answer → Type 0
 Says B x y Unfinished = Unit {0}

@@ -2,23 +2,20 @@
 use job::Answer;
 use job::Kind;
 use job::Request;
-use process::Access;
 use process::Head;
 use process::Stage;
-use word::Node;
 ghost use mathlib.Core.Path.{_≡_};
 ghost use mathlib.Core.List.{map};
 ghost use Prim.Native.Nat.{_<_, _≤_};
 ghost use lib.ListN.{length};
 ghost use Rattle.job.specs.Job.{answerNumber};
 ghost use Rattle.word.specs.Word.{before, decode, encode};
-ghost use Rattle.process.specs.declared.Access.the-variants.{Cas};
 ghost use Rattle.forest.specs.Forest.{Leads};
-ghost use Rattle.rules.specs.Table.{parent, seen, touched};
+ghost use Rattle.rules.specs.Table.{parent};
 ghost use Rattle.query.specs.Query.{isFaulty, anyFaulty, refusal, queried};
 ghost use Rattle.query.specs.Progress.{isOver, isClimbing, progressed, tableAfter, rest};
 ghost use Rattle.query.specs.Faithful.{Faithful};
-ghost use Rattle.query.specs.Ready.{Admitted, Touchable, Ready};
+ghost use Rattle.query.specs.Ready.{Admitted, Ready};
 
 // What an enquiry is told: 0, its answer (3 yes, 4 no, 0 spent) and the grants used; or a refusal's number and zeros.
 #[repr(C)]
@@ -106,34 +103,6 @@ fn refusal_of(table: &[u32], x: u32, y: u32) -> u32
     0
 }
 
-// A swap: the node that stands there, written over only if it is the expected one.
-fn swap(table: &mut [u32], node: u16, expected: Node, new: Node) -> Node
-    requires { ⌜ Touchable (map decode (now table)) (Cas node expected new) ⌝ }
-    ensures sees { λ r. ⌜ r ≡ seen (map decode (now (table .entry))) (Cas node expected new) ⌝ }
-    ensures leaves { λ _. ⌜ now (table .exit) ≡ map encode (touched (map decode (now (table .entry))) (Cas node expected new)) ⌝ }
-{
-    let at = node as usize;
-    let found = word::decoded(table[at]);
-    if word::is_same(found, expected) {
-        table[at] = word::encoded(new);
-        return found;
-    }
-    found
-}
-
-// One access to the table: the node that it sees.
-fn touch(table: &mut [u32], access: Access) -> Node
-    requires { ⌜ Touchable (map decode (now table)) access ⌝ }
-    ensures sees { λ r. ⌜ r ≡ seen (map decode (now (table .entry))) access ⌝ }
-    ensures leaves { λ _. ⌜ now (table .exit) ≡ map encode (touched (map decode (now (table .entry))) access) ⌝ }
-{
-    match access {
-        Access::Idle => Node { rank: 0, parent: 0 },
-        Access::Load(node) => word::decoded(table[node as usize]),
-        Access::Cas(node, expected, new) => swap(table, node, expected, new),
-    }
-}
-
 // Whether an enquiry is answered or has no grant left.
 fn is_over(progress: Progress) -> bool
     ensures { λ r. ⌜ r ≡ isOver progress ⌝ }
@@ -176,7 +145,7 @@ fn grant(table: &mut [u32], progress: Progress) -> Progress
     }
     let head = progress.head;
     let access = process::next_access(head);
-    let found = touch(table, access);
+    let found = table::touch(table, access);
     let advanced = process::advance(head, found, progress.used + 1);
     let next = advanced.head;
     let event = advanced.event;

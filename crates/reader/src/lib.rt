@@ -1,9 +1,7 @@
 // The reader of job files: it checks a file, and reads the requests and the runs of an accepted one where they stand.
-mod bytes;
 mod records;
 mod sections;
 
-use crate::bytes::word_at;
 use crate::records::request_here;
 use crate::records::run_here;
 use crate::sections::close_refusal;
@@ -12,6 +10,7 @@ use crate::sections::read_requests;
 use crate::sections::read_runs;
 use job::Request;
 use jobfile::Run;
+use jobfile::bytes::word_at;
 ghost use mathlib.Core.Path.{_≡_};
 ghost use Prim.Native.Nat.{_<_, _≤_};
 ghost use lib.ListN.{length, getD};

@@ -1,10 +1,10 @@
 // One record: the request or the run at a place of the file, and its refusal, 0 for none.
-use crate::bytes::byte_at;
-use crate::bytes::word_at;
 use job::Kind;
 use job::Request;
 use jobfile::Fields;
 use jobfile::Run;
+use jobfile::bytes::byte_at;
+use jobfile::bytes::word_at;
 use jobfile::does_extend;
 use jobfile::fields_refusal;
 ghost use mathlib.Core.Path.{_≡_};

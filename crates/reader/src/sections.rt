@@ -1,6 +1,4 @@
 // The sections of a file in order: the header, the requests, the runs, the close. A number of 0 is no refusal.
-use crate::bytes::sum_words;
-use crate::bytes::word_at;
 use crate::records::request_refusal;
 use crate::records::run_here;
 use crate::records::run_refusal;
@@ -9,6 +7,8 @@ use jobfile::JOB_MARK;
 use jobfile::REQUEST_MARK;
 use jobfile::RUN_MARK;
 use jobfile::Run;
+use jobfile::bytes::sum_words;
+use jobfile::bytes::word_at;
 use jobfile::sizes_refusal;
 ghost use mathlib.Core.Path.{_≡_};
 ghost use Prim.Native.Nat.{_+_, _*_, _≤_};

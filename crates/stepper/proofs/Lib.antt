@@ -1,7 +1,7 @@
 -- Laws of the lent buffers: what each access, row and entry does to what they show.
 pub mod Lists
 pub mod Shown
-pub mod Access
+pub mod Raisable
 pub mod Room
 pub mod Seek
 pub mod Served

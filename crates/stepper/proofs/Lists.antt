@@ -1,29 +1,15 @@
--- Lists read and written at one place: mapped, and as rows of four numbers.
-use mathlib.Core.Path.{_≡_, refl, sym, ap, _∙_}
-use mathlib.Core.List.{List, [], _∷_, map}
+-- The report as rows of four numbers: one row read, and one written.
+--
+-- Main laws: row-shown and stored-shown.
+use mathlib.Core.Path.{_≡_, refl, ap}
+use mathlib.Core.List.{List, [], _∷_}
 use Prim.Native.Nat.{ℕ, zero, suc, _+_, _*_, _<_}
 use native.Mathlib.Omega.{arith}
 use lib.ListN.{length, getD, set}
 use Rattle.rules.specs.declared.Row.{Row}
 use Rattle.rules.specs.Report.{noRow}
+pub use Rattle.table.proofs.Words.{length-mapped, getD-mapped}
 use Rattle.stepper.specs.Buffers.{rowIn, stored, flatRows}
-
-module _ {A B : Type 0} (f : A → B) where
-  pub getD-mapped : (l : List A) (i : ℕ) (d : A) (e : B) → i < length l → getD (map f l) i e ≡ f (getD l i d)
-  getD-mapped [] i d e h = absurd (omega arith)
-  getD-mapped (a ∷ l) zero d e h = refl
-  getD-mapped (a ∷ l) (suc i) d e h = getD-mapped l i d e (omega arith)
-
-  pub set-mapped : (l : List A) (i : ℕ) (v : A) → set (map f l) i (f v) ≡ map f (set l i v)
-  set-mapped [] i v = refl
-  set-mapped (a ∷ l) zero v = refl
-  set-mapped (a ∷ l) (suc i) v = ap {B = List B} (λ r. f a ∷ r) (set-mapped l i v)
-
-  pub length-mapped : (l : List A) → length (map f l) ≡ length l
-  length-mapped [] = refl
-  length-mapped (a ∷ l) = ap suc (length-mapped l)
-
--- ---- rows of four numbers
 
 pub length-rows : (rows : List Row) → length (flatRows rows) ≡ 4 * length rows
 length-rows [] = refl

@@ -1,10 +1,11 @@
 -- What a served grant asks of its parts, and what it leaves, from a state that the buffers show.
 --
--- Main laws: the needs of each part (raisable, touchable-here, charge-room, insertable ..), and serve-law, the whole grant.
-use mathlib.Core.Path.{_≡_, refl, sym, ap, ap₂, _∙_, subst}
+-- Main laws: what each part asks of a ready grant (ready-raisable, ready-touchable, ready-room, ready-insertable ..); serve-shown
+-- and serve-done, what the parts leave together; idle-shown and idle-done, the grant that serves nobody.
+use mathlib.Core.Path.{_≡_, refl, sym, ap, _∙_, subst}
 use mathlib.Core.Logic.{_≢_}
 use mathlib.Core.Bool.{Bool, true, false, cond}
-use mathlib.Core.List.{List, [], _∷_}
+use mathlib.Core.List.{List, [], _∷_, map}
 use Prim.Native.Nat.{ℕ, suc, _+_, _*_, _-_, _/_, _%_, _^_, _≤_, _<_}
 use native.Mathlib.Omega.{arith}
 use lib.Dec.{eqb, ltb}
@@ -12,13 +13,14 @@ use lib.ListN.{length, getD, set, drop, length-drop}
 use borrow.Author.Tests.{ltb-true, ne-eqb}
 use Rattle.job.specs.declared.Request.{Request}
 use Rattle.word.specs.declared.Node.{Node}
+use Rattle.word.specs.Word.{decode, encode}
 use Rattle.process.specs.declared.Access.{Access}
 use Rattle.process.specs.declared.Head.{Head}
 use Rattle.process.specs.declared.Advanced.{Advanced}
 use Rattle.process.specs.Access.{accessOf, Raisable}
 use Rattle.process.specs.Advance.{advanceOf}
 use Rattle.linearization.specs.Partition.{apart}
-use Rattle.linearization.specs.Entry.{Entry, insert, occurrences, flat, inserted, Insertable}
+use Rattle.linearization.specs.Entry.{occurrences, inserted, Insertable}
 use Rattle.linearization.proofs.Tests.{split}
 use Rattle.linearization.proofs.Entries.{length-insert}
 use Rattle.linearization.proofs.Replay.{replayed-rising}
@@ -27,7 +29,7 @@ use Rattle.jobfile.specs.Meaning.{meaning}
 use Rattle.jobfile.specs.Admitted.{Admitted}
 use Rattle.jobfile.proofs.RoundTrip.{admitted-meaning}
 use Rattle.mask.proofs.Laws.{flag-of, left-least}
-use Rattle.rules.specs.Table.{seen}
+use Rattle.rules.specs.Table.{seen, touched}
 use Rattle.rules.specs.Report.{charge, noRow, isFinal}
 use Rattle.rules.specs.State.{State, noRequest, requestAt, seek, resting, hasWork}
 use Rattle.rules.specs.Step.{ready, headAt, advanced, settled, served, passed, step}
@@ -43,7 +45,8 @@ use Rattle.rules.proofs.Serving.{Serving}
 use Rattle.rules.proofs.Grant.{serving-ready, step-invariant}
 use Rattle.rules.proofs.Theorem.{invariant-linearized}
 use Rattle.stepper.specs.declared.Done.{Done}
-use Rattle.stepper.specs.Buffers.{seenWords, touchedWords, Touchable, rowIn, stored}
+use Rattle.table.specs.Touch.{Touchable}
+use Rattle.stepper.specs.Buffers.{rowIn, stored}
 use Rattle.stepper.specs.Shown.{Buffers, shown, doneOf, requestsIn, Playing, Standing, Ready}
 use Rattle.stepper.proofs.Lists.{length-rows}
 use Rattle.stepper.proofs.Room.{entries-few}
@@ -105,17 +108,17 @@ settled-final qs h moved next t e =
 
 module _ {file : List ℕ} {requests h number : ℕ} {b : Buffers} (playing : Playing file requests) (nodes : length (b .table) ≡ meaning file .job .nodes)
     (present : h < 16) {S : State} {past : List Happening} {lent : List ℕ}
-    (st : Standing (requestsIn file) (length (b .table)) 16 b number S past lent) where
+    (standing : Standing (requestsIn file) (length (b .table)) 16 b number S past lent) where
   abbrev qs : List Request
   qs = requestsIn file
 
   -- the mask tells whether the head has work left
   pub work-shown : eqb (b .mask / 2 ^ h % 2) 1 ≡ hasWork qs (headAt S h)
-  work-shown = ap (λ c. eqb (c .mask / 2 ^ h % 2) 1) (st .shows) ∙ flag-of (hasWork qs) (resting 0) (S .heads) h (omega (arith, st .heads))
+  work-shown = ap (λ c. eqb (c .mask / 2 ^ h % 2) 1) (standing .shows) ∙ flag-of (hasWork qs) (resting 0) (S .heads) h (omega (arith, standing .heads))
 
   -- an idle grant leaves the buffers
   pub idle-shown : eqb (b .mask / 2 ^ h % 2) 1 ≡ false → b ≡ shown qs (step qs S h) lent
-  idle-shown bit = st .shows ∙ ap (λ T. shown qs T lent) (sym (step-idle qs S h (sym work-shown ∙ bit)))
+  idle-shown bit = standing .shows ∙ ap (λ T. shown qs T lent) (sym (step-idle qs S h (sym work-shown ∙ bit)))
 
   pub idle-done : eqb (b .mask / 2 ^ h % 2) 1 ≡ false → record { idle = true; failed = false; linked = false } ≡ doneOf (happened qs S h)
   idle-done bit = ap doneOf (sym (happened-idle qs S h (sym work-shown ∙ bit)))
@@ -124,47 +127,47 @@ module _ {file : List ℕ} {requests h number : ℕ} {b : Buffers} (playing : Pl
     work : hasWork qs (headAt S h) ≡ true
     work = sym work-shown ∙ bit
 
-    srv : Serving qs (length (b .table)) apart S past h (ready qs (headAt S h))
-    srv = serving-ready (playing-inside playing nodes) (st .invariant) h (omega (arith, st .heads)) (ltb-true (headAt S h .request) (length qs) work)
+    in-service : Serving qs (length (b .table)) apart S past h (ready qs (headAt S h))
+    in-service = serving-ready (playing-inside playing nodes) (standing .invariant) h (omega (arith, standing .heads)) (ltb-true (headAt S h .request) (length qs) work)
 
     pub next-within : getD (b .heads) h (resting 0) .request < requests
     next-within =
-        omega (arith, ap (λ c. getD (c .heads) h (resting 0) .request) (st .shows), ltb-true (headAt S h .request) (length qs) work, playing .count)
+        omega (arith, ap (λ c. getD (c .heads) h (resting 0) .request) (standing .shows), ltb-true (headAt S h .request) (length qs) work, playing .count)
 
     pub mask-least : 2 ^ h ≤ b .mask
-    mask-least = omega (arith, ap (λ c. c .mask) (st .shows), left-least (hasWork qs) (resting 0) (S .heads) h (omega (arith, st .heads)) work)
+    mask-least = omega (arith, ap (λ c. c .mask) (standing .shows), left-least (hasWork qs) (resting 0) (S .heads) h (omega (arith, standing .heads)) work)
 
     pub entries-small : b .entries < 4294967295
-    entries-small = omega (arith, ap (λ c. c .entries) (st .shows), invariant-few (st .invariant), playing-admitted playing .few-requests)
+    entries-small = omega (arith, ap (λ c. c .entries) (standing .shows), invariant-few (standing .invariant), playing-admitted playing .few-requests)
 
     module _ (head : Head) (is-head : head ≡ ready qs (getD (b .heads) h (resting 0))) where
       to-head : head ≡ ready qs (headAt S h)
-      to-head = is-head ∙ head-shown st h present srv
+      to-head = is-head ∙ head-shown standing h present in-service
 
       pub raisable : Raisable (head .stage)
-      raisable = subst (λ k. Raisable (k .stage)) (sym to-head) (head-raisable st h present srv)
+      raisable = subst (λ k. Raisable (k .stage)) (sym to-head) (head-raisable standing h present in-service)
 
-      pub touchable-here : (a : Access) → a ≡ accessOf head → Touchable (b .table) a
-      touchable-here a e = subst (Touchable (b .table)) (sym (e ∙ ap accessOf to-head)) (head-touchable st h present srv)
+      pub touchable-here : (a : Access) → a ≡ accessOf head → Touchable (map decode (b .table)) a
+      touchable-here a e = subst (Touchable (map decode (b .table))) (sym (e ∙ ap accessOf to-head)) (head-touchable standing h present in-service)
 
       pub request-within : head .request < length qs
-      request-within = omega (arith, ap (λ k. k .request) to-head, srv .within)
+      request-within = omega (arith, ap (λ k. k .request) to-head, in-service .within)
 
       pub charge-room : 4 * head .request + 4 ≤ length (b .report)
-      charge-room = omega (arith, ap (λ c. length (c .report)) (st .shows), length-rows (S .report), st .invariant .reports, request-within)
+      charge-room = omega (arith, ap (λ c. length (c .report)) (standing .shows), length-rows (S .report), standing .invariant .reports, request-within)
 
       pub charge-used : number < 4294967296 → rowIn (b .report) (4 * head .request) .used < 4294967295
       charge-used small =
           let row : rowIn (b .report) (4 * head .request) .used ≡ getD (S .report) (ready qs (headAt S h) .request) noRow .used =
-          ap (λ k. rowIn (b .report) (4 * k .request) .used) to-head ∙ ap (λ r. r .used) (row-here st h present srv) in
-          omega (arith, row, used-bound (st .invariant) (ready qs (headAt S h) .request) (srv .within), st .next)
+          ap (λ k. rowIn (b .report) (4 * k .request) .used) to-head ∙ ap (λ r. r .used) (row-here standing h present in-service) in
+          omega (arith, row, used-bound (standing .invariant) (ready qs (headAt S h) .request) (in-service .within), standing .next)
 
-      module _ (a : Access) (is-access : a ≡ accessOf head) (w : Node) (is-seen : w ≡ seenWords (b .table) a)
+      module _ (a : Access) (is-access : a ≡ accessOf head) (w : Node) (is-seen : w ≡ seen (map decode (b .table)) a)
           (moved : Advanced) (is-moved : moved ≡ advanceOf head w number) where
-        to-moved : moved ≡ advanceOf (ready qs (headAt S h)) (seenWords (b .table) (accessOf (ready qs (headAt S h)))) number
+        to-moved : moved ≡ advanceOf (ready qs (headAt S h)) (seen (map decode (b .table)) (accessOf (ready qs (headAt S h)))) number
         to-moved =
-            is-moved ∙ ap (λ v. advanceOf head v number) (is-seen ∙ ap (seenWords (b .table)) is-access)
-            ∙ ap (λ k. advanceOf k (seenWords (b .table) (accessOf k)) number) to-head
+            is-moved ∙ ap (λ v. advanceOf head v number) (is-seen ∙ ap (seen (map decode (b .table))) is-access)
+            ∙ ap (λ k. advanceOf k (seen (map decode (b .table)) (accessOf k)) number) to-head
 
         pub moved-within : moved .head .request < requests
         unfolding advanceOf
@@ -176,44 +179,44 @@ module _ {file : List ℕ} {requests h number : ℕ} {b : Buffers} (playing : Pl
         entries-after t =
             let S′ = served qs S h (ready qs (headAt S h)) in
             let point : eqb (advanced S (ready qs (headAt S h)) .event .point) 0 ≡ false =
-            ap (λ m. eqb (m .event .point) 0) (sym (to-moved ∙ moved-here st h present srv)) ∙ t in
+            ap (λ m. eqb (m .event .point) 0) (sym (to-moved ∙ moved-here standing h present in-service)) ∙ t in
             let more : length (S′ .entries) ≡ suc (length (S .entries)) = rw point (length-insert (advanced S (ready qs (headAt S h)) .event .point) (ready qs (headAt S h) .request) (S .entries)) in
             omega (
               arith,
               more,
               ap (λ T. length (T .entries)) (step-served qs S h work),
-              invariant-few (step-invariant (playing-inside playing nodes) (st .invariant) h (omega (arith, st .heads))),
+              invariant-few (step-invariant (playing-inside playing nodes) (standing .invariant) h (omega (arith, standing .heads))),
             )
 
         pub insertable : moved .event .point ≢ 0 → Insertable (b .linearization) (b .entries)
         insertable d =
-            subst (λ c. Insertable (c .linearization) (c .entries)) (sym (st .shows))
+            subst (λ c. Insertable (c .linearization) (c .entries)) (sym (standing .shows))
             (insertable-shown (S .entries) (drop (2 * length (S .entries)) lent)
-            (omega (arith, length-drop (2 * length (S .entries)) lent, st .room, entries-after (ne-eqb (moved .event .point) 0 d)))
-            (replayed-rising (st .invariant .entries)))
+            (omega (arith, length-drop (2 * length (S .entries)) lent, standing .room, entries-after (ne-eqb (moved .event .point) 0 d)))
+            (replayed-rising (standing .invariant .entries)))
 
-        module _ (table′ report′ lin′ : List ℕ) (entries′ mask′ : ℕ) (next : Head)
-            (is-table : table′ ≡ touchedWords (b .table) a)
+        module _ (table′ report′ linearization′ : List ℕ) (entries′ mask′ : ℕ) (next : Head)
+            (is-table : table′ ≡ map encode (touched (map decode (b .table)) a))
             (is-report : report′ ≡ stored (b .report) (4 * head .request) (charge (rowIn (b .report) (4 * head .request)) number (moved .event .answer)))
-            (is-lin : lin′ ≡ cond (eqb (moved .event .point) 0) (b .linearization) (inserted (b .linearization) (b .entries) (moved .event .point) (head .request)))
+            (is-linearization : linearization′ ≡ cond (eqb (moved .event .point) 0) (b .linearization) (inserted (b .linearization) (b .entries) (moved .event .point) (head .request)))
             (is-entries : entries′ ≡ cond (eqb (moved .event .point) 0) (b .entries) (b .entries + 1))
             (is-next : next ≡ settled qs h moved)
             (is-mask : mask′ ≡ cond (ltb (next .request) requests) (b .mask) (b .mask - 2 ^ h)) where
           pub serve-shown :
-              record { heads = set (b .heads) h next; table = table′; report = report′; linearization = lin′; entries = entries′; mask = mask′ }
+              record { heads = set (b .heads) h next; table = table′; report = report′; linearization = linearization′; entries = entries′; mask = mask′ }
               ≡ shown qs (step qs S h) lent
           serve-shown =
-              served-shown st h present srv moved table′ report′ lin′ entries′ mask′ next to-moved
-              (is-table ∙ ap (touchedWords (b .table)) (is-access ∙ ap accessOf to-head))
+              served-shown standing h present in-service moved table′ report′ linearization′ entries′ mask′ next to-moved
+              (is-table ∙ ap (λ v. map encode (touched (map decode (b .table)) v)) (is-access ∙ ap accessOf to-head))
               (is-report ∙ ap (λ k. stored (b .report) (4 * k .request) (charge (rowIn (b .report) (4 * k .request)) number (moved .event .answer))) to-head)
-              (is-lin ∙ ap (λ k. cond (eqb (moved .event .point) 0) (b .linearization) (inserted (b .linearization) (b .entries) (moved .event .point) (k .request))) to-head)
+              (is-linearization ∙ ap (λ k. cond (eqb (moved .event .point) 0) (b .linearization) (inserted (b .linearization) (b .entries) (moved .event .point) (k .request))) to-head)
               is-entries is-next
               (is-mask ∙ ap (λ k. cond (ltb (next .request) k) (b .mask) (b .mask - 2 ^ h)) (playing .count))
               work
 
         pub serve-done : (done : Done) → done ≡ record { idle = false; failed = moved .event .failed; linked = moved .event .linked } → done ≡ doneOf (happened qs S h)
         serve-done done is =
-            is ∙ ap (λ m. record { idle = false; failed = m .event .failed; linked = m .event .linked }) (to-moved ∙ moved-here st h present srv)
+            is ∙ ap (λ m. record { idle = false; failed = m .event .failed; linked = m .event .linked }) (to-moved ∙ moved-here standing h present in-service)
             ∙ ap doneOf (sym (happened-served qs S h work))
 
 -- ---- what the parts of a ready grant ask
@@ -232,7 +235,7 @@ module _ {file : List ℕ} {requests h number : ℕ} {b : Buffers} (r : Ready fi
     pub ready-raisable : Raisable (head .stage)
     ready-raisable = raisable (r .playing) (r .nodes) (r .head) (r .standing) bit head is-head
 
-    pub ready-touchable : (a : Access) → a ≡ accessOf head → Touchable (b .table) a
+    pub ready-touchable : (a : Access) → a ≡ accessOf head → Touchable (map decode (b .table)) a
     ready-touchable = touchable-here (r .playing) (r .nodes) (r .head) (r .standing) bit head is-head
 
     pub ready-room : 4 * head .request + 4 ≤ length (b .report)
@@ -241,7 +244,7 @@ module _ {file : List ℕ} {requests h number : ℕ} {b : Buffers} (r : Ready fi
     pub ready-used : number < 4294967296 → rowIn (b .report) (4 * head .request) .used < 4294967295
     ready-used = charge-used (r .playing) (r .nodes) (r .head) (r .standing) bit head is-head
 
-    module _ (a : Access) (is-access : a ≡ accessOf head) (w : Node) (is-seen : w ≡ seenWords (b .table) a)
+    module _ (a : Access) (is-access : a ≡ accessOf head) (w : Node) (is-seen : w ≡ seen (map decode (b .table)) a)
         (moved : Advanced) (is-moved : moved ≡ advanceOf head w number) where
       pub ready-insertable : moved .event .point ≢ 0 → Insertable (b .linearization) (b .entries)
       ready-insertable = insertable (r .playing) (r .nodes) (r .head) (r .standing) bit head is-head a is-access w is-seen moved is-moved

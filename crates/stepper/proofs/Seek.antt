@@ -1,29 +1,32 @@
 -- The search for a head's next request, one request at a time.
+--
+--   Sought qs h from q   the search for head h, begun at request `from`, has come to request q and found none yet
+--
+-- Main laws: sought-here, sought-on and sought-none, what the next request makes of it.
 use mathlib.Core.Path.{_≡_, refl, sym, ap, _∙_}
 use mathlib.Core.Logic.{_≢_}
-use mathlib.Core.List.{List, [], _∷_}
+use mathlib.Core.List.{List}
 use Prim.Native.Nat.{ℕ, suc, _+_, _≤_, _<_}
 use native.Mathlib.Omega.{arith}
-use lib.ListN.{length, drop, drop-of-length-le}
+use lib.ListN.{length, drop-of-length-le}
 use lib.Seq.{drop-cons}
 use borrow.Author.Tests.{eq-eqb, ne-eqb}
 use Rattle.job.specs.declared.Request.{Request}
 use Rattle.rules.specs.State.{noRequest, requestAt, seekIn, seek}
 
 module _ (qs : List Request) (h q : ℕ) where
-  pub seek-here : q < length qs → requestAt qs q .head ≡ h → seek qs h q ≡ q
+  seek-here : q < length qs → requestAt qs q .head ≡ h → seek qs h q ≡ q
   unfolding seek
   seek-here l own = ap (seekIn h q) (drop-cons qs q noRequest l) ∙ rw (eq-eqb (requestAt qs q .head) h own) refl
 
-  pub seek-on : q < length qs → requestAt qs q .head ≢ h → seek qs h q ≡ seek qs h (suc q)
+  seek-on : q < length qs → requestAt qs q .head ≢ h → seek qs h q ≡ seek qs h (suc q)
   unfolding seek
   seek-on l other = ap (seekIn h q) (drop-cons qs q noRequest l) ∙ rw (ne-eqb (requestAt qs q .head) h other) refl
 
-  pub seek-none : length qs ≤ q → seek qs h q ≡ q
+  seek-none : length qs ≤ q → seek qs h q ≡ q
   unfolding seek
   seek-none l = ap (seekIn h q) (drop-of-length-le qs {i = q} l)
 
--- The search has come to request q and found none yet.
 pub record Sought (qs : List Request) (h from q : ℕ) : Type 0 where
   pub within : q ≤ length qs
   pub same : seek qs h q ≡ seek qs h from

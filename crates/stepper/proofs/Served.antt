@@ -2,16 +2,14 @@
 --
 -- Main laws: served-shown, by what each part of the grant left; step-served and happened-served, what the step is.
 use mathlib.Core.Path.{_≡_, refl, sym, ap, ap₂, _∙_, subst}
-use mathlib.Core.Bool.{Bool, true, false, cond}
+use mathlib.Core.Bool.{true, cond}
 use mathlib.Core.List.{List, _++_, map}
-use Prim.Native.Nat.{ℕ, suc, _+_, _*_, _-_, _/_, _%_, _^_, _≤_, _<_}
+use Prim.Native.Nat.{ℕ, suc, _+_, _*_, _-_, _^_, _<_}
 use native.Mathlib.Omega.{arith}
 use lib.Dec.{eqb, ltb}
 use lib.ListN.{length, getD, set, drop}
-use borrow.Author.Tests.{ltb-true}
 use Rattle.job.specs.declared.Request.{Request}
-use Rattle.word.specs.declared.Node.{Node}
-use Rattle.word.specs.Word.{encode, nodeLimit}
+use Rattle.word.specs.Word.{decode, encode}
 use Rattle.process.specs.declared.Head.{Head}
 use Rattle.process.specs.declared.Advanced.{Advanced}
 use Rattle.process.specs.Access.{accessOf, Raisable}
@@ -21,7 +19,7 @@ use Rattle.linearization.specs.Partition.{apart}
 use Rattle.linearization.specs.Entry.{flat, inserted}
 use Rattle.linearization.proofs.Tests.{split}
 use Rattle.mask.specs.Mask.{maskOf}
-use Rattle.mask.proofs.Laws.{flag-of, mask-kept, left-least, mask-left}
+use Rattle.mask.proofs.Laws.{mask-kept, mask-left}
 use Rattle.rules.specs.Table.{parent, rank, seen, touched}
 use Rattle.rules.specs.Report.{charge, noRow}
 use Rattle.rules.specs.State.{State, resting, hasWork}
@@ -30,11 +28,14 @@ use Rattle.rules.specs.Run.{Happening, happened}
 use Rattle.rules.specs.Run.Happening.{serving}
 use Rattle.rules.proofs.Invariant.{labels, ApartAt, Invariant}
 use Rattle.rules.proofs.Serving.{Serving}
-use Rattle.stepper.specs.Buffers.{seenWords, touchedWords, Touchable, rowIn, stored, flatRows}
+use Rattle.table.specs.Touch.{Within, Worded, Touchable}
+use Rattle.table.proofs.Words.{decode-words}
+use Rattle.table.proofs.Within.{access-within}
+use Rattle.stepper.specs.Buffers.{rowIn, stored, flatRows}
 use Rattle.stepper.specs.Shown.{Buffers, shown, Standing}
-use Rattle.stepper.proofs.Lists.{row-shown, stored-shown, length-mapped}
-use Rattle.stepper.proofs.Shown.{Worded, Within, seen-shown, touched-shown, touchable, entered-shown, count-shown}
-use Rattle.stepper.proofs.Access.{access-within, stage-raisable}
+use Rattle.stepper.proofs.Lists.{row-shown, stored-shown}
+use Rattle.stepper.proofs.Shown.{entered-shown, count-shown}
+use Rattle.stepper.proofs.Raisable.{stage-raisable}
 
 -- What the step of a head with work left is.
 pub step-served : (qs : List Request) (S : State) (h : ℕ) → hasWork qs (headAt S h) ≡ true → step qs S h ≡ served qs S h (ready qs (headAt S h))
@@ -55,43 +56,45 @@ invariant-worded {n = n} inv =
     }
 
 module _ {qs : List Request} {n : ℕ} {b : Buffers} {number : ℕ} {S : State} {past : List Happening} {lent : List ℕ}
-    (st : Standing qs n 16 b number S past lent) (h : ℕ) (present : h < 16) (srv : Serving qs n apart S past h (ready qs (headAt S h))) where
+    (standing : Standing qs n 16 b number S past lent) (h : ℕ) (present : h < 16) (in-service : Serving qs n apart S past h (ready qs (headAt S h))) where
   abbrev head : Head
   head = ready qs (headAt S h)
 
   access-here : Within (length (S .table)) (accessOf head)
   unfolding accessOf
   access-here =
-      subst (λ k. Within k (accessOf head)) (sym (st .invariant .nodes))
-      (access-within n (parent (S .table)) (rank (S .table)) (labels qs apart S) (ApartAt qs apart (S .entries) (head .request)) (S .now) _ head (head .stage) (srv .knows))
+      subst (λ k. Within k (accessOf head)) (sym (standing .invariant .nodes))
+      (access-within n (parent (S .table)) (rank (S .table)) (labels qs apart S) (ApartAt qs apart (S .entries) (head .request)) (S .now) _ head (head .stage) (in-service .knows))
 
   -- the head is as the rules have it
   pub head-shown : ready qs (getD (b .heads) h (resting 0)) ≡ head
-  head-shown = ap (λ c. ready qs (getD (c .heads) h (resting 0))) (st .shows)
+  head-shown = ap (λ c. ready qs (getD (c .heads) h (resting 0))) (standing .shows)
 
-  pub head-touchable : Touchable (b .table) (accessOf head)
-  head-touchable = subst (λ c. Touchable (c .table) (accessOf head)) (sym (st .shows)) (touchable (S .table) (invariant-worded (st .invariant)) (accessOf head) access-here)
+  -- the words are those of the rules' nodes
+  nodes-shown : map decode (b .table) ≡ S .table
+  nodes-shown = ap (λ c. map decode (c .table)) (standing .shows) ∙ decode-words (S .table) (invariant-worded (standing .invariant))
+
+  pub head-touchable : Touchable (map decode (b .table)) (accessOf head)
+  head-touchable =
+      subst (λ t. Touchable t (accessOf head)) (sym nodes-shown) (record { node = access-here; worded = invariant-worded (standing .invariant) })
 
   pub head-raisable : Raisable (head .stage)
   head-raisable =
       stage-raisable n (parent (S .table)) (rank (S .table)) (labels qs apart S) (ApartAt qs apart (S .entries) (head .request)) (S .now) _ head
-      (st .invariant .sound .formed .limit) (head .stage) (srv .knows)
+      (standing .invariant .sound .formed .limit) (head .stage) (in-service .knows)
 
-  seen-here : seenWords (b .table) (accessOf head) ≡ seen (S .table) (accessOf head)
-  seen-here = ap (λ c. seenWords (c .table) (accessOf head)) (st .shows) ∙ seen-shown (S .table) (invariant-worded (st .invariant)) (accessOf head) access-here
-
-  pub moved-here : advanceOf head (seenWords (b .table) (accessOf head)) number ≡ advanced S head
-  moved-here = ap₂ (λ w g. advanceOf head w g) seen-here (st .next)
+  pub moved-here : advanceOf head (seen (map decode (b .table)) (accessOf head)) number ≡ advanced S head
+  moved-here = ap₂ (λ t g. advanceOf head (seen t (accessOf head)) g) nodes-shown (standing .next)
 
   pub row-here : rowIn (b .report) (4 * head .request) ≡ getD (S .report) (head .request) noRow
-  row-here = ap (λ c. rowIn (c .report) (4 * head .request)) (st .shows) ∙ row-shown (S .report) (head .request) (omega (arith, srv .within, st .invariant .reports))
+  row-here = ap (λ c. rowIn (c .report) (4 * head .request)) (standing .shows) ∙ row-shown (S .report) (head .request) (omega (arith, in-service .within, standing .invariant .reports))
 
   -- what each part of the grant left
-  module _ (moved : Advanced) (table′ report′ lin′ : List ℕ) (entries′ mask′ : ℕ) (next : Head)
-      (is-moved : moved ≡ advanceOf head (seenWords (b .table) (accessOf head)) number)
-      (is-table : table′ ≡ touchedWords (b .table) (accessOf head))
+  module _ (moved : Advanced) (table′ report′ linearization′ : List ℕ) (entries′ mask′ : ℕ) (next : Head)
+      (is-moved : moved ≡ advanceOf head (seen (map decode (b .table)) (accessOf head)) number)
+      (is-table : table′ ≡ map encode (touched (map decode (b .table)) (accessOf head)))
       (is-report : report′ ≡ stored (b .report) (4 * head .request) (charge (rowIn (b .report) (4 * head .request)) number (moved .event .answer)))
-      (is-lin : lin′ ≡ cond (eqb (moved .event .point) 0) (b .linearization) (inserted (b .linearization) (b .entries) (moved .event .point) (head .request)))
+      (is-linearization : linearization′ ≡ cond (eqb (moved .event .point) 0) (b .linearization) (inserted (b .linearization) (b .entries) (moved .event .point) (head .request)))
       (is-entries : entries′ ≡ cond (eqb (moved .event .point) 0) (b .entries) (b .entries + 1))
       (is-next : next ≡ settled qs h moved)
       (is-mask : mask′ ≡ cond (ltb (next .request) (length qs)) (b .mask) (b .mask - 2 ^ h)) where
@@ -102,43 +105,43 @@ module _ {qs : List Request} {n : ℕ} {b : Buffers} {number : ℕ} {S : State} 
     to-next = is-next ∙ ap (settled qs h) to-advanced
 
     table-shown : table′ ≡ map encode (touched (S .table) (accessOf head))
-    table-shown = is-table ∙ ap (λ c. touchedWords (c .table) (accessOf head)) (st .shows) ∙ touched-shown (S .table) (invariant-worded (st .invariant)) (accessOf head) access-here
+    table-shown = is-table ∙ ap (λ t. map encode (touched t (accessOf head))) nodes-shown
 
     report-shown : report′ ≡ flatRows (set (S .report) (head .request) (charge (getD (S .report) (head .request) noRow) (suc (S .now)) (advanced S head .event .answer)))
     report-shown =
         let row : charge (rowIn (b .report) (4 * head .request)) number (moved .event .answer) ≡ charge (getD (S .report) (head .request) noRow) (suc (S .now)) (advanced S head .event .answer) =
-        ap₂ (λ r g. charge r g (moved .event .answer)) row-here (st .next) ∙ ap (λ m. charge (getD (S .report) (head .request) noRow) (suc (S .now)) (m .event .answer)) to-advanced in
-        is-report ∙ ap₂ (λ c r. stored (c .report) (4 * head .request) r) (st .shows) row
-        ∙ stored-shown (S .report) (head .request) (charge (getD (S .report) (head .request) noRow) (suc (S .now)) (advanced S head .event .answer)) (omega (arith, srv .within, st .invariant .reports))
+        ap₂ (λ r g. charge r g (moved .event .answer)) row-here (standing .next) ∙ ap (λ m. charge (getD (S .report) (head .request) noRow) (suc (S .now)) (m .event .answer)) to-advanced in
+        is-report ∙ ap₂ (λ c r. stored (c .report) (4 * head .request) r) (standing .shows) row
+        ∙ stored-shown (S .report) (head .request) (charge (getD (S .report) (head .request) noRow) (suc (S .now)) (advanced S head .event .answer)) (omega (arith, in-service .within, standing .invariant .reports))
 
-    lin-shown : lin′ ≡ flat (entered (S .entries) (head .request) (advanced S head .event)) ++ drop (2 * length (entered (S .entries) (head .request) (advanced S head .event))) lent
-    lin-shown =
-        is-lin
-        ∙ ap₂ (λ m c. cond (eqb (m .event .point) 0) (c .linearization) (inserted (c .linearization) (c .entries) (m .event .point) (head .request))) to-advanced (st .shows)
+    linearization-shown : linearization′ ≡ flat (entered (S .entries) (head .request) (advanced S head .event)) ++ drop (2 * length (entered (S .entries) (head .request) (advanced S head .event))) lent
+    linearization-shown =
+        is-linearization
+        ∙ ap₂ (λ m c. cond (eqb (m .event .point) 0) (c .linearization) (inserted (c .linearization) (c .entries) (m .event .point) (head .request))) to-advanced (standing .shows)
         ∙ entered-shown (S .entries) (head .request) (advanced S head .event) lent
 
     entries-shown : entries′ ≡ length (entered (S .entries) (head .request) (advanced S head .event))
     entries-shown =
-        is-entries ∙ ap₂ (λ m c. cond (eqb (m .event .point) 0) (c .entries) (c .entries + 1)) to-advanced (st .shows)
+        is-entries ∙ ap₂ (λ m c. cond (eqb (m .event .point) 0) (c .entries) (c .entries + 1)) to-advanced (standing .shows)
         ∙ count-shown (S .entries) (head .request) (advanced S head .event)
 
     -- the head had work left: its bit stays, or is cleared
     mask-shown : hasWork qs (headAt S h) ≡ true → mask′ ≡ maskOf (map (hasWork qs) (set (S .heads) h (settled qs h (advanced S head))))
     mask-shown work =
-        is-mask ∙ ap₂ (λ k c. cond (ltb (k .request) (length qs)) (c .mask) (c .mask - 2 ^ h)) to-next (st .shows)
+        is-mask ∙ ap₂ (λ k c. cond (ltb (k .request) (length qs)) (c .mask) (c .mask - 2 ^ h)) to-next (standing .shows)
         ∙ split (hasWork qs (settled qs h (advanced S head)))
         (λ t. rw t (sym (mask-kept (hasWork qs) (resting 0) (S .heads) h (settled qs h (advanced S head)) (t ∙ sym work))))
-        (λ t. rw t (mask-left (hasWork qs) (resting 0) (S .heads) h (omega (arith, st .heads)) work (settled qs h (advanced S head)) t))
+        (λ t. rw t (mask-left (hasWork qs) (resting 0) (S .heads) h (omega (arith, standing .heads)) work (settled qs h (advanced S head)) t))
 
     pub served-shown : hasWork qs (headAt S h) ≡ true
-        → record { heads = set (b .heads) h next; table = table′; report = report′; linearization = lin′; entries = entries′; mask = mask′ }
+        → record { heads = set (b .heads) h next; table = table′; report = report′; linearization = linearization′; entries = entries′; mask = mask′ }
         ≡ shown qs (step qs S h) lent
     served-shown work =
         (λ i. record {
-          heads = set (st .shows i .heads) h (to-next i);
+          heads = set (standing .shows i .heads) h (to-next i);
           table = table-shown i;
           report = report-shown i;
-          linearization = lin-shown i;
+          linearization = linearization-shown i;
           entries = entries-shown i;
           mask = mask-shown work i;
         })

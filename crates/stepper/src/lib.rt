@@ -4,7 +4,6 @@ pub mod requests;
 
 use crate::buffers::charge_row;
 use crate::buffers::enter;
-use crate::buffers::touch;
 use crate::requests::ready_head;
 use crate::requests::settled_head;
 use process::Head;
@@ -60,7 +59,7 @@ fn serve(
 {
     let at = h as usize;
     let head = ready_head(file, requests, heads[at]);
-    let seen = touch(table, process::next_access(head));
+    let seen = table::touch(table, process::next_access(head));
     let moved = process::advance(head, seen, number);
     let event = moved.event;
     let answer = event.answer;

@@ -3,7 +3,6 @@ use process::Advanced;
 use process::Head;
 ghost use mathlib.Core.Path.{_≡_};
 ghost use Prim.Native.Nat.{_≤_, _<_};
-ghost use lib.ListN.{length};
 ghost use Rattle.rules.specs.State.{seek};
 ghost use Rattle.rules.specs.Step.{ready, settled};
 ghost use Rattle.stepper.specs.Shown.{requestsIn, Playing};

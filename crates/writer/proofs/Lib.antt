@@ -2,6 +2,6 @@
 mod Requests
 mod Grants
 mod Stores
-mod Sum
+mod Close
 mod Answers
 pub mod File

@@ -1,16 +1,20 @@
 // The records of a job file, written one after the other into a lent buffer.
 use crate::checks::fields_at;
 use crate::checks::run_at;
+use jobfile::CLOSE_MARK;
 use jobfile::Fields;
+use jobfile::JOB_MARK;
+use jobfile::REQUEST_MARK;
+use jobfile::RUN_MARK;
 use jobfile::Run;
-use std::num::wrapping_add_u16;
+use jobfile::bytes::sum_words;
 use std::num::wrapping_sub_u16;
 ghost use mathlib.Core.Path.{_≡_};
 ghost use mathlib.Core.List.{[], _∷_, _++_, map};
-ghost use Prim.Native.Nat.{_+_, _*_, _%_, _≤_};
-ghost use lib.ListN.{length, take, drop};
+ghost use Prim.Native.Nat.{_+_, _*_, _≤_};
+ghost use lib.ListN.{length, take};
 ghost use lib.Seq.{sets};
-ghost use Rattle.jobfile.specs.Format.{jobMark, mostNodes, mostHeads, word, wordBytes, wordSum, fieldsRefusal, requestOf};
+ghost use Rattle.jobfile.specs.Format.{jobMark, mostNodes, mostHeads, wordBytes, fieldsRefusal, requestOf};
 ghost use Rattle.jobfile.specs.Written.{requestBytes, requestsBytes, runBytes, runsBytes, longestRuns, written};
 ghost use Rattle.jobfile.specs.Draft.{fieldsOf, eachRefusal, jobOf};
 ghost use Rattle.writer.specs.Write.{given, writeRefusal, closeBytes};
@@ -37,7 +41,7 @@ fn put_header(out: &mut [u8], nodes: u16, heads: u16)
     requires { ⌜ 6 ≤ length (now out) ⌝ }
     ensures { λ _. ⌜ now (out .exit) ≡ sets (now (out .entry)) 0 (wordBytes jobMark ++ wordBytes nodes ++ wordBytes heads) ⌝ }
 {
-    put_word(out, 0, 0x4B44);
+    put_word(out, 0, JOB_MARK);
     put_word(out, 2, nodes);
     put_word(out, 4, heads);
 }
@@ -48,7 +52,7 @@ fn put_request(out: &mut [u8], at: usize, fields: Fields)
     requires { ⌜ fieldsRefusal mostNodes mostHeads fields ≡ 0 ⌝ }
     ensures { λ _. ⌜ now (out .exit) ≡ sets (now (out .entry)) at (requestBytes (requestOf fields)) ⌝ }
 {
-    put_word(out, at, 0x5152);
+    put_word(out, at, REQUEST_MARK);
     put_bytes(out, at + 2, fields.head as u8, fields.kind as u8);
     put_word(out, at + 4, fields.x as u16);
     put_word(out, at + 6, fields.y as u16);
@@ -72,7 +76,7 @@ fn put_run(out: &mut [u8], at: usize, run: Run)
     requires { ⌜ at + 4 ≤ length (now out) ⌝ }
     ensures { λ _. ⌜ now (out .exit) ≡ sets (now (out .entry)) at (runBytes run) ⌝ }
 {
-    put_word(out, at, 0x5247);
+    put_word(out, at, RUN_MARK);
     put_bytes(out, at + 2, run.head, run.count);
 }
 
@@ -93,45 +97,15 @@ fn put_runs(out: &mut [u8], start: usize, grants: &[u8]) -> usize
     at
 }
 
-// A byte as a 16-bit number.
-fn wide(byte: u8) -> u16
-    ensures { λ r. ⌜ r ≡ byte ⌝ }
-{
-    byte as u16
-}
-
-// The 16-bit word at a position.
-fn word_at(bytes: &[u8], at: usize) -> u16
-    requires { ⌜ at + 2 ≤ length (now bytes) ⌝ }
-    ensures { λ r. ⌜ r ≡ word (drop at (now (bytes .entry))) ⌝ }
-{
-    wide(bytes[at]) + 256 * wide(bytes[at + 1])
-}
-
-// The sum of the words, when carries out of 16 bits are dropped.
-fn word_sum(bytes: &[u8]) -> u16
-    requires { ⌜ length (now bytes) % 2 ≡ 0 ⌝ }
-    ensures { λ r. ⌜ r ≡ wordSum (now (bytes .entry)) % 65536 ⌝ }
-{
-    let mut sum = 0;
-    let mut at = 0;
-    while at < bytes.len() {
-        sum = wrapping_add_u16(sum, word_at(bytes, at));
-        at += 2;
-    }
-    sum
-}
-
 // Writes the close of a file whose other records end at a position. The balance is the difference from zero of all
 // words before it, the close's mark included.
 fn put_close(out: &mut [u8], at: usize)
-    requires { ⌜ at % 2 ≡ 0 ⌝ }
     requires { ⌜ at + 4 ≤ length (now out) ⌝ }
     ensures { λ _. ⌜ now (out .exit) ≡ sets (now (out .entry)) at (closeBytes (take at (now (out .entry)))) ⌝ }
 {
-    put_word(out, at, 0x4C43);
+    put_word(out, at, CLOSE_MARK);
     let end = at + 2;
-    let sum = word_sum(&out[..end]);
+    let sum = sum_words(&out[..end]);
     put_word(out, end, wrapping_sub_u16(0, sum));
 }
 

@@ -56,7 +56,7 @@ returns-2 c =
     let start = tested .before .before .before in
     grant-made (now (start .args .table)) (start .args .progress) (chosen .next-access .result) (touched .touch .result) _
     (moved .advance .result) (sym (tested .before .is-over .ensures) ∙ tested .if1 .left) (chosen .next-access .ensures)
-    (touched .touch .ensures) (moved .advance .ensures)
+    (touched .touch .ensures .0) (touched .touch .ensures .1) (moved .advance .ensures)
 
 pub grant-spec : {M : Type 1} → statement M
 grant-spec =

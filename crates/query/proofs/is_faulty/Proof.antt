@@ -24,8 +24,8 @@ rank-requires c κs = search needs
 
 returns-2 : tie.Need-returns-2
 returns-2 c =
-    let b = c .before .before in
-    simp (← c .before .rank .ensures, ← b .before .parent .ensures, lt-leb _ _ (b .if1 .left), lt-ltb _ _ (c .if2 .taken))
+    let inside = c .before .before in
+    simp (← c .before .rank .ensures, ← inside .before .parent .ensures, lt-leb _ _ (inside .if1 .left), lt-ltb _ _ (c .if2 .taken))
 
 cast-rank : tie.Need-cast-rank
 cast-rank c = search needs
@@ -47,17 +47,17 @@ stands-before-requires c κs = search needs
 
 returns-3 : tie.Need-returns-3
 returns-3 c =
-    let r = c .before .before in
-    let b = r .before .before .before in
-    let d = b .before in
+    let above = c .before .before in
+    let ranked = above .before .before .before in
+    let inside = ranked .before in
     simp (
       c .stands-before .ensures,
       c .before .rank3 .ensures,
-      r .rank2 .ensures,
-      ← d .before .parent .ensures,
-      ← b .rank .ensures,
-      lt-leb _ _ (d .if1 .left),
-      le-ltb _ _ (r .before .before .if2 .left),
+      above .rank2 .ensures,
+      ← inside .before .parent .ensures,
+      ← ranked .rank .ensures,
+      lt-leb _ _ (inside .if1 .left),
+      le-ltb _ _ (above .before .before .if2 .left),
     )
 
 pub is-faulty-spec : {M : Type 1} → statement M

@@ -58,10 +58,10 @@ returns-2 c =
     let tested = c .before .before .before .before .before in
     let checked = tested .before .refusal-of in
     let a = tested .before .before .before .before .args in
-    let ws = now (a .table) in
-    let answered = query-answered ws (a .x) (a .y) (checked .result) (checked .ensures) (tested .if1 .left) in
+    let words = now (a .table) in
+    let answered = query-answered words (a .x) (a .y) (checked .result) (checked .ensures) (tested .if1 .left) in
     let exact = answered (a .budget) (begun .result) (begun .ensures) _ (looked .ensures) in
-    (exact, told-faithful ws (a .x) (a .y) (a .budget) _ exact)
+    (exact, told-faithful words (a .x) (a .y) (a .budget) _ exact)
 
 pub query-spec : {M : Type 1} → statement M
 query-spec =

@@ -20,11 +20,11 @@ returns-3 c = simp (ne-eqb _ _ (c .before .before .if1 .left), le-ltb _ _ (c .be
 returns-4 : tie.Need-returns-4
 unfolding refusal
 returns-4 c =
-    let b = c .before in
+    let tested = c .before in
     simp (
-      ne-eqb _ _ (b .before .before .if1 .left),
-      le-ltb _ _ (b .before .if2 .left),
-      lt-leb _ _ (b .if3 .left),
+      ne-eqb _ _ (tested .before .before .if1 .left),
+      le-ltb _ _ (tested .before .if2 .left),
+      lt-leb _ _ (tested .if3 .left),
       le-leb _ _ (c .if4 .taken),
     )
 
@@ -34,12 +34,12 @@ has-faulty-requires c κs = search needs
 returns-5 : tie.Need-returns-5
 unfolding refusal
 returns-5 c =
-    let b = c .before .before in
+    let tested = c .before .before in
     simp (
-      ne-eqb _ _ (b .before .before .before .if1 .left),
-      le-ltb _ _ (b .before .before .if2 .left),
-      lt-leb _ _ (b .before .if3 .left),
-      lt-leb _ _ (b .if4 .left),
+      ne-eqb _ _ (tested .before .before .before .if1 .left),
+      le-ltb _ _ (tested .before .before .if2 .left),
+      lt-leb _ _ (tested .before .if3 .left),
+      lt-leb _ _ (tested .if4 .left),
       ← c .before .has-faulty .ensures,
       c .if5 .taken,
     )
@@ -47,12 +47,12 @@ returns-5 c =
 returns-6 : tie.Need-returns-6
 unfolding refusal
 returns-6 c =
-    let b = c .before .before in
+    let tested = c .before .before in
     simp (
-      ne-eqb _ _ (b .before .before .before .if1 .left),
-      le-ltb _ _ (b .before .before .if2 .left),
-      lt-leb _ _ (b .before .if3 .left),
-      lt-leb _ _ (b .if4 .left),
+      ne-eqb _ _ (tested .before .before .before .if1 .left),
+      le-ltb _ _ (tested .before .before .if2 .left),
+      lt-leb _ _ (tested .before .if3 .left),
+      lt-leb _ _ (tested .if4 .left),
       ← c .before .has-faulty .ensures,
       c .if5 .left,
     )

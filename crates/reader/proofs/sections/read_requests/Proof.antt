@@ -18,7 +18,7 @@ loop-holds : tie.Need-loop-holds Inv-loop μ-loop
 loop-holds c = requests-start _ _ _ (c .before .pre .0)
 
 word-at-requires : tie.Need-word-at-requires Inv-loop μ-loop
-word-at-requires c κs = omega arith
+word-at-requires c κs = search needs
 
 request-refusal-requires : tie.Need-request-refusal-requires Inv-loop μ-loop
 request-refusal-requires c κs = search needs

@@ -24,7 +24,7 @@ loop-holds : tie.Need-loop-holds Inv-loop μ-loop
 loop-holds c = runs-start _ _ _ (c .before .pre .0)
 
 word-at-requires : tie.Need-word-at-requires Inv-loop μ-loop
-word-at-requires c κs = omega arith
+word-at-requires c κs = search needs
 
 run-refusal-requires : tie.Need-run-refusal-requires Inv-loop μ-loop
 run-refusal-requires c κs = search needs

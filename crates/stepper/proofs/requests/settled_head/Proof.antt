@@ -1,13 +1,12 @@
+-- `stepper::requests::settled_head`: a finished request's head rests before its next one.
 use Prim.Native.Nat.{_+_}
 use Rattle.stepper.specs.Shown.{requestsIn}
 use Rattle.stepper.proofs.Needs.{next-small, settled-final}
-use mathlib.Core.Path.{sym, ap, _∙_}
+use mathlib.Core.Path.{sym, _∙_}
 use native.Mathlib.Omega.{arith}
 use borrow.Author.Needs.{needs}
 use Rattle.stepper.proofs.requests.settled_head.Statement.{statement}
 use Rattle.stepper.proofs.requests.settled_head.Tie as tie
-
--- `stepper::requests::settled_head`: a finished request's head rests before its next one.
 
 is-final-requires : tie.Need-is-final-requires
 is-final-requires c κs = search needs
@@ -23,13 +22,16 @@ next-request-requires c κs = search needs
 
 cast-t13 : tie.Need-cast-t13
 cast-t13 c =
-    let k = c .before .before .before .before .before .before .before in
-    omega (arith, c .next-request .ensures, next-small (k .pre .0) (k .args .h) (k .args .moved .head .request + 1) (omega (arith, k .pre .1)))
+    let start = c .before .before .before .before .before .before .before in
+    let a = start .args in
+    omega (arith, c .next-request .ensures, next-small (start .pre .0) (a .h) (a .moved .head .request + 1) (omega (arith, start .pre .1)))
 
 returns : tie.Need-returns
 returns c =
-    let k = c .before .before .before .before .before .before .before in
-    settled-final (requestsIn (k .args .file .now)) (k .args .h) (k .args .moved) (c .next-request .result) (sym (c .before .before .before .is-final .ensures) ∙ c .before .before .if1 .taken) (c .next-request .ensures)
+    let tested = c .before .before in
+    let a = tested .before .before .before .before .before .args in
+    settled-final (requestsIn (a .file .now)) (a .h) (a .moved) (c .next-request .result)
+    (sym (tested .before .is-final .ensures) ∙ tested .if1 .taken) (c .next-request .ensures)
 
 returns-2 : tie.Need-returns-2
 returns-2 c = search needs

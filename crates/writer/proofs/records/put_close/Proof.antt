@@ -3,7 +3,7 @@ use native.Mathlib.Omega.{arith}
 use denote.Ref.{now}
 use lib.ListN.{length-take}
 use borrow.Author.Needs.{needs}
-use Rattle.writer.proofs.Sum.{close-stored}
+use Rattle.writer.proofs.Close.{close-stored}
 use Rattle.writer.proofs.records.put_close.Statement.{statement}
 use Rattle.writer.proofs.records.put_close.Tie as tie
 
@@ -13,14 +13,14 @@ put-word-requires c κs = search needs
 add-end : tie.Need-add-end
 add-end c = search needs
 
-slice-reshare-prefix-word-sum : tie.Need-slice-reshare-prefix-word-sum
-slice-reshare-prefix-word-sum c = search needs
+slice-reshare-prefix-sum-words : tie.Need-slice-reshare-prefix-sum-words
+slice-reshare-prefix-sum-words c = search needs
 
-slice-aggregate-word-sum : tie.Need-slice-aggregate-word-sum
-slice-aggregate-word-sum c = simp length-take (omega arith)
+slice-aggregate-sum-words : tie.Need-slice-aggregate-sum-words
+slice-aggregate-sum-words c = simp length-take (omega arith)
 
-word-sum-requires : tie.Need-word-sum-requires
-word-sum-requires c κs = simp length-take (omega arith)
+sum-words-requires : tie.Need-sum-words-requires
+sum-words-requires c κs = search needs
 
 wrapping-sub-u16-requires : tie.Need-wrapping-sub-u16-requires
 wrapping-sub-u16-requires c κs = search needs
@@ -34,8 +34,8 @@ same-length c = search needs
 returns : tie.Need-returns
 returns c =
     let a = c .before .before .before .before .before .before .before .before .before .before .before .before .args in
-    close-stored (now (a .out)) _ _ (a .at) (c .before .before .before .before .before .word-sum .result) (c .before .before .before .wrapping-sub-u16 .result) (omega arith) (omega arith)
-    (c .before .before .before .before .before .before .before .before .before .put-word .ensures) (c .before .before .before .before .before .word-sum .ensures) (c .before .before .before .wrapping-sub-u16 .ensures) (c .before .before .put-word2 .ensures)
+    close-stored (now (a .out)) _ _ (a .at) (c .before .before .before .before .before .sum-words .result) (c .before .before .before .wrapping-sub-u16 .result) (omega arith) (omega arith)
+    (c .before .before .before .before .before .before .before .before .before .put-word .ensures) (c .before .before .before .before .before .sum-words .ensures) (c .before .before .before .wrapping-sub-u16 .ensures) (c .before .before .put-word2 .ensures)
 
 pub put-close-spec : {M : Type 1} → statement M
 put-close-spec =
@@ -43,9 +43,9 @@ put-close-spec =
     (tie.spec
     put-word-requires
     add-end
-    slice-reshare-prefix-word-sum
-    slice-aggregate-word-sum
-    word-sum-requires
+    slice-reshare-prefix-sum-words
+    slice-aggregate-sum-words
+    sum-words-requires
     wrapping-sub-u16-requires
     put-word-requires-2
     same-length

@@ -50,7 +50,7 @@ put-close-requires c κs =
     let a = c .before .before .before .before .before .before .before .before .before .before .before .before .before .before .before .before .args in
     let d = given (a .nodes) (a .heads) (now (a .requests)) (now (a .grants)) in
     let known = ready d (length (now (a .out))) (c .before .before .before .before .before .before .before .before .before .before .before .before .before .before .before .before .pre) in
-    (omega arith, omega (arith, length-file d))
+    omega (arith, length-file d)
 
 same-length : tie.Need-same-length
 same-length c = search needs

@@ -1,10 +1,10 @@
--- `query::swap` reads the word, compares its node, and writes only if it is the expected one.
+-- `table::swap` reads the word, compares its node, and writes only if it is the expected one.
 use denote.Ref.{now}
 use mathlib.Core.Path.{sym, _∙_}
 use borrow.Author.Needs.{needs}
-use Rattle.query.proofs.Accesses.{swap-inside, swap-rank, swap-wrote, swap-failed}
-use Rattle.query.proofs.swap.Statement.{statement}
-use Rattle.query.proofs.swap.Tie as tie
+use Rattle.table.proofs.Accesses.{swap-inside, swap-rank, swap-wrote, swap-failed}
+use Rattle.table.proofs.swap.Statement.{statement}
+use Rattle.table.proofs.swap.Tie as tie
 
 mul-decoded : tie.Need-mul-decoded
 mul-decoded c = search needs

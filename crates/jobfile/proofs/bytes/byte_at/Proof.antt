@@ -1,10 +1,10 @@
--- `bytes::byte_at`: a place past the end has the default.
+-- `jobfile::bytes::byte_at`: a place past the end has the default.
 use mathlib.Core.Path.{sym}
 use denote.Ref.{now}
 use lib.ListN.{List·getD-eq-default}
 use borrow.Author.Needs.{needs}
-use Rattle.reader.proofs.bytes.byte_at.Statement.{statement}
-use Rattle.reader.proofs.bytes.byte_at.Tie as tie
+use Rattle.jobfile.proofs.bytes.byte_at.Statement.{statement}
+use Rattle.jobfile.proofs.bytes.byte_at.Tie as tie
 
 shared-slice-read-result : tie.Need-shared-slice-read-result
 shared-slice-read-result c = search needs

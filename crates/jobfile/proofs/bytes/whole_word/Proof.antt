@@ -1,11 +1,11 @@
--- `records::word_at`: two bytes make a word.
+-- `jobfile::bytes::whole_word`: two bytes make a word.
 use Prim.Native.Nat.{_+_}
 use native.Mathlib.Omega.{arith}
 use native.Mathlib.Nat.{add-zero}
 use lib.Seq.{getD-drop}
 use borrow.Author.Needs.{needs}
-use Rattle.writer.proofs.records.word_at.Statement.{statement}
-use Rattle.writer.proofs.records.word_at.Tie as tie
+use Rattle.jobfile.proofs.bytes.whole_word.Statement.{statement}
+use Rattle.jobfile.proofs.bytes.whole_word.Tie as tie
 
 shared-slice-read-wide : tie.Need-shared-slice-read-wide
 shared-slice-read-wide c = search needs
@@ -31,8 +31,8 @@ add-result c = let a = c .before .before .before .before .before .args in omega 
 returns : tie.Need-returns
 returns c = simp (c .wide2 .ensures, c .before .before .wide .ensures, getD-drop, add-zero)
 
-pub word-at-spec : {M : Type 1} → statement M
-word-at-spec =
+pub whole-word-spec : {M : Type 1} → statement M
+whole-word-spec =
     tie.close
     (tie.spec
     shared-slice-read-wide

@@ -1,9 +1,9 @@
--- `query::touch`: one case an access.
+-- `table::touch`: one case an access.
 use denote.Ref.{now}
 use borrow.Author.Needs.{needs}
-use Rattle.query.proofs.Accesses.{touch-idle, load-inside, load-rank, touch-load, cas-touchable, touch-cas}
-use Rattle.query.proofs.touch.Statement.{statement}
-use Rattle.query.proofs.touch.Tie as tie
+use Rattle.table.proofs.Accesses.{touch-idle, load-inside, load-rank, touch-load, cas-touchable, touch-cas}
+use Rattle.table.proofs.touch.Statement.{statement}
+use Rattle.table.proofs.touch.Tie as tie
 
 enum-told : tie.Need-enum-told
 enum-told c = search needs

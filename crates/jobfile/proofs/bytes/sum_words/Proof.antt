@@ -1,0 +1,61 @@
+-- `jobfile::bytes::sum_words`: what is left of the words adds up to what the whole does, without carries out of 16 bits.
+use Prim.Native.Nat.{_-_}
+use native.Mathlib.Omega.{arith}
+use lib.ListN.{length}
+use borrow.Author.Needs.{needs}
+use Rattle.jobfile.proofs.Sums.{Summed, sum-start, sum-next, sum-end}
+use Rattle.jobfile.proofs.bytes.sum_words.Statement.{statement}
+use Rattle.jobfile.proofs.bytes.sum_words.Tie as tie
+
+abbrev Inv-loop : tie.InvT-loop
+Inv-loop file sum₀ at₀ sum at = Summed file sum at
+
+abbrev μ-loop : tie.MeasureT-loop
+μ-loop file sum₀ at₀ sum at = length file - at
+
+loop-holds : tie.Need-loop-holds Inv-loop μ-loop
+loop-holds c = sum-start (c .before .args .file .now)
+
+add-loop : tie.Need-add-loop Inv-loop μ-loop
+add-loop c = omega (arith, c .before .before .good .0 .1, c .loop .inv .within)
+
+whole-word-requires : tie.Need-whole-word-requires Inv-loop μ-loop
+whole-word-requires c κs = omega arith
+
+wrapping-add-u16-requires : tie.Need-wrapping-add-u16-requires Inv-loop μ-loop
+wrapping-add-u16-requires c κs = search needs
+
+add-at : tie.Need-add-at Inv-loop μ-loop
+add-at c = omega (arith, c .before .before .before .before .before .good .0 .1)
+
+loop-less : tie.Need-loop-less Inv-loop μ-loop
+loop-less c = omega arith
+
+loop-again : tie.Need-loop-again Inv-loop μ-loop
+loop-again c = sum-next (c .before .before .before .loop .inv) _ (rw (← c .before .whole-word .ensures) (c .wrapping-add-u16 .ensures)) (c .before .before .loop-test .taken)
+
+word-at-requires : tie.Need-word-at-requires Inv-loop μ-loop
+word-at-requires c κs = search needs
+
+wrapping-add-u16-requires-2 : tie.Need-wrapping-add-u16-requires-2 Inv-loop μ-loop
+wrapping-add-u16-requires-2 c κs = search needs
+
+returns : tie.Need-returns Inv-loop μ-loop
+returns c = sum-end (c .before .before .before .loop .inv) _ (rw (← c .before .word-at .ensures) (c .wrapping-add-u162 .ensures)) (c .before .before .loop-test .left)
+
+pub sum-words-spec : {M : Type 1} → statement M
+sum-words-spec =
+    tie.close
+    (tie.spec
+    Inv-loop
+    μ-loop
+    loop-holds
+    add-loop
+    whole-word-requires
+    wrapping-add-u16-requires
+    add-at
+    loop-less
+    loop-again
+    word-at-requires
+    wrapping-add-u16-requires-2
+    returns)
