@@ -16,7 +16,7 @@ use Rattle.job.specs.declared.Answer.{Answer}
 use Rattle.linearization.specs.Partition.{Labels, Operation, reply, next, replay, replies}
 use Rattle.linearization.specs.Entry.{Entry, insert, Rising, empty, rises}
 use Rattle.linearization.proofs.Tests.{split}
-use Rattle.linearization.proofs.Partition.{Unjoined, next-kept}
+use Rattle.linearization.proofs.Partition.{Unjoined}
 use Rattle.linearization.proofs.Entries.{entry, Free, Below}
 
 abbrev pub operations : (ℕ → Operation) → List Entry → List Operation
@@ -46,11 +46,6 @@ pub record Silent (operation : ℕ → Operation) (claim : ℕ → Answer) (B : 
 -- ---- labels up to a point
 
 module _ (operation : ℕ → Operation) where
-  -- nodes that share a set at the start share one after any replay
-  pub after-kept : (B : Labels) (es : List Entry) (i j : ℕ) → B i ≡ B j → after operation B es i ≡ after operation B es j
-  after-kept B [] i j e = e
-  after-kept B (f ∷ es) i j e = after-kept (next B (operation (f .request))) es i j (next-kept B (operation (f .request)) i j e)
-
   pub after-snoc :
       (B : Labels) (es : List Entry) (e : Entry) →
       after operation B (es ++ (e ∷ [])) ≡ next (after operation B es) (operation (e .request))

@@ -2,8 +2,7 @@
 --
 --   accessOf h    the access that the head h makes next
 --   Raisable t    the rank that stage t would store fits its byte
-use Prim.Native.Nat.{ℕ, _+_, _<_}
-use Rattle.job.specs.declared.Kind.{Kind}
+use Prim.Native.Nat.{_+_, _<_}
 use Rattle.process.specs.declared.Stage.{Stage}
 use Rattle.process.specs.declared.Stage.the-variants.{Resting, ReadNode, ReadParent, Halve, ReadAgain, RereadX, ReadRankX, ReadRankY, Link, Raise}
 use Rattle.process.specs.declared.Head.{Head}

@@ -1,11 +1,11 @@
 -- What each of the five outcomes does to the entries and to its own request.
 --
 -- Main law: outcome-effect.
-use mathlib.Core.Path.{_≡_, refl, sym, ap, ap₂, _∙_, subst}
+use mathlib.Core.Path.{_≡_, refl, sym, ap, _∙_, subst}
 use mathlib.Core.Logic.{_≢_}
-use mathlib.Core.Bool.{Bool, true, false, cond, true≢false}
-use mathlib.Core.List.{List, [], _∷_, _++_, List·Memᴰ}
-use Prim.Native.Nat.{ℕ, suc, _+_, _≤_, _<_}
+use mathlib.Core.Bool.{true, false, cond, true≢false}
+use mathlib.Core.List.{List, [], _∷_, _++_}
+use Prim.Native.Nat.{ℕ, suc, _+_, _≤_}
 use native.Mathlib.Omega.{arith}
 use native.Mathlib.Decide.{ℕ-discrete}
 use lib.Dec.{eqb}
@@ -18,7 +18,6 @@ use Rattle.job.specs.declared.Answer.the-variants.{Unfinished, Joined, Together
 use Rattle.job.specs.declared.Request.{Request}
 use Rattle.job.specs.Job.{answerNumber}
 use Rattle.word.specs.declared.Node.{Node}
-use Rattle.process.specs.declared.Stage.the-variants.{Raise}
 use Rattle.process.specs.declared.Head.{Head}
 use Rattle.process.specs.declared.Advanced.{Advanced}
 use Rattle.process.specs.Process.{restingAt}
@@ -39,9 +38,9 @@ use Rattle.rules.specs.Step.{advanced, served}
 use Rattle.rules.specs.Run.{Happening}
 use Rattle.rules.specs.History.{rowOf, linkOf, pointOf}
 use Rattle.rules.specs.Linearized.{operationAt, promised}
-use Rattle.rules.proofs.History.{Other, other-served, row-other, served-answer, served-last, served-first, served-settled, row-first-bound, row-last-bound, link-other, link-served, link-unserved, find-served, find-unserved, point-linked, point-unlinked, point-same-set, point-union, usedFor, used-now, used-kept}
+use Rattle.rules.proofs.History.{Other, other-served, row-other, served-answer, served-last, served-first, served-settled, row-first-bound, row-last-bound, link-served, link-unserved, find-served, find-unserved, point-linked, point-unlinked, point-same-set, point-union, usedFor, used-now, used-kept}
 use Rattle.rules.proofs.Stages.{isRaising, pendingOf, Raising, Knows}
-use Rattle.rules.proofs.Outcomes.{Kept, Going, Closing, Linked, Joining, Ending, Denying, Outcome}
+use Rattle.rules.proofs.Outcomes.{Going, Closing, Linked, Joining, Ending, Denying, Outcome}
 use Rattle.rules.proofs.Outcomes.Linked.{finished, raises}
 use Rattle.rules.proofs.Outcomes.Outcome.{going, closing, joining, ending, denying}
 use Rattle.rules.proofs.Invariant.{labels, ApartAt, claim, Candidate, Timed, Over, Current, Placed, Invariant}

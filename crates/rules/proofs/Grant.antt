@@ -7,7 +7,6 @@ use mathlib.Core.Bool.{Bool, true, false, cond, true≢false}
 use mathlib.Core.List.{List, _∷_}
 use Prim.Native.Nat.{ℕ, suc, _≤_, _<_}
 use native.Mathlib.Omega.{arith}
-use lib.Dec.{eqb, ltb}
 use lib.ListN.{length}
 use borrow.Author.Tests.{ltb-true, eq-eqb}
 use Rattle.job.specs.declared.Request.{Request}
@@ -26,13 +25,13 @@ use Rattle.rules.specs.State.{State, requestAt, hasWork}
 use Rattle.rules.specs.Step.{ready, headAt, advanced, served, passed, step}
 use Rattle.rules.specs.Run.{Happening, happened}
 use Rattle.rules.specs.Run.Happening.{idle}
-use Rattle.rules.specs.History.{rowOf, linkOf}
+use Rattle.rules.specs.History.{linkOf}
 use Rattle.rules.specs.Linearized.{promised}
 use Rattle.rules.proofs.History.{row-other}
 use Rattle.rules.proofs.Stages.{pendingOf, Inside, finding-begin, knows-later, pending-until}
 use Rattle.rules.proofs.Outcomes.{Outcome}
 use Rattle.rules.proofs.Steps.{step-outcome}
-use Rattle.rules.proofs.Invariant.{labels, ApartAt, claim, Timed, Current, Waiting, Phase, Placed, Invariant}
+use Rattle.rules.proofs.Invariant.{labels, ApartAt, Current, Waiting, Phase, Invariant}
 use Rattle.rules.proofs.Invariant.Phase.{over, current, waiting}
 use Rattle.rules.proofs.Others.{timed-other, phase-other, placed-other}
 use Rattle.rules.proofs.Serving.{Serving, more, effect-invariant}

@@ -5,7 +5,7 @@
 --
 -- Main laws: row-served and row-other, the row of a request after a grant; point-other, a grant for another request
 -- leaves a point alone; used-kept, what grant p was used for stays so.
-use mathlib.Core.Path.{_≡_, refl, sym, ap, _∙_}
+use mathlib.Core.Path.{_≡_, refl, sym, _∙_}
 use mathlib.Core.Logic.{_≢_}
 use mathlib.Core.Bool.{Bool, true, false, cond}
 use mathlib.Core.List.{List, [], _∷_}
@@ -48,9 +48,6 @@ other-answer q idle past o = refl
 other-answer q (serving r e) past o = rw o
 
 module _ (f : Happening → Bool) (a : Happening) (past : List Happening) where
-  pub last-new : f a ≡ true → lastWhere f (a ∷ past) ≡ suc (length past)
-  last-new t = rw t
-
   pub last-kept : f a ≡ false → lastWhere f (a ∷ past) ≡ lastWhere f past
   last-kept o = rw o
 

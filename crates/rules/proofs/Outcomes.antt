@@ -8,7 +8,7 @@
 --   Denying           x is still a root: no, at the point that was pending
 use mathlib.Core.Path.{_≡_}
 use mathlib.Core.Logic.{_≢_}
-use mathlib.Core.Bool.{Bool, true, false}
+use mathlib.Core.Bool.{true, false}
 use mathlib.Core.List.{List}
 use Prim.Native.Nat.{ℕ, suc, _≤_}
 use Rattle.job.specs.declared.Kind.the-variants.{Union, SameSet}

@@ -3,15 +3,14 @@
 --   seek-from, seek-bound   the request found is not before the place searched from, nor beyond the number of requests
 --   seek-own                it is the head's own
 --   seek-least              no request of that head is passed over
-use mathlib.Core.Path.{_≡_, refl, sym, ap, _∙_}
-use mathlib.Core.Bool.{Bool, true, false, cond}
+use mathlib.Core.Path.{_≡_, sym, ap, _∙_}
 use mathlib.Core.List.{List, [], _∷_}
 use Prim.Native.Nat.{ℕ, zero, suc, _+_, _-_, _≤_, _<_}
 use native.Mathlib.Omega.{arith}
 use lib.Dec.{eqb}
 use lib.ListN.{length, getD, drop, length-drop}
 use lib.Seq.{getD-drop}
-use borrow.Author.Tests.{eqb-true, eqb-false, eq-eqb}
+use borrow.Author.Tests.{eqb-true, eq-eqb}
 use Rattle.job.specs.declared.Request.{Request}
 use Rattle.linearization.proofs.Tests.{split}
 use Rattle.rules.specs.State.{noRequest, requestAt, seekIn, seek}

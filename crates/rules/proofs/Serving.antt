@@ -5,20 +5,18 @@
 --   Effect     what the grant does to table, entries and its own request
 --
 -- Main law: effect-invariant.
-use mathlib.Core.Path.{_≡_, refl, sym, ap, ap₂, _∙_, subst}
+use mathlib.Core.Path.{_≡_, sym, ap, ap₂, _∙_, subst}
 use mathlib.Core.Logic.{_≢_}
-use mathlib.Core.Bool.{Bool, true, false, cond, true≢false}
+use mathlib.Core.Bool.{true, false, cond, true≢false}
 use mathlib.Core.List.{List, _∷_}
 use Prim.Native.Nat.{ℕ, suc, _+_, _≤_, _<_}
 use native.Mathlib.Omega.{arith}
-use native.Mathlib.Decide.{ℕ-discrete, decLt}
+use native.Mathlib.Decide.{ℕ-discrete}
 use lib.Dec.{eqb}
-use lib.ListN.{length, getD, set, length-set}
+use lib.ListN.{length, getD, length-set}
 use lib.Seq.{getD-set-same, getD-set-other}
-use Rattle.job.specs.declared.Answer.{Answer}
 use Rattle.job.specs.declared.Answer.the-variants.{Unfinished}
 use Rattle.job.specs.declared.Request.{Request}
-use Rattle.process.specs.declared.Stage.{Stage}
 use Rattle.process.specs.declared.Stage.the-variants.{Resting}
 use Rattle.process.specs.declared.Head.{Head}
 use Rattle.process.specs.declared.Advanced.{Advanced}
@@ -29,12 +27,12 @@ use Rattle.forest.specs.Forest.{rootCount}
 use Rattle.forest.proofs.Sound.{Sound}
 use Rattle.forest.proofs.Later.{Later}
 use Rattle.linearization.specs.Partition.{Labels}
-use Rattle.linearization.specs.Entry.{Entry, occurrences}
+use Rattle.linearization.specs.Entry.{occurrences}
 use Rattle.linearization.proofs.Replay.{labelsTo, Replayed}
-use Rattle.rules.specs.Table.{parent, rank, seen, touched}
+use Rattle.rules.specs.Table.{parent, rank, seen}
 use Rattle.rules.specs.Report.{noRow, isFinal, charge}
 use Rattle.rules.specs.State.{State, requestAt, seek, resting}
-use Rattle.rules.specs.Step.{headAt, advanced, settled, entered, served}
+use Rattle.rules.specs.Step.{headAt, advanced, settled, served}
 use Rattle.rules.specs.Run.{Happening}
 use Rattle.rules.specs.Run.Happening.{serving}
 use Rattle.rules.specs.History.{rowOf, linkOf}
@@ -42,10 +40,10 @@ use Rattle.rules.specs.Linearized.{operationAt}
 use Rattle.rules.proofs.History.{Other, other-served, row-other, row-served}
 use Rattle.rules.proofs.Table.{length-touched}
 use Rattle.rules.proofs.Requests.{seek-from, seek-own, seek-least}
-use Rattle.rules.proofs.Stages.{isRaising, pendingOf, Inside, Knows, pending-until, knows-later}
+use Rattle.rules.proofs.Stages.{isRaising, Inside, Knows, pending-until, knows-later}
 use Rattle.rules.proofs.Steps.{advance-keeps}
 use Rattle.rules.proofs.Others.{timed-other, over-other, waiting-other, phase-other}
-use Rattle.rules.proofs.Invariant.{labels, ApartAt, claim, Timed, Over, Current, Waiting, Busy, Phase, Placed, Invariant}
+use Rattle.rules.proofs.Invariant.{labels, ApartAt, claim, Timed, Over, Current, Busy, Phase, Placed, Invariant}
 use Rattle.rules.proofs.Invariant.Phase.{over, current, waiting}
 
 pub record Serving (qs : List Request) (n : ℕ) (B : Labels) (S : State) (past : List Happening) (h : ℕ) (head : Head) : Type 0 where

@@ -9,15 +9,15 @@
 --   pendingOf stage     the point that a same-set may get, or 0
 --
 -- Main laws: finding-begin, at the loop's start; knows-later, what is known survives any later state.
-use mathlib.Core.Path.{_≡_, refl, sym, ap, _∙_}
+use mathlib.Core.Path.{_≡_, refl, _∙_}
 use mathlib.Core.Logic.{_≢_}
 use mathlib.Core.Bool.{Bool, true, false}
-use Prim.Native.Nat.{ℕ, suc, _+_, _*_, _^_, _≤_, _<_}
+use Prim.Native.Nat.{ℕ, suc, _^_, _≤_, _<_}
 use native.Mathlib.Omega.{arith}
 use Rattle.job.specs.declared.Kind.{Kind}
 use Rattle.job.specs.declared.Kind.the-variants.{Union, SameSet}
 use Rattle.job.specs.declared.Request.{Request}
-use Rattle.word.specs.Word.{key, nodeLimit}
+use Rattle.word.specs.Word.{key}
 use Rattle.process.specs.declared.Side.{Side}
 use Rattle.process.specs.declared.Side.the-variants.{X, Y}
 use Rattle.process.specs.declared.Stage.{Stage}
@@ -26,7 +26,7 @@ use Rattle.process.specs.declared.Head.{Head}
 use Rattle.process.specs.Process.{nodeAt}
 use Rattle.forest.proofs.Size.{size}
 use Rattle.forest.proofs.Merge.{Ends}
-use Rattle.forest.proofs.Merge.Ends.{straight, crossed}
+use Rattle.forest.proofs.Merge.Ends.{straight}
 use Rattle.forest.proofs.Later.{Later, later-before, later-ends}
 
 abbrev pub isRaising : Stage → Bool

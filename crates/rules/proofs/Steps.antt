@@ -3,9 +3,9 @@
 -- Main law: step-outcome. B are the labels before the grant, B′ what a union of the request makes of them.
 use mathlib.Core.Path.{_≡_, refl, sym, ap, _∙_}
 use mathlib.Core.Logic.{_≢_}
-use mathlib.Core.Bool.{Bool, true, false, not, cond, true≢false}
+use mathlib.Core.Bool.{Bool, true, false, cond, true≢false}
 use mathlib.Core.List.{List}
-use Prim.Native.Nat.{ℕ, suc, _+_, _*_, _^_, _≤_, _<_}
+use Prim.Native.Nat.{ℕ, suc, _+_, _≤_, _<_}
 use native.Mathlib.Omega.{arith}
 use native.Mathlib.Decide.{ℕ-discrete}
 use lib.Dec.{eqb, ltb}
@@ -28,7 +28,6 @@ use Rattle.process.specs.Process.{isResting, restingAt, nodeAt, staged, movedTo
 use Rattle.process.specs.Access.{accessAt}
 use Rattle.process.specs.Advance.{together, ended, reread, rankBoth, linked, link, raise, attempt, moveUp, readNode, advanceAt}
 use Rattle.forest.specs.Forest.{rootCount}
-use Rattle.forest.proofs.Size.{size}
 use Rattle.forest.proofs.Merge.{Ends, Merged, merged-ends}
 use Rattle.forest.proofs.Merge.Ends.{straight, crossed}
 use Rattle.forest.proofs.Sound.{Sound}
@@ -36,13 +35,13 @@ use Rattle.forest.proofs.Writes.{Changed}
 use Rattle.forest.proofs.Halving as forest-halving
 use Rattle.forest.proofs.Linking as forest-linking
 use Rattle.forest.proofs.Raising as forest-raising
-use Rattle.forest.proofs.Later.{Later, later-refl, halving-later, linking-later, raising-later}
+use Rattle.forest.proofs.Later.{later-refl, halving-later, linking-later, raising-later}
 use Rattle.forest.proofs.Roots.{halving-roots, linking-roots, raising-roots}
 use Rattle.linearization.proofs.Tests.{split}
 use Rattle.rules.specs.Table.{at, parent, rank, seen, touched}
 use Rattle.rules.proofs.Table.{parent-changed, rank-changed, found-parent, found-rank}
 use Rattle.rules.proofs.Stages.{isRaising, pendingOf, Inside, Finding, Above, ReadingParent, Halving, ReadingAgain, Rereading, ReadingRanks, Linking, Raising, Knows, side-node, knows-later}
-use Rattle.rules.proofs.Outcomes.{Kept, Going, Closing, Linked, Joining, Ending, Denying, Outcome}
+use Rattle.rules.proofs.Outcomes.{Kept, Linked, Outcome}
 use Rattle.rules.proofs.Outcomes.Linked.{finished, raises}
 use Rattle.rules.proofs.Outcomes.Outcome.{going, closing, joining, ending, denying}
 

@@ -4,15 +4,15 @@
 --
 -- Main laws: run-invariant, the invariant holds at every moment of every run; linearized, the theorem for any start;
 -- fresh-linearized, the theorem for document 01's start; run-prefix and history-prefix, a cut is a shorter schedule.
-use mathlib.Core.Path.{_≡_, refl, sym, ap, _∙_, subst}
+use mathlib.Core.Path.{_≡_, refl, sym, ap, _∙_}
 use mathlib.Core.Logic.{_≢_}
 use mathlib.Core.Bool.{Bool, true, false, cond, not, true≢false}
-use mathlib.Core.List.{List, [], _∷_, _++_, map, List·Memᴰ, List·Memᴰ·head, List·Memᴰ·tail}
+use mathlib.Core.List.{List, [], _∷_, _++_, List·Memᴰ, List·Memᴰ·head, List·Memᴰ·tail}
 use Prim.Native.Nat.{ℕ, zero, suc, _+_, _≤_, _<_}
 use native.Mathlib.Omega.{arith}
 use native.Mathlib.Decide.{decLt}
 use lib.Dec.{eqb}
-use lib.ListN.{length, getD, replicate, length-set, length-replicate, getD-replicate}
+use lib.ListN.{length, getD, length-set, length-replicate, getD-replicate}
 use borrow.Author.Tests.{eq-eqb, ne-eqb}
 use Rattle.job.specs.declared.Request.{Request}
 use Rattle.word.specs.declared.Node.{Node}
@@ -22,7 +22,7 @@ use Rattle.process.specs.Process.{isResting}
 use Rattle.forest.specs.Forest.{rootCount}
 use Rattle.forest.proofs.Forest.{together-iff-label}
 use Rattle.forest.proofs.Sound.{Sound, start-sound}
-use Rattle.linearization.specs.Partition.{Labels, apart, replies}
+use Rattle.linearization.specs.Partition.{Labels, apart}
 use Rattle.linearization.specs.Entry.{Entry, occurrences}
 use Rattle.linearization.proofs.Tests.{split}
 use Rattle.linearization.proofs.Replay.{Replayed, ended, replayed-fact, replayed-rising, replayed-replies, replayed-map}
@@ -32,11 +32,11 @@ use Rattle.rules.specs.State.{State, requestAt, seek, resting, headsFrom
 use Rattle.rules.specs.Step.{headAt, ready, advanced, settled, step}
 use Rattle.rules.specs.Run.{Happening, run, happened, history}
 use Rattle.rules.specs.History.{rowOf, linkOf}
-use Rattle.rules.specs.Linearized.{operationAt, operations, rowAt, promised, isListed, Playable, Linearized}
+use Rattle.rules.specs.Linearized.{operationAt, rowAt, promised, isListed, Playable, Linearized}
 use Rattle.rules.proofs.Table.{length-fresh, fresh-start}
 use Rattle.rules.proofs.Requests.{seek-own, seek-least}
 use Rattle.rules.proofs.Stages.{Inside}
-use Rattle.rules.proofs.Invariant.{claim, Over, Current, Waiting, Phase, Placed, Invariant}
+use Rattle.rules.proofs.Invariant.{Waiting, Phase, Placed, Invariant}
 use Rattle.rules.proofs.Invariant.Phase.{over, current, waiting}
 use Rattle.rules.proofs.Grant.{step-invariant}
 

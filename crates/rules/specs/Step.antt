@@ -3,13 +3,12 @@
 --   turn qs S h        whom a grant to head h serves: nobody, or the head as it stands or as it begins its next request
 --   served qs S h head the state after a grant to head h that serves it
 --   step qs S h        the state after a grant to head h
-use mathlib.Core.Bool.{Bool, true, false, not, cond}
+use mathlib.Core.Bool.{Bool, cond}
 use mathlib.Core.List.{List}
-use Prim.Native.Nat.{ℕ, suc, _+_}
+use Prim.Native.Nat.{ℕ, suc}
 use lib.Dec.{eqb}
 use lib.ListN.{getD, set}
 use Rattle.job.specs.declared.Request.{Request}
-use Rattle.word.specs.declared.Node.{Node}
 use Rattle.process.specs.declared.Head.{Head}
 use Rattle.process.specs.declared.Event.{Event}
 use Rattle.process.specs.declared.Advanced.{Advanced}
@@ -17,7 +16,6 @@ use Rattle.process.specs.Process.{begin, isResting}
 use Rattle.process.specs.Access.{accessOf}
 use Rattle.process.specs.Advance.{advanceOf}
 use Rattle.linearization.specs.Entry.{Entry, insert}
-use Rattle.rules.specs.declared.Row.{Row}
 use Rattle.rules.specs.Table.{seen, touched}
 use Rattle.rules.specs.Report.{noRow, isFinal, charge}
 use Rattle.rules.specs.State.{requestAt, seek, State, resting, hasWork}
