@@ -29,8 +29,8 @@ use Rattle.rules.specs.History.{linkOf}
 use Rattle.rules.specs.Linearized.{promised}
 use Rattle.rules.proofs.History.{row-other}
 use Rattle.rules.proofs.Stages.{pendingOf, Inside, finding-begin, knows-later, pending-until}
-use Rattle.rules.proofs.Outcomes.{Outcome}
-use Rattle.rules.proofs.Steps.{step-outcome}
+use Rattle.rules.proofs.Outcomes.{Outcome, Present}
+use Rattle.rules.proofs.StepOutcome.{step-outcome}
 use Rattle.rules.proofs.Invariant.{labels, ApartAt, Current, Waiting, Phase, Invariant}
 use Rattle.rules.proofs.Invariant.Phase.{over, current, waiting}
 use Rattle.rules.proofs.Others.{timed-other, phase-other, placed-other}
@@ -129,10 +129,12 @@ module _ {qs : List Request} {n : ℕ} {B : Labels} {roots₀ : ℕ} {S : State}
           chosen t = ap (λ b. cond b (begin (requestAt qs (headAt S h .request)) (headAt S h .request)) (headAt S h)) t
 
     -- what the request's union would make of the sets
-    union-merged : (q : ℕ) → Merged (labels qs B S) (join (labels qs B S) (requestAt qs q .x) (requestAt qs q .y)) (requestAt qs q .x) (requestAt qs q .y)
+    abbrev united : ℕ → Labels
+    united q = join (labels qs B S) (requestAt qs q .x) (requestAt qs q .y)
+
+    union-merged : (q : ℕ) → Merged (labels qs B S) (united q) (requestAt qs q .x) (requestAt qs q .y)
     unfolding join
-    union-merged q =
-        relabelled-merged (labels qs B S) (join (labels qs B S) (requestAt qs q .x) (requestAt qs q .y)) (requestAt qs q .x) (requestAt qs q .y) (λ i. refl)
+    union-merged q = relabelled-merged (labels qs B S) (united q) (requestAt qs q .x) (requestAt qs q .y) (λ i. refl)
 
     -- no entry is beyond this grant
     apart-now : (q : ℕ) → labels qs B S (requestAt qs q .x) ≢ labels qs B S (requestAt qs q .y) → ApartAt qs B (S .entries) q (suc (S .now))
@@ -140,15 +142,16 @@ module _ {qs : List Request} {n : ℕ} {B : Labels} {roots₀ : ℕ} {S : State}
         subst (λ C. C (requestAt qs q .x) ≢ C (requestAt qs q .y))
         (sym (labelsTo-all _ (suc (S .now)) B (S .entries) (λ e m. omega (arith, replayed-fact (inv .entries) e m .until, inv .clock))))
 
+    present-now : (q : ℕ) → q < length qs → Present n (S .now) (S .table) (labels qs B S) (united q) (ApartAt qs B (S .entries) q) (requestAt qs q)
+    present-now q within =
+        record { nodes = inv .nodes; inside = inside q within; sound = inv .sound; merged = union-merged q; apart = apart-now q }
+
     pub served-outcome : (head : Head) → Serving qs n B S past h head
-        → Outcome n (S .now) (S .table) (touched (S .table) (accessOf head)) (labels qs B S)
-        (join (labels qs B S) (requestAt qs (head .request) .x) (requestAt qs (head .request) .y))
+        → Outcome n (S .now) (S .table) (touched (S .table) (accessOf head)) (labels qs B S) (united (head .request))
         (ApartAt qs B (S .entries) (head .request)) (requestAt qs (head .request)) (head .stage) (advanced S head)
     unfolding accessOf advanceOf
     served-outcome head srv =
-        step-outcome (S .table) (labels qs B S) (join (labels qs B S) (requestAt qs (head .request) .x) (requestAt qs (head .request) .y)) (S .now)
-        (ApartAt qs B (S .entries) (head .request)) (requestAt qs (head .request)) (inv .nodes) (inside (head .request) (srv .within)) (inv .sound)
-        (union-merged (head .request)) (apart-now (head .request)) head (head .stage) (srv .busy) (srv .knows)
+        step-outcome (present-now (head .request) (srv .within)) head (head .stage) (srv .busy) (srv .knows)
 
     served-invariant : (head : Head) → Serving qs n B S past h head → Invariant qs n B roots₀ (served qs S h head) (more S head past)
     served-invariant head srv =

@@ -181,12 +181,7 @@ module _ (q : ℕ) (e : Event) (past : List Happening) where
   pub find-unserved : e .found ≡ false → lastWhere (endsFindOf q) (serving q e ∷ past) ≡ lastWhere (endsFindOf q) past
   find-unserved t = rw (of-itself q e past, t)
 
-  -- a union that has linked has its point there
-  pub point-linked : linkOf q (serving q e ∷ past) ≢ 0 → pointOf Union q (serving q e ∷ past) ≡ linkOf q (serving q e ∷ past)
-  unfolding pointOf
-  point-linked d = rw (ne-eqb (linkOf q (serving q e ∷ past)) 0 d)
-
-  -- one that has not, at its last grant
+  -- a union that has not linked has its point at its last grant
   pub point-unlinked : linkOf q (serving q e ∷ past) ≡ 0 → pointOf Union q (serving q e ∷ past) ≡ suc (length past)
   unfolding pointOf
   point-unlinked z = rw (eq-eqb (linkOf q (serving q e ∷ past)) 0 z, of-itself q e past)
@@ -195,6 +190,7 @@ pub point-same-set : (q : ℕ) (past : List Happening) → pointOf SameSet q pas
 unfolding pointOf
 point-same-set q past = refl
 
+-- and one that has linked, there
 pub point-union : (q : ℕ) (past : List Happening) → linkOf q past ≢ 0 → pointOf Union q past ≡ linkOf q past
 unfolding pointOf
 point-union q past d = rw (ne-eqb (linkOf q past) 0 d)

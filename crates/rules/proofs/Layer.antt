@@ -152,4 +152,4 @@ module _ {qs : List Request} {n : ℕ} {B : Labels} {roots₀ : ℕ} where
 
   pub later-layer : (p r C : ℕ → ℕ)
       → Layer qs n B roots₀ (λ S past. Later n p r C (parent (S .table)) (rank (S .table)) (labels qs B S))
-  later-layer p r C = record { idles = λ inv later. later; serves = λ inv srv effect later. later-trans later (effect .later) }
+  later-layer p r C = record { idles = λ inv later. later; serves = λ inv srv effect later. later-trans later (effect .kept .later) }

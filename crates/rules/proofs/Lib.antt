@@ -5,9 +5,14 @@ pub mod Table
 pub mod Requests
 pub mod Stages
 pub mod Outcomes
+pub mod Writes
 pub mod Steps
+pub mod FindSteps
+pub mod UnionSteps
+pub mod StepOutcome
 pub mod Invariant
 pub mod Others
+pub mod Own
 pub mod Serving
 pub mod Effects
 pub mod Grant

@@ -24,8 +24,6 @@ use Rattle.process.specs.Process.{isResting, restingAt}
 use Rattle.process.specs.Access.{accessOf}
 use Rattle.process.specs.Advance.{advanceOf}
 use Rattle.forest.specs.Forest.{rootCount}
-use Rattle.forest.proofs.Sound.{Sound}
-use Rattle.forest.proofs.Later.{Later}
 use Rattle.linearization.specs.Partition.{Labels}
 use Rattle.linearization.specs.Entry.{occurrences}
 use Rattle.linearization.proofs.Replay.{labelsTo, Replayed}
@@ -41,6 +39,7 @@ use Rattle.rules.proofs.History.{Other, other-served, row-other, row-se
 use Rattle.rules.proofs.Table.{length-touched}
 use Rattle.rules.proofs.Requests.{seek-from, seek-own, seek-least}
 use Rattle.rules.proofs.Stages.{isRaising, Inside, Knows, pending-until, knows-later}
+use Rattle.rules.proofs.Outcomes.{Kept}
 use Rattle.rules.proofs.Steps.{advance-keeps}
 use Rattle.rules.proofs.Others.{timed-other, over-other, waiting-other, phase-other}
 use Rattle.rules.proofs.Invariant.{labels, ApartAt, claim, Timed, Over, Current, Busy, Phase, Placed, Invariant}
@@ -77,8 +76,7 @@ pub data After (qs : List Request) (n : ℕ) (B : Labels) (S′ : State) (past�
   finishes : isFinal (a .event .answer) ≡ true → a .head .stage ≡ Resting → Over q past′ (occurrences q (S′ .entries)) → After qs n B S′ past′ q a
 
 pub record Effect (qs : List Request) (n : ℕ) (B : Labels) (roots₀ : ℕ) (S S′ : State) (past′ : List Happening) (q : ℕ) (a : Advanced) : Type 0 where
-  pub sound : Sound n (parent (S′ .table)) (rank (S′ .table)) (labels qs B S′)
-  pub later : Later n (parent (S .table)) (rank (S .table)) (labels qs B S) (parent (S′ .table)) (rank (S′ .table)) (labels qs B S′)
+  pub kept : Kept n (S .table) (S′ .table) (labels qs B S) (labels qs B S′)
   pub roots : rootCount (parent (S′ .table)) n + S′ .links ≡ roots₀
   -- the sets up to an earlier point stay
   pub settled : (point : ℕ) → point ≤ S .now → labelsTo (operationAt qs) point B (S′ .entries) ≡ labelsTo (operationAt qs) point B (S .entries)
@@ -196,7 +194,7 @@ module _ {qs : List Request} {n : ℕ} {B : Labels} {roots₀ : ℕ} {S : State}
 
     knows-other : isResting (headAt S k) ≡ false → Known (headAt S k .request) (headAt S k)
     knows-other b =
-        knows-later (effect .later) (inside (headAt S k .request) (inv .busy k b .within))
+        knows-later (effect .kept .later) (inside (headAt S k .request) (inv .busy k b .within))
         {Apart = ApartAt qs B (S .entries) (headAt S k .request)} {Apart′ = ApartAt qs B (S′ .entries) (headAt S k .request)}
         {now = S .now} {now′ = suc (S .now)} (omega arith)
         (λ point l apart. subst (λ C. C (requestAt qs (headAt S k .request) .x) ≢ C (requestAt qs (headAt S k .request) .y)) (sym (effect .settled point l)) apart)
@@ -232,7 +230,7 @@ module _ {qs : List Request} {n : ℕ} {B : Labels} {roots₀ : ℕ} {S : State}
         clock = ap suc (inv .clock);
         reports = length-set (S .report) q (charge (getD (S .report) q noRow) (suc (S .now)) (advanced S head .event .answer)) ∙ inv .reports;
         rows = λ p l. rows-served p l (ℕ-discrete p q);
-        sound = effect .sound;
+        sound = effect .kept .sound;
         roots = effect .roots;
         own = λ k l. own k (omega (arith, length-set (S .heads) h head′)) (ℕ-discrete k h);
         busy = λ k. busy k (ℕ-discrete k h);
