@@ -1,5 +1,7 @@
 -- The laws of job files: what a refusal of 0 says, how records follow one another, runs, and the round trips.
 pub mod Tests
+pub mod KindNumbers
+pub mod Sums
 pub mod Records
 pub mod Runs
 pub mod Passed

@@ -5,7 +5,7 @@
 --   Below limit es        every point is less than the limit
 use mathlib.Core.Path.{_≡_, refl, sym, ap, _∙_}
 use mathlib.Core.Logic.{_≢_}
-use mathlib.Core.Bool.{Bool, true, false, cond}
+use mathlib.Core.Bool.{cond}
 use mathlib.Core.List.{List, [], _∷_, _++_, List·Memᴰ, List·Memᴰ·head, List·Memᴰ·tail, Memᴰ·append-right}
 use Prim.Native.Nat.{ℕ, suc, _≤_, _<_}
 use native.Mathlib.Omega.{arith}
@@ -13,7 +13,7 @@ use lib.Dec.{eqb, ltb}
 use lib.ListN.{length, take, drop}
 use borrow.Author.Tests.{eq-eqb, ne-eqb, lt-ltb, le-ltb}
 use Rattle.linearization.specs.Entry.{Entry, insert, earlier, Rising, empty, rises, occurrences}
-use Rattle.linearization.proofs.Tests.{split}
+use Rattle.linearization.proofs.Tests.{split, count-swap}
 
 abbrev pub entry : ℕ → ℕ → Entry
 entry point request = record { point = point; request = request }
@@ -25,12 +25,6 @@ abbrev pub Below : ℕ → List Entry → Type 0
 Below limit es = (e : Entry) → List·Memᴰ e es → e .point < limit
 
 -- ---- insertion
-
-count-swap : (s t : Bool) (n : ℕ) → cond s (suc (cond t (suc n) n)) (cond t (suc n) n) ≡ cond t (suc (cond s (suc n) n)) (cond s (suc n) n)
-count-swap true true n = refl
-count-swap true false n = refl
-count-swap false true n = refl
-count-swap false false n = refl
 
 module _ (point request : ℕ) where
   -- an entry beyond all others goes in last

@@ -38,7 +38,7 @@ use Rattle.rules.specs.Step.{advanced, served}
 use Rattle.rules.specs.Run.{Happening}
 use Rattle.rules.specs.History.{linkOf, pointOf}
 use Rattle.rules.specs.Linearized.{operationAt, promised}
-use Rattle.rules.proofs.History.{Other, other-served, row-other, served-answer, link-served, link-unserved, find-served, point-unlinked, point-same-set, point-union, usedFor}
+use Rattle.rules.proofs.History.{other-served, row-other, served-answer, link-served, link-unserved, find-served, point-unlinked, point-same-set, point-union, usedFor}
 use Rattle.rules.proofs.Stages.{isRaising, pendingOf, Raising, Knows}
 use Rattle.rules.proofs.Outcomes.{Kept, Unlinked, Going, Closing, Linked, Joining, Ending, Denying, Outcome}
 use Rattle.rules.proofs.Outcomes.Linked.{finished, raises}
@@ -112,17 +112,14 @@ module _ (qs : List Request) (n : ℕ) (B : Labels) (roots₀ : ℕ) (S : State)
 
   -- ---- entries that stand
 
-  other : (p : ℕ) → p ≢ q → Other p (serving-of S head)
-  other p d = other-served p q (a .event) (λ e. d (sym e))
-
   claim-other : (p : ℕ) → p ≢ q → claim past p ≡ claim past′ p
-  claim-other p d = ap (λ r. promised (r .answer)) (sym (row-other p (serving-of S head) past (other p d)))
+  claim-other p d = ap (λ r. promised (r .answer)) (sym (row-other p (serving-of S head) past (other-served p q (a .event) d)))
 
   -- a request that is not listed leaves every entry as it stands
   entries-stand : occurrences q (S .entries) ≡ 0 → Replayed (operationAt qs) (Placed qs past′) (claim past′) B 0 (S .entries)
   entries-stand none =
       replayed-map (inv .entries)
-      (λ e m p. placed-other (serving-of S head) (other (e .request) (occurrences-absent q none m)) p)
+      (λ e m p. placed-other (serving-of S head) (other-served (e .request) q (a .event) (occurrences-absent q none m)) p)
       (λ e m. claim-other (e .request) (occurrences-absent q none m))
 
   -- before its link a request is not listed
@@ -272,7 +269,7 @@ module _ (qs : List Request) (n : ℕ) (B : Labels) (roots₀ : ℕ) (S : State)
         subst (λ r. Placed qs past′ (entry (e .point) r)) (sym is)
         (placed-still q (a .event) past (srv .within) (d .kind) (d .unlinked) was-linked (srv .begun (d .raised))
         (subst (λ r. Placed qs past (entry (e .point) r)) is p))
-    ending-placed e (no not-own) p = placed-other (serving-of S head) (other (e .request) not-own) p
+    ending-placed e (no not-own) p = placed-other (serving-of S head) (other-served (e .request) q (a .event) not-own) p
 
     -- joined was promised before, and is reported now
     ending-claim : (p : ℕ) → Dec (p ≡ q) → claim past p ≡ claim past′ p

@@ -7,9 +7,8 @@ use mathlib.Core.Path.{_≡_, refl, sym, ap, _∙_}
 use mathlib.Core.Logic.{_≢_}
 use mathlib.Core.Bool.{true, false}
 use mathlib.Core.List.{List}
-use Prim.Native.Nat.{ℕ, suc, _<_}
+use Prim.Native.Nat.{ℕ, suc}
 use native.Mathlib.Omega.{arith}
-use native.Mathlib.Decide.{ℕ-discrete}
 use lib.Dec.{eqb}
 use borrow.Author.Tests.{eqb-true, eqb-false}
 use Rattle.job.specs.declared.Kind.{Kind}
@@ -29,7 +28,7 @@ use Rattle.process.specs.Advance.{continue, together, ended, reread, attempt, m
 use Rattle.forest.proofs.Halving as forest
 use Rattle.linearization.proofs.Tests.{split}
 use Rattle.rules.specs.Table.{at, parent, rank, touched}
-use Rattle.rules.proofs.Stages.{Finding, Above, ReadingParent, Halving, ReadingAgain, Rereading, Knows, side-node, knows-later}
+use Rattle.rules.proofs.Stages.{Finding, ReadingParent, Halving, ReadingAgain, Rereading, Knows, side-node, own-parent, above-parent, knows-later}
 use Rattle.rules.proofs.Outcomes.{Unlinked, Outcome, Present, unchanged, goes-on}
 use Rattle.rules.proofs.Outcomes.Outcome.{going, closing, denying}
 use Rattle.rules.proofs.Writes.{halving-unlinked}
@@ -38,27 +37,6 @@ use Rattle.rules.proofs.Steps.{ends-one, ends-two, finding-moved}
 module _ {n now : ℕ} {t : List Node} {B B′ : ℕ → ℕ} {Apart : ℕ → Type 0} {q : Request} (present : Present n now t B B′ Apart q) (h : Head) where
   abbrev Gives : List Node → Stage → Advanced → Type 0
   Gives t′ st a = Outcome n now t t′ B B′ Apart q st a
-
-  -- ---- nodes above a node
-
-  own-parent : (v : ℕ) → v < n → parent t v ≢ v → Above n (parent t) (rank t) B v (parent t v)
-  own-parent v node d =
-      record {
-        node = present .sound .formed .inside v node;
-        lower = d;
-        same = present .sound .labelled .along v node;
-        before = present .sound .formed .rising v node d;
-      }
-
-  -- the parent of a node above v is above v, too
-  above-parent : {v u : ℕ} → Above n (parent t) (rank t) B v u → Above n (parent t) (rank t) B v (parent t u)
-  above-parent {v} {u} a = go (ℕ-discrete (parent t u) u)
-    where
-      go : Dec (parent t u ≡ u) → Above n (parent t) (rank t) B v (parent t u)
-      go (yes e) = rw e a
-      go (no d) =
-          let on = own-parent u (a .node) d in
-          record { node = on .node; lower = a .lower; same = on .same ∙ a .same; before = omega (arith, a .before, on .before) }
 
   -- ---- both finds have ended
 
@@ -123,7 +101,7 @@ module _ {n now : ℕ} {t : List Node} {B B′ : ℕ → ℕ} {Apart : ℕ → T
       (goes-on (ReadNode k s) (staged h (ReadParent k s (rank t (nodeAt h s)) (parent t (nodeAt h s)))) false false refl refl refl refl (unchanged present)
       (record {
         finding = f;
-        parent = own-parent (nodeAt h s) (side-node h f s) (eqb-false (parent t (nodeAt h s)) (nodeAt h s) e);
+        parent = own-parent (present .sound .formed) (present .sound .labelled) (nodeAt h s) (side-node h f s) (eqb-false (parent t (nodeAt h s)) (nodeAt h s) e);
         rank = refl;
       })))
 
@@ -131,7 +109,7 @@ module _ {n now : ℕ} {t : List Node} {B B′ : ℕ → ℕ} {Apart : ℕ → T
       → Gives t (ReadParent k s r u) (continue h (Halve k s r u (parent t u)))
   read-parent k s r u a =
       goes-on (ReadParent k s r u) (staged h (Halve k s r u (parent t u))) false false refl refl refl refl (unchanged present)
-      (record { finding = a .finding; parent = a .parent; grandparent = above-parent (a .parent); rank = a .rank })
+      (record { finding = a .finding; parent = a .parent; grandparent = above-parent (present .sound .formed) (present .sound .labelled) (a .parent); rank = a .rank })
 
   module _ (k : Kind) (s : Side) (r u w : ℕ) (a : Halving n (parent t) (rank t) B q k (h .x) (h .y) (nodeAt h s) r u w) where
     may-halve : forest.Halving n (parent t) (rank t) B (nodeAt h s) r w

@@ -34,7 +34,8 @@ use Rattle.rules.proofs.StepOutcome.{step-outcome}
 use Rattle.rules.proofs.Invariant.{labels, ApartAt, Current, Waiting, Phase, Invariant}
 use Rattle.rules.proofs.Invariant.Phase.{over, current, waiting}
 use Rattle.rules.proofs.Others.{timed-other, phase-other, placed-other}
-use Rattle.rules.proofs.Serving.{Serving, more, effect-invariant}
+use Rattle.rules.proofs.Positions.{phase-of}
+use Rattle.rules.proofs.Serving.{Serving, more, effect-invariant, Effect}
 use Rattle.rules.proofs.Effects.{outcome-effect}
 
 -- The request of a head with work left is being served, if the head is not at rest, or waits for it.
@@ -84,7 +85,7 @@ module _ {qs : List Request} {n : ℕ} {B : Labels} {roots₀ : ℕ} {S : State}
       own-head = inv .own h present within
 
       own-phase : Phase (headAt S h) (headAt S h .request) past (occurrences (headAt S h .request) (S .entries))
-      own-phase = subst (λ k. Phase (headAt S k) (headAt S h .request) past (occurrences (headAt S h .request) (S .entries))) own-head (inv .phases (headAt S h .request) within)
+      own-phase = phase-of inv h (headAt S h .request) within own-head
 
       -- the head goes on
       serving-busy : isResting (headAt S h) ≡ false → Serving qs n B S past h (headAt S h)
@@ -146,20 +147,21 @@ module _ {qs : List Request} {n : ℕ} {B : Labels} {roots₀ : ℕ} {S : State}
     present-now q within =
         record { nodes = inv .nodes; inside = inside q within; sound = inv .sound; merged = union-merged q; apart = apart-now q }
 
-    pub served-outcome : (head : Head) → Serving qs n B S past h head
+    served-outcome : {head : Head} → Serving qs n B S past h head
         → Outcome n (S .now) (S .table) (touched (S .table) (accessOf head)) (labels qs B S) (united (head .request))
         (ApartAt qs B (S .entries) (head .request)) (requestAt qs (head .request)) (head .stage) (advanced S head)
     unfolding accessOf advanceOf
-    served-outcome head srv =
-        step-outcome (present-now (head .request) (srv .within)) head (head .stage) (srv .busy) (srv .knows)
+    served-outcome {head} srv = step-outcome (present-now (head .request) (srv .within)) head (head .stage) (srv .busy) (srv .knows)
 
-    served-invariant : (head : Head) → Serving qs n B S past h head → Invariant qs n B roots₀ (served qs S h head) (more S head past)
-    served-invariant head srv =
-        effect-invariant present inside inv srv (outcome-effect qs n B roots₀ S past h head inv srv (served-outcome head srv))
+    pub served-effect : {head : Head} → Serving qs n B S past h head
+        → Effect qs n B roots₀ S (served qs S h head) (more S head past) (head .request) (advanced S head)
+    served-effect {head} srv = outcome-effect qs n B roots₀ S past h head inv srv (served-outcome srv)
 
     pub step-invariant : Invariant qs n B roots₀ (step qs S h) (happened qs S h ∷ past)
     unfolding step happened
     step-invariant =
         split (hasWork qs (headAt S h))
-        (λ t. rw t (served-invariant (ready qs (headAt S h)) (serving-ready (ltb-true (headAt S h .request) (length qs) t))))
+        (λ t.
+        let serving = serving-ready (ltb-true (headAt S h .request) (length qs) t) in
+        rw t (effect-invariant present inside inv serving (served-effect serving)))
         (λ t. rw t idle-invariant)

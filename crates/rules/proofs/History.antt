@@ -7,7 +7,7 @@
 -- leaves a point alone; used-kept, what grant p was used for stays so.
 use mathlib.Core.Path.{_≡_, refl, sym, _∙_}
 use mathlib.Core.Logic.{_≢_}
-use mathlib.Core.Bool.{Bool, true, false, cond}
+use mathlib.Core.Bool.{Bool, true, false, cond, true≢false}
 use mathlib.Core.List.{List, [], _∷_}
 use Prim.Native.Nat.{ℕ, suc, _+_, _≤_}
 use native.Mathlib.Omega.{arith}
@@ -31,8 +31,8 @@ use Rattle.rules.specs.History.{firstWhere, lastWhere, countWhere, isOf,
 abbrev pub Other : ℕ → Happening → Type 0
 Other q a = isOf q a ≡ false
 
-pub other-served : (q r : ℕ) (e : Event) → r ≢ q → Other q (serving r e)
-other-served q r e d = ne-eqb r q d
+pub other-served : (q r : ℕ) (e : Event) → q ≢ r → Other q (serving r e)
+other-served q r e d = ne-eqb r q (λ e. d (sym e))
 
 -- it ended no find of q, linked nothing for it and left its answer
 other-find : (q : ℕ) (a : Happening) → Other q a → endsFindOf q a ≡ false
@@ -98,6 +98,13 @@ row-other q a past o =
       last = cond (eqb (other-answer q a past o i) 0) 0 (last-kept (isOf q) a past o i);
       used = count-kept (isOf q) a past o i;
     }
+
+pub final-number : (a : Answer) → isFinal a ≡ true → answerNumber a ≢ 0
+final-number Unfinished f z = true≢false (sym f)
+final-number Joined f z = omega arith
+final-number Together f z = omega arith
+final-number Yes f z = omega arith
+final-number No f z = omega arith
 
 -- a last grant is 0 exactly while the answer is
 last-answer : (a : Answer) (now : ℕ) → cond (isFinal a) now 0 ≡ cond (eqb (answerNumber a) 0) 0 now

@@ -11,12 +11,12 @@ pub mod FindSteps
 pub mod UnionSteps
 pub mod StepOutcome
 pub mod Invariant
+pub mod Positions
 pub mod Others
 pub mod Own
 pub mod Serving
 pub mod Effects
 pub mod Grant
 pub mod Theorem
-pub mod Positions
 pub mod Layer
 pub mod Laws

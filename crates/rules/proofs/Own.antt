@@ -13,8 +13,7 @@ use lib.Dec.{eqb}
 use lib.ListN.{length}
 use Rattle.job.specs.declared.Kind.{Kind}
 use Rattle.job.specs.declared.Kind.the-variants.{Union, SameSet}
-use Rattle.job.specs.declared.Answer.{Answer}
-use Rattle.job.specs.declared.Answer.the-variants.{Unfinished, Joined, Together, Yes, No}
+use Rattle.job.specs.declared.Answer.the-variants.{Unfinished}
 use Rattle.job.specs.declared.Request.{Request}
 use Rattle.job.specs.Job.{answerNumber}
 use Rattle.process.specs.declared.Stage.{Stage}
@@ -25,16 +24,9 @@ use Rattle.rules.specs.State.{requestAt}
 use Rattle.rules.specs.Run.{Happening}
 use Rattle.rules.specs.Run.Happening.{serving}
 use Rattle.rules.specs.History.{rowOf, linkOf, pointOf}
-use Rattle.rules.proofs.History.{served-answer, served-last, served-first, served-settled, row-first-bound, row-last-bound, link-unserved, find-served, find-unserved, point-same-set, point-union, usedFor, used-now, used-kept}
+use Rattle.rules.proofs.History.{final-number, served-answer, served-last, served-first, served-settled, row-first-bound, row-last-bound, link-unserved, find-served, find-unserved, point-same-set, point-union, usedFor, used-now, used-kept}
 use Rattle.rules.proofs.Stages.{isRaising, pendingOf}
 use Rattle.rules.proofs.Invariant.{Candidate, Timed, Over, Current, Placed}
-
-final-number : (a : Answer) → isFinal a ≡ true → answerNumber a ≢ 0
-final-number Unfinished f z = true≢false (sym f)
-final-number Joined f z = omega arith
-final-number Together f z = omega arith
-final-number Yes f z = omega arith
-final-number No f z = omega arith
 
 module _ (q : ℕ) (e : Event) (past : List Happening) where
   abbrev past′ : List Happening

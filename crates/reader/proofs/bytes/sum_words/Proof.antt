@@ -3,7 +3,7 @@ use Prim.Native.Nat.{_+_, _-_}
 use native.Mathlib.Omega.{arith}
 use lib.ListN.{length}
 use borrow.Author.Needs.{needs}
-use Rattle.reader.proofs.Words.{Summed, sum-start, sum-next, sum-end}
+use Rattle.jobfile.proofs.Sums.{Summed, sum-start, sum-next, sum-end}
 use Rattle.reader.proofs.bytes.sum_words.Statement.{statement}
 use Rattle.reader.proofs.bytes.sum_words.Tie as tie
 

@@ -1,7 +1,7 @@
 -- `bytes::word_at`: the two bytes of a word.
 use denote.Ref.{now}
 use borrow.Author.Needs.{needs}
-use Rattle.reader.proofs.Words.{word-drop}
+use Rattle.jobfile.proofs.Sums.{word-drop}
 use Rattle.reader.proofs.bytes.word_at.Statement.{statement}
 use Rattle.reader.proofs.bytes.word_at.Tie as tie
 
