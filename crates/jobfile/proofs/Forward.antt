@@ -1,6 +1,7 @@
 -- What is written is read back: the meaning of the file of an admitted job is that job.
 --
 --   RequestsRead, RunsRead   the bytes of requests or runs, in front of another record, read back as themselves and are not refused
+--   close w                  the bytes of the close with the balance w
 --   wordSum-file             the words of a file add up to those of the file with balance 0, and its balance
 --   meaning-written          the meaning of the written file is the job
 use mathlib.Core.Path.{_≡_, refl, _∙_, sym, ap}

@@ -1,6 +1,8 @@
 -- Chains of tests: what it says that a chain refuses nothing, and the refusals that reader and writer share.
 --
 --   split b f g         both outcomes of the test b, each with its equation
+--   Passed b n          the test b did not refuse, and neither does the rest n
+--   Both a b            neither a nor b is a refusal
 --   passed, through     a chain that refuses nothing has passed its first test, and the rest refuses nothing
 --   Sized n h           n nodes and h heads are admitted
 --   Fit n h q           the numbers q are those of a request in a job of n nodes and h heads

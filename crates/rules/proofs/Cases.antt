@@ -1,4 +1,6 @@
 -- Document 01's starred cases hold of the rules, all by computation.
+--
+-- Main law: played-cases, what the rules leave of each case of the table is what is expected of it.
 use mathlib.Core.Path.{_≡_, refl}
 use mathlib.Core.List.{map}
 use Rattle.word.specs.Word.{encode}

@@ -1,5 +1,7 @@
 -- What each of the five outcomes does to the table, to the entries and to its own request.
 --
+--   q, a, past′, t′   the request served, the head's step, the history and the table after the grant
+--   B₁, united        the labels before the grant, and what a union of the request makes of them
 --   with-entries es   the state after the grant, with the entries es
 --   Does es           the effect of the grant, with the entries es
 --   entered           the entries with the request's own at this grant

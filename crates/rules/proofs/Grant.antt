@@ -1,6 +1,8 @@
 -- One grant keeps the invariant: idle, or serving a head that goes on with its request or begins its next one.
 --
--- Main law: step-invariant.
+--   united q   what a union of request q would make of the sets
+--
+-- Main laws: served-effect, what the grant does to a head that it serves; step-invariant.
 use mathlib.Core.Path.{_≡_, refl, sym, ap, _∙_, subst}
 use mathlib.Core.Logic.{_≢_}
 use mathlib.Core.Bool.{Bool, true, false, cond, true≢false}

@@ -1,6 +1,7 @@
 -- What one more happening does to what a history says.
 --
 --   Other q a        the grant a was not used for request q
+--   userOf a         one more than the request that the grant a was used for, 0 for none
 --   usedFor past p   one more than the request that grant p was used for, 0 for none
 --
 -- Main laws: row-served and row-other, the row of a request after a grant; point-other, a grant for another request

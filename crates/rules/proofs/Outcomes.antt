@@ -5,9 +5,10 @@
 --   Unlinked t t′ B   so it does with the same labels, and no root is lost
 --   Going             the head goes on with its request
 --   Closing           the two finds ended at one root: yes, or already together
---   Joining           the link was written
+--   Joining           the link was written; Linked, what follows it: finished, or about to raise
 --   Ending            the raise was tried: the linked union is finished
 --   Denying           x is still a root: no, at the point that was pending
+--   Outcome           one of the five
 --   Present           what stands as the grant is made, whatever the head
 --
 -- Laws: unchanged, a grant that writes nothing; goes-on, a step to a stage with no pending point.

@@ -1,4 +1,6 @@
--- What a grant does to the request that it was used for, as the history tells it: e is what the grant did to request q.
+-- What a grant does to the request that it was used for, as the history tells it.
+--
+--   past′   the history with the grant, which did e to request q
 --
 -- Main laws: finished-over and unfinished-current, the request's phase after the grant; timed-on and timed-raising, what its
 -- next stage may rely on; placed-now, placed-pending and placed-still, its entry at this grant, at the pending point, or

@@ -1,7 +1,7 @@
 -- What a head's position says of its requests, and so of the heads with work left.
 --
--- Main laws: phase-begun, phase-passed and phase-left, a request by its head's position; work-left, the heads with work
--- left are those with an unfinished request.
+-- Main laws: phase-of, a request's phase by the head that it is for; phase-begun, phase-passed and phase-left, a request
+-- by its head's position; work-left, the heads with work left are those with an unfinished request.
 use mathlib.Core.Path.{_≡_, refl, sym, ap, _∙_, subst}
 use mathlib.Core.Logic.{_≢_}
 use mathlib.Core.Bool.{Bool, true, false, true≢false}

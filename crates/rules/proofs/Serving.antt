@@ -3,8 +3,10 @@
 --   Serving             the head that a grant serves, begun or not, and what is known of its request
 --   serving-of S head   the grant, as the history has it
 --   more S head past    the history with it
+--   next-head qs h a    the head before its next request
 --   After               the request after the grant: it continues, or it is finished
 --   Effect              what the grant does to table, entries and its own request
+--   Known p a           what the head a knows of request p after the grant
 --   Seated              what holds of the served head after the grant
 --
 -- Main law: effect-invariant.

@@ -2,9 +2,13 @@
 -- Everywhere p gives each node's parent, r its rank, B its label; a point is Apart when the request's two nodes are in
 -- two sets there; now is the number of grants so far.
 --
+--   Inside n q          the request's two nodes are nodes
 --   Finding k x y       the head's x and y stand for the request's two nodes, and the request is of kind k
 --   Above v u           u is above v: in the same set, and v, no root, comes before it
---   Knows h stage       what the head h knows at that stage
+--   ReadingParent, Halving, ReadingAgain   what is known at each stage of a find,
+--   Rereading                              at a same-set's last read,
+--   ReadingRanks, Linking, Raising         and at a union's stages after its finds
+--   Knows h stage       which of these the head h knows at that stage
 --   isRaising stage     the head's link has been written
 --   pendingOf stage     the point that a same-set may get, or 0
 --

@@ -1,6 +1,7 @@
--- The table as functions: what a write to one node changes in parents and ranks, and the table at the start.
+-- The table as functions: what a store changes in parents and ranks, what a swap that writes has seen, and the start.
 --
---   stored t i w     the table t with the node i written
+-- Laws: parent-changed and rank-changed, a store changes its own node alone; length-touched, an access leaves the number of
+-- nodes; found-parent and found-rank, a swap that writes saw what it expected; fresh-start, the table at the start.
 use mathlib.Core.Path.{_≡_, refl, ap}
 use mathlib.Core.Bool.{Bool, true, false, cond}
 use mathlib.Core.List.{List}

@@ -2,8 +2,9 @@
 --
 --   Startable n t B    the table t shows the sets B: what a run may start from
 --
--- Main laws: run-invariant, the invariant holds at every moment of every run; linearized, the theorem for any start;
--- fresh-linearized, the theorem for document 01's start; run-prefix and history-prefix, a cut is a shorter schedule.
+-- Main laws: headsFrom-at, each head at the start; run-invariant, the invariant holds at every moment of every run;
+-- linearized, the theorem for any start; fresh-linearized, the theorem for document 01's start; run-prefix and
+-- history-prefix, a cut is a shorter schedule.
 use mathlib.Core.Path.{_≡_, refl, sym, ap, _∙_}
 use mathlib.Core.Logic.{_≢_}
 use mathlib.Core.Bool.{Bool, true, false, cond, not, true≢false}

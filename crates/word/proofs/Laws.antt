@@ -1,4 +1,9 @@
 -- Laws of words: the two round trips, what equal nodes are, and the order as one comparison of numbers.
+--
+--   rank-encode, parent-encode, decode-encode   what is read of a node's word is the node
+--   encode-decode   what is encoded of a decoded word is the word
+--   same-true       nodes that the test finds the same are equal
+--   before-key      "comes before" is the order of keys
 use mathlib.Core.Path.{_≡_, refl, _∙_, sym}
 use mathlib.Core.Bool.{Bool, true, false, cond}
 use Prim.Native.Nat.{ℕ, _<_}

@@ -3,6 +3,7 @@
 --   sets-after, stored-on   stores that follow on others are one row of stores
 --   sets-front          what stores from the front leave
 --   request-stored      the four stores of a request make its record
+--   bytesOf qs          the bytes of the requests that admitted numbers stand for
 --   RequestsStored out₀ l at out     the requests before the position at are stored
 --   RunsStored out₀ start gs i at out   the runs of the grants before the i-th are stored, up to the byte at
 use mathlib.Core.Path.{_≡_, _∙_, sym, ap}
