@@ -57,9 +57,6 @@ module _ {B B′ : ℕ → ℕ} {a b : ℕ} (merged : Merged B B′ a b) where
         only = λ i j e. joint-change ends (merged .only i j e);
       }
 
-  pub merged-crossed : Merged B B′ b a
-  merged-crossed = merged-ends b a (crossed refl refl)
-
   pub merged-grows : (n i : ℕ) → size n B (B i) ≤ size n B′ (B′ i)
   merged-grows n i = size-grows n B B′ (B i) (B′ i) (λ j l e. merged .kept j i e)
 

@@ -11,6 +11,7 @@ use mathlib.Core.Bool.{Bool, cond}
 use Prim.Native.Nat.{ℕ, zero, suc}
 use lib.Dec.{eqb}
 
+-- How many numbers below n pass the test.
 abbrev pub count : (ℕ → Bool) → ℕ → ℕ
 count test zero = zero
 count test (suc n) = cond (test n) (suc (count test n)) (count test n)

@@ -6,16 +6,16 @@
 --   admitted-job             the job of an accepted file is admitted
 use mathlib.Core.Path.{_≡_, refl, _∙_, sym, ap}
 use mathlib.Core.List.{List, [], _∷_, _++_, map}
-use Prim.Native.Nat.{ℕ, zero, suc, _+_, _*_, _%_, _/_, _≤_, _<_}
+use Prim.Native.Nat.{ℕ, _+_, _*_, _%_, _/_, _≤_}
 use native.Mathlib.Omega.{arith}
 use lib.ListN.{length, getD, drop, length-drop, length-map, drop-of-length-le}
 use lib.Seq.{drop-drop, drop-cons, getD-drop}
-use Rattle.job.specs.Job.{kindOf, kindNumber}
 use Rattle.jobfile.specs.declared.Run.{Run}
 use Rattle.jobfile.specs.Format.{jobMark, requestMark, runMark, closeMark, word, wordBytes, wordSum}
 use Rattle.jobfile.specs.Meaning.{nodesIn, headsIn, requestAt, requestsRefusal, runAt, runsRefusal, fullRun, requestRecords, runsStart, runRecords, closeStart, runsIn, jobIn}
 use Rattle.jobfile.specs.Written.{requestBytes, requestsBytes, runBytes, runsBytes, fileWith, balance, written}
 use Rattle.jobfile.specs.Admitted.{Admitted, Bytes}
+use Rattle.jobfile.proofs.KindNumbers.{kind-written}
 use Rattle.jobfile.proofs.Tests.{through}
 use Rattle.jobfile.proofs.Passed.{RequestPassed, request-passed, requests-few, each-serves, run-passed, ClosePassed, FilePassed}
 use Rattle.jobfile.proofs.Records.{Section, records-section}
@@ -44,12 +44,6 @@ mark-front m t b l e = rw (← e) (word-front t b l)
 -- The two fields of a byte each stand behind the mark.
 pair-after : (t : List ℕ) → 4 ≤ length t → getD t 2 0 ∷ getD t 3 0 ∷ drop 4 t ≡ drop 2 t
 pair-after t l = sym (drop-cons t 2 0 (omega arith) ∙ ap (λ (u : List ℕ). getD t 2 0 ∷ u) (drop-cons t 3 0 (omega arith)))
-
-kind-written : (k : ℕ) → 0 < k → k ≤ 2 → kindNumber (kindOf k) ≡ k
-kind-written zero s f = absurd (omega arith)
-kind-written (suc zero) s f = refl
-kind-written (suc (suc zero)) s f = refl
-kind-written (suc (suc (suc k))) s f = absurd (omega arith)
 
 request-front : (nodes heads number : ℕ) (t : List ℕ) → Bytes t → word t ≡ requestMark → RequestPassed nodes heads number t → requestBytes (requestAt t) ++ drop 8 t ≡ t
 request-front nodes heads number t b e p =

@@ -1,4 +1,11 @@
 -- Files held against the definitions: document 01's sample, read and written, and one table of accepted and refused files.
+--
+--   sampleJob, sampleFile         document 01's job, and its bytes
+--   header, request, run, close   the four records, by their numbers
+--   Case                          a file, and the number that it gives
+--   cases                         the table
+--
+-- Laws: sample-means and sample-written, the sample is read and written as it stands; cases-hold, the table holds.
 use mathlib.Core.Path.{_≡_, refl}
 use mathlib.Core.List.{List, [], _∷_, _++_, map}
 use Prim.Native.Nat.{ℕ}

@@ -19,7 +19,7 @@ use Rattle.jobfile.specs.Draft.{Draft, fieldsOf, jobOf, countRefusal, ea
 use Rattle.jobfile.specs.Admitted.{Serves, Admitted}
 use Rattle.jobfile.proofs.Tests.{passed, through, sized, sized-passes, fit, fit-passes}
 use Rattle.jobfile.proofs.Runs.{Below, below-tail}
-use Rattle.jobfile.proofs.Forward.{kind-back, some-kind, few-kinds}
+use Rattle.jobfile.proofs.KindNumbers.{kind-back, some-kind, few-kinds}
 
 fields-serve : (nodes heads : ℕ) (qs : List Fields) → eachRefusal nodes heads qs ≡ 0
     → (q : ℕ) (none : Request) → q < length (map requestOf qs) → Serves nodes heads (getD (map requestOf qs) q none)

@@ -1,6 +1,7 @@
 -- What is written is read back: the meaning of the file of an admitted job is that job.
 --
 --   RequestsRead, RunsRead   the bytes of requests or runs, in front of another record, read back as themselves and are not refused
+--   close w                  the bytes of the close with the balance w
 --   wordSum-file             the words of a file add up to those of the file with balance 0, and its balance
 --   meaning-written          the meaning of the written file is the job
 use mathlib.Core.Path.{_≡_, refl, _∙_, sym, ap}
@@ -11,15 +12,14 @@ use native.Mathlib.Nat.{mul-suc, add-comm}
 use lib.ListN.{length, getD, drop, length-map}
 use lib.Seq.{drop-drop}
 use borrow.Author.Tests.{ne-eqb, le-ltb, lt-leb}
-use Rattle.job.specs.declared.Kind.{Kind}
-use Rattle.job.specs.declared.Kind.the-variants.{Union, SameSet}
 use Rattle.job.specs.declared.Request.{Request}
-use Rattle.job.specs.Job.{Job, kindOf, kindNumber}
+use Rattle.job.specs.Job.{Job}
 use Rattle.jobfile.specs.declared.Run.{Run}
 use Rattle.jobfile.specs.Format.{requestMark, runMark, closeMark, mostBytes, mostRequests, word, wordBytes, wordSum, lengthRefusal}
 use Rattle.jobfile.specs.Meaning.{records, nodesIn, headsIn, headerRefusal, fieldsAt, requestAt, requestRefusal, requestsRefusal, runAt, runRefusal, runsRefusal, fullRun, granted, closeRefusal, balanceRefusal, requestRecords, runsStart, runRecords, closeStart, fileRefusal, jobIn, accepted, meaning}
 use Rattle.jobfile.specs.Written.{requestBytes, requestsBytes, runBytes, runsBytes, longestRuns, fileWith, balance, written}
 use Rattle.jobfile.specs.Admitted.{Serves, Admitted}
+use Rattle.jobfile.proofs.KindNumbers.{kind-back, some-kind, few-kinds}
 use Rattle.jobfile.proofs.Tests.{sized-passes, Fit, fit-passes}
 use Rattle.jobfile.proofs.Records.{records-next, records-end}
 use Rattle.jobfile.proofs.Runs.{Following, Follows, granted-longest, longest-follow}
@@ -28,20 +28,8 @@ use Rattle.jobfile.proofs.Runs.{Following, Follows, granted-longest, lo
 word-back : (w : ℕ) → w % 256 + 256 * (w / 256) ≡ w
 word-back w = omega arith
 
-pub kind-back : (k : Kind) → kindOf (kindNumber k) ≡ k
-kind-back Union = refl
-kind-back SameSet = refl
-
 request-back : (q : Request) (t : List ℕ) → requestAt (requestBytes q ++ t) ≡ q
 request-back q t = λ i. record { head = q .head; kind = kind-back (q .kind) i; x = word-back (q .x) i; y = word-back (q .y) i }
-
-pub some-kind : (k : Kind) → 0 < kindNumber k
-some-kind Union = omega arith
-some-kind SameSet = omega arith
-
-pub few-kinds : (k : Kind) → kindNumber k ≤ 2
-few-kinds Union = omega arith
-few-kinds SameSet = omega arith
 
 request-passes : (nodes heads number : ℕ) (q : Request) (t : List ℕ) → Serves nodes heads q → number < mostRequests
     → requestRefusal nodes heads number (requestBytes q ++ t) ≡ 0

@@ -1,6 +1,7 @@
 -- The laws of job files: words and their sum, what a refusal of 0 says, how records follow one another, runs, and the round trips.
-mod Sums
 pub mod Tests
+pub mod KindNumbers
+mod Sums
 pub mod Records
 pub mod Runs
 pub mod Passed

@@ -1,5 +1,6 @@
 -- Where the parts of an accepted file stand, so that they can be read in place, and how many there can be.
 --
+--   length-requests, length-runs, length-written   the lengths of what is written
 --   file-short          an accepted file is at most 32,768 bytes
 --   file-length         an accepted file is its header, 8 bytes a request, 4 a run, and the close
 --   request-stands      request q of an accepted file stands at byte 6 + 8 q
@@ -7,12 +8,12 @@
 --   runs-meant          the runs of an accepted file are the longest of its schedule
 --   granted-next, granted-end   the schedule of the runs from run i on
 --   few-grants          an admitted job has at most 2,088,195 grants
-use mathlib.Core.Path.{_≡_, _∙_, sym, ap}
+use mathlib.Core.Path.{_≡_, refl, _∙_, sym, ap}
 use mathlib.Core.List.{List, [], _∷_, _++_}
 use Prim.Native.Nat.{ℕ, _+_, _*_, _≤_, _<_}
 use native.Mathlib.Omega.{arith}
 use native.Mathlib.Numerals.{add-one}
-use lib.ListN.{length, getD, drop, replicate, length-map, drop-of-length-le}
+use lib.ListN.{length, getD, drop, replicate, length-append, length-map, drop-of-length-le}
 use lib.Seq.{drop-drop, drop-cons}
 use Rattle.job.specs.declared.Request.{Request}
 use Rattle.job.specs.Job.{Job}
@@ -27,17 +28,17 @@ use Rattle.jobfile.proofs.Passed.{file-passed}
 use Rattle.jobfile.proofs.Backward.{request-section, run-section, runs-rule}
 use Rattle.jobfile.proofs.RoundTrip.{accepts-all, job-meant, written-meaning}
 
-length-requests : (qs : List Request) (t : List ℕ) → length (requestsBytes qs ++ t) ≡ 8 * length qs + length t
-length-requests [] t = omega arith
-length-requests (q ∷ qs) t = omega (arith, length-requests qs t)
+pub length-requests : (qs : List Request) → length (requestsBytes qs) ≡ 8 * length qs
+length-requests [] = refl
+length-requests (q ∷ qs) = omega (arith, length-requests qs)
 
-length-runs : (rs : List Run) (t : List ℕ) → length (runsBytes rs ++ t) ≡ 4 * length rs + length t
-length-runs [] t = omega arith
-length-runs (r ∷ rs) t = omega (arith, length-runs rs t)
+pub length-runs : (rs : List Run) → length (runsBytes rs) ≡ 4 * length rs
+length-runs [] = refl
+length-runs (r ∷ rs) = omega (arith, length-runs rs)
 
 pub length-written : (j : Job) → length (written j) ≡ 10 + 8 * length (j .requests) + 4 * length (longestRuns (j .schedule))
 unfolding written fileWith
-length-written j = simp (length-requests, length-runs) (omega arith)
+length-written j = simp (length-append, length-requests, length-runs) (omega arith)
 
 pub few-grants : (j : Job) → Admitted j → length (j .schedule) ≤ 2088195
 few-grants j a =

@@ -1,13 +1,13 @@
 -- Sections: how the records of one kind follow one another, whatever bound their definition recurses on.
 --
 --   Section size m t ts rest   from t on stand records of that size with the mark m, at the places ts, and then rest
---   records-next, records-end  what `records` gives at a record of the section, and at its end
+--   records-next, records-here, records-end  what `records` gives at a record of the section, and at its end
 --   records-section            `records` gives a section
 --   section-at                 what is read at record i of a section stands size × i bytes behind its start
-use mathlib.Core.Path.{_≡_, refl, ap}
+use mathlib.Core.Path.{_≡_, refl, ap, _∙_}
 use mathlib.Core.Bool.{false, cond}
 use mathlib.Core.List.{List, [], _∷_, map}
-use Prim.Native.Nat.{ℕ, zero, suc, _*_, _≤_, _<_}
+use Prim.Native.Nat.{ℕ, zero, suc, _+_, _*_, _≤_, _<_}
 use native.Mathlib.Omega.{arith}
 use native.Mathlib.Nat.{mul-zero, mul-suc, add-comm}
 use lib.Dec.{eqb}
@@ -43,6 +43,10 @@ module _ (size m : ℕ) (moves : 0 < size) (marked : eqb 0 m ≡ false) where
   records-next (x ∷ t) e =
       let u : List ℕ = x ∷ t in
       rw (eq-eqb (word u) m e) (ap (λ (ts : List (List ℕ)). u ∷ ts) (enough (length t) (length (drop size u)) (drop size u) (left-over (length t) u (omega arith)) (omega arith)))
+
+  -- the same at a place of a file
+  pub records-here : (s : List ℕ) (at : ℕ) → word (drop at s) ≡ m → records size m (drop at s) ≡ drop at s ∷ records size m (drop (at + size) s)
+  records-here s at e = records-next (drop at s) e ∙ ap (λ (t : List ℕ). drop at s ∷ records size m t) (drop-drop size at s)
 
   pub records-end : (t : List ℕ) → (word t ≡ m → ⊥) → records size m t ≡ []
   unfolding records recordsWithin

@@ -1,6 +1,10 @@
 -- Runs: the longest runs of a schedule grant that schedule, and runs that follow the rules are the longest of theirs.
 --
---   Follows b h rs      each of the runs rs has a head below h and 1 to 255 grants, and none could have joined the one before it; b before the first
+--   run h n             a run of n grants for the head h
+--   Extended r g        a grant for head g joins the run r: the head is the same, and the run is under 255
+--   Following h b r     the run r has a head below h and 1 to 255 grants, and could not have joined the run b
+--   Follows h b rs      so has each of the runs rs, with the one before it; b stands before the first
+--   Below h gs          every grant of gs is for a head below h
 --   granted-longest     the longest runs grant the schedule
 --   longest-follow      the longest runs follow the rules
 --   granted-few         runs grant at most 255 each
@@ -26,11 +30,11 @@ abbrev run : ℕ → ℕ → Run
 run h n = record { head = h; count = n }
 
 -- A run is extended only by its own head, while it is under 255.
-record Extended (r : Run) (g : ℕ) : Type 0 where
-  same : r .head ≡ g
-  under : r .count < mostGrants
+pub record Extended (r : Run) (g : ℕ) : Type 0 where
+  pub same : r .head ≡ g
+  pub under : r .count < mostGrants
 
-extended : (r : Run) (g : ℕ) → extends r g ≡ true → Extended r g
+pub extended : (r : Run) (g : ℕ) → extends r g ≡ true → Extended r g
 extended r g e =
     split (eqb (r .head) g)
     (λ s. let u : ltb (r .count) mostGrants ≡ true = rw s at e in record { same = eqb-true (r .head) g s; under = ltb-true (r .count) mostGrants u })

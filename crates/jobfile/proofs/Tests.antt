@@ -1,6 +1,8 @@
 -- Chains of tests: what it says that a chain refuses nothing, and the refusals that reader and writer share.
 --
---   split b taken left     go by the test b, keeping its outcome as an equation
+--   split b f g         both outcomes of the test b, each with its equation
+--   Passed b n          the test b did not refuse, and neither does the rest n
+--   Both a b            neither a nor b is a refusal
 --   passed, through     a chain that refuses nothing has passed its first test, and the rest refuses nothing
 --   Sized n h           n nodes and h heads are admitted
 --   Fit n h q           the numbers q are those of a request in a job of n nodes and h heads
@@ -10,12 +12,9 @@ use Prim.Native.Nat.{ℕ, suc, _≤_, _<_}
 use native.Mathlib.Omega.{arith}
 use lib.Dec.{eqb, ltb, leb}
 use borrow.Author.Tests.{eqb-true, eqb-false, ltb-false, leb-false, ne-eqb, le-ltb, lt-leb}
+pub use borrow.Table.Steps.{cases as split}
 use Rattle.jobfile.specs.declared.Fields.{Fields}
 use Rattle.jobfile.specs.Format.{_then_, mostNodes, mostHeads, sizesRefusal, fieldsRefusal}
-
-pub split {ℓ} : {A : Type ℓ} (b : Bool) → (b ≡ true → A) → (b ≡ false → A) → A
-split true taken left = taken refl
-split false taken left = left refl
 
 pub record Passed (b : Bool) (n : ℕ) : Type 0 where
   pub test : b ≡ false

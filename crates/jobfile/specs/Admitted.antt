@@ -11,11 +11,13 @@ use Rattle.job.specs.Job.{Job}
 use Rattle.jobfile.specs.Format.{mostBytes, mostNodes, mostHeads, mostRequests}
 use Rattle.jobfile.specs.Written.{written}
 
+-- A request's head is below the heads, and its two places below the places.
 pub record Serves (nodes heads : ℕ) (q : Request) : Type 0 where
   pub head : q .head < heads
   pub x : q .x < nodes
   pub y : q .y < nodes
 
+-- A job that no check refuses.
 pub record Admitted (j : Job) : Type 0 where
   -- there are 1 to 4,096 nodes, 1 to 16 heads and at most 512 requests
   pub some-nodes : 0 < j .nodes
@@ -30,5 +32,6 @@ pub record Admitted (j : Job) : Type 0 where
   -- and the file is not too long
   pub short : length (written j) ≤ mostBytes
 
+-- What a file is made of.
 abbrev pub Bytes : List ℕ → Type 0
 Bytes s = (i : ℕ) → getD s i 0 < 256

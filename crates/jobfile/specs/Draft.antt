@@ -3,7 +3,9 @@
 --   Draft               places, heads, requests (four numbers each: head, kind, x, y) and one head number a grant
 --   fieldsOf l          the requests in a list of numbers; a rest of fewer than four is no request
 --   jobOf d             the job that an admitted draft stands for
+--   countRefusal, eachRefusal, grantsRefusal   the checks of the request count, of each request and of each grant
 --   draftRefusal d      the refusal of a draft, 0 for none
+--   numbersOf qs        the requests qs as numbers, four each
 --   draftOf j           the job j as the writer is given it
 use mathlib.Core.Bool.{cond}
 use mathlib.Core.List.{List, [], _∷_, map}
@@ -16,12 +18,14 @@ use Rattle.jobfile.specs.declared.Fields.{Fields}
 use Rattle.jobfile.specs.Format.{mostRequests, _then_, sizesRefusal, fieldsRefusal, requestOf, lengthRefusal}
 use Rattle.jobfile.specs.Written.{written}
 
+-- The writer is given places, heads, requests and a list of head numbers, one per grant.
 pub record Draft : Type 0 where
   pub nodes : ℕ
   pub heads : ℕ
   pub requests : List ℕ
   pub schedule : List ℕ
 
+-- Four numbers a request: head, kind, place x, place y.
 abbrev pub fieldsOf : List ℕ → List Fields
 fieldsOf [] = []
 fieldsOf (h ∷ []) = []
@@ -29,6 +33,7 @@ fieldsOf (h ∷ k ∷ []) = []
 fieldsOf (h ∷ k ∷ x ∷ []) = []
 fieldsOf (h ∷ k ∷ x ∷ y ∷ l) = record { head = h; kind = k; x = x; y = y } ∷ fieldsOf l
 
+-- The job that they stand for.
 unfoldable pub jobOf : Draft → Job
 jobOf d = record { nodes = d .nodes; heads = d .heads; requests = map requestOf (fieldsOf (d .requests)); schedule = d .schedule }
 
@@ -36,6 +41,7 @@ jobOf d = record { nodes = d .nodes; heads = d .heads; requests = map requestOf 
 unfoldable pub countRefusal : ℕ → ℕ
 countRefusal count = cond (ltb mostRequests count) 9 0
 
+-- Each request, its fields left to right.
 unfoldable pub eachRefusal : ℕ → ℕ → List Fields → ℕ
 eachRefusal nodes heads [] = 0
 eachRefusal nodes heads (q ∷ qs) = fieldsRefusal nodes heads q then eachRefusal nodes heads qs
@@ -59,5 +65,6 @@ abbrev pub numbersOf : List Request → List ℕ
 numbersOf [] = []
 numbersOf (q ∷ qs) = q .head ∷ kindNumber (q .kind) ∷ q .x ∷ q .y ∷ numbersOf qs
 
+-- The draft of a job.
 abbrev pub draftOf : Job → Draft
 draftOf j = record { nodes = j .nodes; heads = j .heads; requests = numbersOf (j .requests); schedule = j .schedule }

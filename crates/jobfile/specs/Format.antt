@@ -5,7 +5,7 @@
 --   mostBytes, mostNodes, mostHeads, mostRequests, mostGrants   the largest file, job and run
 --   word t, wordBytes w     the 16-bit word at the start of t, and the two bytes of the word w
 --   wordSum s               the sum of the 16-bit words of s
---   a then b                the refusal a, or b where a is none
+--   a then b (_then_)       the refusal a, or b where a is none
 --   sizesRefusal n h        the refusal of n nodes and h heads
 --   fieldsRefusal n h q     the refusal of a request's numbers q in a job of n nodes and h heads
 --   requestOf q             the request that admitted numbers stand for
@@ -21,28 +21,35 @@ use Rattle.job.specs.Job.{kindOf}
 use Rattle.jobfile.specs.declared.Fields.{Fields}
 use Rattle.jobfile.specs.declared.Run.{Run}
 
--- The marks 44 4B, 52 51, 47 52 and 43 4C, low byte first.
+-- The marks 44 4B, 52 51, 47 52 and 43 4C, low byte first: the job's,
 abbrev pub jobMark : ℕ
 jobMark = 0x4B44
 
+-- a request's,
 abbrev pub requestMark : ℕ
 requestMark = 0x5152
 
+-- a run's
 abbrev pub runMark : ℕ
 runMark = 0x5247
 
+-- and the close's.
 abbrev pub closeMark : ℕ
 closeMark = 0x4C43
 
+-- A file has at most 32,768 bytes.
 abbrev pub mostBytes : ℕ
 mostBytes = 32768
 
+-- There are at most 4,096 places,
 abbrev pub mostNodes : ℕ
 mostNodes = 4096
 
+-- 16 heads
 abbrev pub mostHeads : ℕ
 mostHeads = 16
 
+-- and 512 requests.
 abbrev pub mostRequests : ℕ
 mostRequests = 512
 
@@ -54,6 +61,7 @@ mostGrants = 255
 abbrev pub word : List ℕ → ℕ
 word t = getD t 0 0 + 256 * getD t 1 0
 
+-- The two bytes of a 16-bit field.
 abbrev pub wordBytes : ℕ → List ℕ
 wordBytes w = (w % 256) ∷ (w / 256) ∷ []
 
@@ -85,6 +93,7 @@ fieldsRefusal nodes heads q =
     (cond (leb nodes (q .x)) 8
     (cond (leb nodes (q .y)) 8 0))))
 
+-- The request that the numbers of an admitted one stand for.
 abbrev pub requestOf : Fields → Request
 requestOf q = record { head = q .head; kind = kindOf (q .kind); x = q .x; y = q .y }
 

@@ -2,11 +2,16 @@
 --
 --   records size m t    the rest of the file at each record of a section: t, then what follows each record of that
 --                       size, as long as the mark is m
+--   recordsWithin n size m t   the first n of them
 --   fieldsAt t, requestAt t, runAt t   the numbers of the request, the request and the run at the start of t
+--   headerRefusal, requestRefusal, requestsRefusal, runRefusal, runsRefusal, closeRefusal, balanceRefusal   the checks
+--   fullRun             what stands before the first run
 --   granted rs          the schedule of the runs rs
 --   nodesIn s, headsIn s, requestRecords s, runRecords s   the parts of the file s
 --   runsStart s, closeStart s    the bytes where the runs and the close start
 --   fileRefusal s       the refusal of the file s, 0 for none
+--   runsIn s, jobIn s   the runs and the job of the file s
+--   Meaning             a number and a job: accepted j, or refused n
 --   meaning s           the number 0 and the job of an accepted file, or the number of the refusal and an empty job
 use mathlib.Core.Bool.{not, cond}
 use mathlib.Core.List.{List, [], _∷_, _++_, map}
@@ -24,6 +29,7 @@ unfoldable pub recordsWithin : ℕ → ℕ → ℕ → List ℕ → List (List �
 recordsWithin zero size m t = []
 recordsWithin (suc n) size m t = cond (eqb (word t) m) (t ∷ recordsWithin n size m (drop size t)) []
 
+-- What is left of the file at each record of a section of that size and mark.
 unfoldable pub records : ℕ → ℕ → List ℕ → List (List ℕ)
 records size m t = recordsWithin (length t) size m t
 
@@ -31,9 +37,11 @@ records size m t = recordsWithin (length t) size m t
 abbrev pub nodesIn : List ℕ → ℕ
 nodesIn s = word (drop 2 s)
 
+-- The heads stand behind the places.
 abbrev pub headsIn : List ℕ → ℕ
 headsIn s = word (drop 4 s)
 
+-- Two bytes for the mark, the mark, the whole record, its fields.
 unfoldable pub headerRefusal : List ℕ → ℕ
 headerRefusal s =
     cond (ltb (length s) 2) 2
@@ -45,9 +53,11 @@ headerRefusal s =
 abbrev pub fieldsAt : List ℕ → Fields
 fieldsAt t = record { head = getD t 2 0; kind = getD t 3 0; x = word (drop 4 t); y = word (drop 6 t) }
 
+-- The request that a record stands for.
 abbrev pub requestAt : List ℕ → Request
 requestAt t = requestOf (fieldsAt t)
 
+-- The whole record, the request's count, its fields.
 unfoldable pub requestRefusal : ℕ → ℕ → ℕ → List ℕ → ℕ
 requestRefusal nodes heads number t =
     cond (ltb (length t) 8) 2
@@ -64,6 +74,7 @@ requestsRefusal nodes heads number (t ∷ ts) = requestRefusal nodes heads numbe
 abbrev pub runAt : List ℕ → Run
 runAt t = record { head = getD t 2 0; count = getD t 3 0 }
 
+-- The whole record, its head, its run, then the run before.
 unfoldable pub runRefusal : ℕ → Run → List ℕ → ℕ
 runRefusal heads before t =
     cond (ltb (length t) 4) 2
@@ -71,6 +82,7 @@ runRefusal heads before t =
     (cond (eqb (getD t 3 0) 0) 10
     (cond (extends before (getD t 2 0)) 11 0)))
 
+-- The runs one after the other, each with the run before it.
 unfoldable pub runsRefusal : ℕ → Run → List (List ℕ) → ℕ
 runsRefusal heads before [] = 0
 runsRefusal heads before (t ∷ ts) = runRefusal heads before t then runsRefusal heads (runAt t) ts
@@ -79,6 +91,7 @@ runsRefusal heads before (t ∷ ts) = runRefusal heads before t then runsRefusal
 abbrev pub fullRun : Run
 fullRun = record { head = 0; count = mostGrants }
 
+-- The head of each run gets that many grants.
 abbrev pub granted : List Run → List ℕ
 granted [] = []
 granted (r ∷ rs) = replicate (r .count) (r .head) ++ granted rs
@@ -100,12 +113,15 @@ balanceRefusal s = cond (not (eqb (wordSum s % 65536) 0)) 13 0
 abbrev pub requestRecords : List ℕ → List (List ℕ)
 requestRecords s = records 8 requestMark (drop 6 s)
 
+-- The runs stand behind the requests,
 abbrev pub runsStart : List ℕ → ℕ
 runsStart s = 6 + 8 * length (requestRecords s)
 
+-- as long as their mark follows,
 abbrev pub runRecords : List ℕ → List (List ℕ)
 runRecords s = records 4 runMark (drop (runsStart s) s)
 
+-- and the close behind the runs.
 abbrev pub closeStart : List ℕ → ℕ
 closeStart s = runsStart s + 4 * length (runRecords s)
 
@@ -119,10 +135,11 @@ fileRefusal s =
     then closeRefusal (drop (closeStart s) s)
     then balanceRefusal s
 
--- The requests and the runs of a file, and the job that an accepted file means.
+-- The runs of a file.
 abbrev pub runsIn : List ℕ → List Run
 runsIn s = map runAt (runRecords s)
 
+-- A file means places, heads, requests and a list of head numbers, one per grant.
 unfoldable pub jobIn : List ℕ → Job
 jobIn s =
     record {
@@ -132,10 +149,12 @@ jobIn s =
       schedule = granted (runsIn s);
     }
 
+-- What is said of a file: a number and a job.
 pub record Meaning : Type 0 where
   pub number : ℕ
   pub job : Job
 
+-- No refusal: number 0.
 abbrev pub accepted : Job → Meaning
 accepted j = record { number = 0; job = j }
 
@@ -143,5 +162,6 @@ accepted j = record { number = 0; job = j }
 abbrev pub refused : ℕ → Meaning
 refused n = record { number = n; job = record { nodes = 0; heads = 0; requests = []; schedule = [] } }
 
+-- What any file of bytes means.
 unfoldable pub meaning : List ℕ → Meaning
 meaning s = cond (eqb (fileRefusal s) 0) (accepted (jobIn s)) (refused (fileRefusal s))

@@ -1,6 +1,8 @@
 -- Document 01, "Job file": the file that is written for a job.
 --
+--   requestBytes q, runBytes r       the bytes of a request and of a run
 --   requestsBytes qs, runsBytes rs   the bytes of requests and of runs
+--   nextRun r g         the run under way after a grant for head g
 --   longestRuns gs      the longest runs, at most 255, that make the schedule gs
 --   runsFrom r gs       the same with the run r under way
 --   fileWith j w        the file of the job j with the balance w
@@ -14,16 +16,20 @@ use Rattle.job.specs.Job.{Job, kindNumber}
 use Rattle.jobfile.specs.declared.Run.{Run}
 use Rattle.jobfile.specs.Format.{jobMark, requestMark, runMark, closeMark, wordBytes, wordSum, extends}
 
+-- 52 51, head (8), kind (8; 1 union, 2 same-set), place x (16), place y (16).
 abbrev pub requestBytes : Request → List ℕ
 requestBytes q = wordBytes requestMark ++ (q .head ∷ kindNumber (q .kind) ∷ []) ++ wordBytes (q .x) ++ wordBytes (q .y)
 
+-- The requests in file order.
 abbrev pub requestsBytes : List Request → List ℕ
 requestsBytes [] = []
 requestsBytes (q ∷ qs) = requestBytes q ++ requestsBytes qs
 
+-- 47 52, head (8), run (8).
 abbrev pub runBytes : Run → List ℕ
 runBytes r = wordBytes runMark ++ (r .head ∷ r .count ∷ [])
 
+-- The runs in their order.
 abbrev pub runsBytes : List Run → List ℕ
 runsBytes [] = []
 runsBytes (r ∷ rs) = runBytes r ++ runsBytes rs
@@ -37,6 +43,7 @@ abbrev pub runsFrom : Run → List ℕ → List Run
 runsFrom r [] = r ∷ []
 runsFrom r (g ∷ gs) = let rest = runsFrom (nextRun r g) gs in cond (extends r g) rest (r ∷ rest)
 
+-- The writer makes the longest runs, at most 255.
 abbrev pub longestRuns : List ℕ → List Run
 longestRuns [] = []
 longestRuns (g ∷ gs) = runsFrom (record { head = g; count = 1 }) gs
@@ -53,5 +60,6 @@ fileWith j w =
 abbrev pub balance : Job → ℕ
 balance j = (65536 - wordSum (fileWith j 0) % 65536) % 65536
 
+-- The file of a job: its words add up to zero.
 unfoldable pub written : Job → List ℕ
 written j = fileWith j (balance j)

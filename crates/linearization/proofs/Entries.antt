@@ -5,16 +5,15 @@
 --   Below limit es        every point is less than the limit
 use mathlib.Core.Path.{_≡_, refl, sym, ap, _∙_}
 use mathlib.Core.Logic.{_≢_}
-use mathlib.Core.Bool.{Bool, true, false, cond}
+use mathlib.Core.Bool.{cond}
 use mathlib.Core.List.{List, [], _∷_, _++_, List·Memᴰ, List·Memᴰ·head, List·Memᴰ·tail, Memᴰ·append-right}
-use Prim.Native.Nat.{ℕ, zero, suc, _≤_, _<_}
+use Prim.Native.Nat.{ℕ, suc, _≤_, _<_}
 use native.Mathlib.Omega.{arith}
-use native.Mathlib.Decide.{decLt}
 use lib.Dec.{eqb, ltb}
-use lib.ListN.{length, take, drop, getD}
-use borrow.Author.Tests.{eq-eqb, ne-eqb, ltb-true, ltb-false, lt-ltb, le-ltb}
+use lib.ListN.{length, take, drop}
+use borrow.Author.Tests.{eq-eqb, ne-eqb, lt-ltb, le-ltb}
 use Rattle.linearization.specs.Entry.{Entry, insert, earlier, Rising, empty, rises, occurrences}
-use Rattle.linearization.proofs.Tests.{split}
+use Rattle.linearization.proofs.Tests.{split, count-swap}
 
 abbrev pub entry : ℕ → ℕ → Entry
 entry point request = record { point = point; request = request }
@@ -26,12 +25,6 @@ abbrev pub Below : ℕ → List Entry → Type 0
 Below limit es = (e : Entry) → List·Memᴰ e es → e .point < limit
 
 -- ---- insertion
-
-count-swap : (s t : Bool) (n : ℕ) → cond s (suc (cond t (suc n) n)) (cond t (suc n) n) ≡ cond t (suc (cond s (suc n) n)) (cond s (suc n) n)
-count-swap true true n = refl
-count-swap true false n = refl
-count-swap false true n = refl
-count-swap false false n = refl
 
 module _ (point request : ℕ) where
   -- an entry beyond all others goes in last
@@ -61,16 +54,6 @@ module _ (point request : ℕ) where
   pub occurrences-other : (q : ℕ) (es : List Entry) → request ≢ q → occurrences q (insert point request es) ≡ occurrences q es
   occurrences-other q es d = occurrences-insert q es ∙ rw (ne-eqb request q d)
 
-  -- rising entries still rise with one more at a point of its own
-  pub rising-insert : {low : ℕ} (es : List Entry) → low < point → Free point es → Rising low es → Rising low (insert point request es)
-  rising-insert [] above free empty = rises above empty
-  rising-insert (e ∷ es) above free (rises first rest) =
-      split (ltb point (e .point)) (λ t. rw t (rises above (rises (ltb-true point (e .point) t) rest)))
-      (λ t.
-      let distinct : e .point ≢ point = free e (List·Memᴰ·head refl) in
-      let behind : e .point < point = omega (arith, ltb-false point (e .point) t) in
-      rw t (rises first (rising-insert es behind (λ f m. free f (List·Memᴰ·tail m)) rest)))
-
   -- where the entry goes in: behind the earlier ones
   pub insert-split :
       (es : List Entry) →
@@ -81,12 +64,6 @@ module _ (point request : ℕ) where
       (λ t. rw (t, take, drop) (ap {B = List Entry} (λ r. e ∷ r) (insert-split es)))
 
 -- ---- occurrences
-
--- a request that no entry has is not listed
-pub occurrences-none : (q : ℕ) (es : List Entry) → ((e : Entry) → List·Memᴰ e es → e .request ≢ q) → occurrences q es ≡ 0
-occurrences-none q [] absent = refl
-occurrences-none q (e ∷ es) absent =
-    rw (ne-eqb (e .request) q (absent e (List·Memᴰ·head refl))) (occurrences-none q es (λ f m. absent f (List·Memᴰ·tail m)))
 
 -- and one that is not listed is no entry's
 pub occurrences-absent : {e : Entry} {es : List Entry} (q : ℕ) → occurrences q es ≡ 0 → List·Memᴰ e es → e .request ≢ q
@@ -109,32 +86,6 @@ rising-member (rises first rest) (List·Memᴰ·tail member) = omega (arith, ris
 pub rising-front : {low : ℕ} (es fs : List Entry) → Rising low (es ++ fs) → Rising low es
 rising-front [] fs rising = empty
 rising-front (e ∷ es) fs (rises first rest) = rises first (rising-front es fs rest)
-
-module _ (default : Entry) where
-  pub rising-above : {low : ℕ} {es : List Entry} → Rising low es → (i : ℕ) → i < length es → low < getD es i default .point
-  rising-above empty i h = absurd (omega arith)
-  rising-above (rises first rest) zero h = first
-  rising-above (rises first rest) (suc i) h = omega (arith, rising-above rest i (omega arith))
-
-  -- an entry that stands before another has the lower point
-  pub rising-order :
-      {low : ℕ} {es : List Entry} → Rising low es →
-      (i j : ℕ) → i < j → j < length es → getD es i default .point < getD es j default .point
-  rising-order empty i j before within = absurd (omega arith)
-  rising-order (rises first rest) i zero before within = absurd (omega arith)
-  rising-order (rises first rest) zero (suc j) before within = rising-above rest j (omega arith)
-  rising-order (rises first rest) (suc i) (suc j) before within = rising-order rest i j (omega arith) (omega arith)
-
-  -- and an entry with the lower point stands before
-  pub rising-position :
-      {low : ℕ} {es : List Entry} → Rising low es →
-      (i j : ℕ) → i < length es → getD es i default .point < getD es j default .point → i < j
-  rising-position {es = es} rising i j within lower = go (decLt i j) (decLt j i)
-    where
-      go : Dec (i < j) → Dec (j < i) → i < j
-      go (yes before) back = before
-      go (no after) (yes back) = absurd (omega (arith, rising-order rising j i back within))
-      go (no after) (no back) = let same : i ≡ j = omega arith in absurd (omega (arith, ap (λ k. getD es k default .point) same))
 
 -- ---- how many entries are earlier
 

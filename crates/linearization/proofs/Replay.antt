@@ -1,7 +1,6 @@
 -- Replays of a linearization by the sequential specification, over the operation and the reported answer of each request.
 --
---   operations operation es        the operations that the entries list
---   after operation B es           the labels after them, from the labels B
+--   after operation B es           the labels after the operations of the entries, from the labels B
 --   labelsTo operation m B es      the labels after the rising entries up to point m
 --   Replayed operation P claim B low es   the points rise from above low, P holds of each entry, and each is answered as claimed
 --   Silent operation claim B request      at the labels B the request is answered as claimed and changes nothing
@@ -14,13 +13,10 @@ use lib.Dec.{ltb}
 use borrow.Author.Tests.{ltb-true, ltb-false, lt-ltb, le-ltb}
 use Rattle.job.specs.declared.Answer.{Answer}
 use Rattle.linearization.specs.Partition.{Labels, Operation, reply, next, replay, replies}
-use Rattle.linearization.specs.Entry.{Entry, insert, Rising, empty, rises}
+use Rattle.linearization.specs.Entry.{Entry, insert, Rising, empty, rises, operations}
 use Rattle.linearization.proofs.Tests.{split}
-use Rattle.linearization.proofs.Partition.{Unjoined, next-kept}
+use Rattle.linearization.proofs.Partition.{Unjoined}
 use Rattle.linearization.proofs.Entries.{entry, Free, Below}
-
-abbrev pub operations : (ℕ → Operation) → List Entry → List Operation
-operations operation es = map (λ e. operation (e .request)) es
 
 abbrev pub after : (ℕ → Operation) → Labels → List Entry → Labels
 after operation B es = replay B (operations operation es)
@@ -46,11 +42,6 @@ pub record Silent (operation : ℕ → Operation) (claim : ℕ → Answer) (B : 
 -- ---- labels up to a point
 
 module _ (operation : ℕ → Operation) where
-  -- nodes that share a set at the start share one after any replay
-  pub after-kept : (B : Labels) (es : List Entry) (i j : ℕ) → B i ≡ B j → after operation B es i ≡ after operation B es j
-  after-kept B [] i j e = e
-  after-kept B (f ∷ es) i j e = after-kept (next B (operation (f .request))) es i j (next-kept B (operation (f .request)) i j e)
-
   pub after-snoc :
       (B : Labels) (es : List Entry) (e : Entry) →
       after operation B (es ++ (e ∷ [])) ≡ next (after operation B es) (operation (e .request))

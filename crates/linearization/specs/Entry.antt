@@ -5,16 +5,18 @@
 --   earlier point es             how many entries stand before that point
 --   Rising low es                the points rise strictly from above low
 --   occurrences request es       how often a request is listed
+--   operations operation es      the operations that the entries list, in their order
 --   flat es, entriesOf numbers   from entries to numbers, two an entry, and back
 --   listed numbers n             the entries that the first numbers hold
 --   movedUp part                 a part of the numbers, moved up one entry
 --   inserted numbers n point request   the buffer of n entries with one more
 --   Insertable numbers n         the buffer has room for one more, and its n entries rise
 use mathlib.Core.Bool.{cond}
-use mathlib.Core.List.{List, [], _∷_, _++_}
+use mathlib.Core.List.{List, [], _∷_, _++_, map}
 use Prim.Native.Nat.{ℕ, zero, suc, _+_, _*_, _-_, _≤_, _<_}
 use lib.Dec.{eqb, ltb}
 use lib.ListN.{length, take, drop}
+use Rattle.linearization.specs.Partition.{Operation}
 
 -- A line-up entry is two numbers: point and request number.
 pub record Entry : Type 0 where
@@ -44,11 +46,16 @@ abbrev pub occurrences : ℕ → List Entry → ℕ
 occurrences request [] = zero
 occurrences request (e ∷ es) = cond (eqb (e .request) request) (suc (occurrences request es)) (occurrences request es)
 
+-- The plain book is handed the line-up's requests in their order.
+abbrev pub operations : (ℕ → Operation) → List Entry → List Operation
+operations operation es = map (λ e. operation (e .request)) es
+
 -- The buffer has two numbers an entry.
 abbrev pub flat : List Entry → List ℕ
 flat [] = []
 flat (e ∷ es) = e .point ∷ e .request ∷ flat es
 
+-- The entries that the numbers stand for; a last number without its partner is none.
 abbrev pub entriesOf : List ℕ → List Entry
 entriesOf [] = []
 entriesOf (point ∷ []) = []

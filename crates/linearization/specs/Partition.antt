@@ -4,7 +4,9 @@
 --   Operation          a request as the specification sees it: its kind and its two nodes
 --   apart              each node alone
 --   join B a b         the sets of a and b become one
+--   replyTo k one      what it answers to an operation of kind k, by whether the two nodes are in one set
 --   reply B o          what the specification answers to o
+--   nextOf k B a b     the labels after an operation of kind k on the nodes a and b
 --   next B o           the labels after o
 --   replay B os        the labels after the operations os, in their order
 --   replies B os       what it answers to them
@@ -42,6 +44,7 @@ replyTo Union false = Joined
 replyTo SameSet true = Yes
 replyTo SameSet false = No
 
+-- The answer to an operation: by its kind and by whether its two nodes are in one set.
 unfoldable pub reply : Labels → Operation → Answer
 reply B o = replyTo (o .kind) (eqb (B (o .x)) (B (o .y)))
 
@@ -50,6 +53,7 @@ abbrev pub nextOf : Kind → Labels → ℕ → ℕ → Labels
 nextOf Union B a b = join B a b
 nextOf SameSet B a b = B
 
+-- The sets after an operation.
 unfoldable pub next : Labels → Operation → Labels
 next B o = nextOf (o .kind) B (o .x) (o .y)
 
@@ -58,6 +62,7 @@ abbrev pub replay : Labels → List Operation → Labels
 replay B [] = B
 replay B (o ∷ os) = replay (next B o) os
 
+-- Its answers, in the same order.
 abbrev pub replies : Labels → List Operation → List Answer
 replies B [] = []
 replies B (o ∷ os) = reply B o ∷ replies (next B o) os

@@ -1,4 +1,11 @@
--- Laws of masks: what a flag, a cleared flag and the count of a mask are, for a list of flags and for a list under a test.
+-- Laws of masks, for a list of flags and for a list of items under a test.
+--
+--   mask-none, mask-more   a mask is built from its last flag down
+--   mask-bound             a mask of n flags is below 2 ^ n
+--   mask-flag, flag-of     bit h tells the h-th flag, or whether the h-th item passes
+--   mask-cleared, mask-left   clearing a flag, or an item that stops passing, takes its bit away
+--   mask-kept              an item that changes without changing its test keeps the mask
+--   mask-count             the ones of a mask are the flags that are set
 use mathlib.Core.Path.{_≡_, refl, ap, _∙_}
 use mathlib.Core.Bool.{Bool, true, false}
 use mathlib.Core.List.{List, [], _∷_, map}
@@ -8,7 +15,9 @@ use native.Mathlib.Nat.{pow-succ', div-div-eq-div-mul, div-one}
 use lib.Dec.{eqb}
 use lib.Count.{ones, ones-step}
 use lib.ListN.{length, getD, set, length-map}
+use lib.Seq.{map-set-same}
 use Rattle.mask.specs.Mask.{bitOf, maskOf, countOf}
+use Rattle.mask.proofs.Lists.{getD-mapped, set-mapped}
 
 -- ---- one flag more below a mask
 
@@ -82,30 +91,17 @@ mask-count (b ∷ bs) =
 -- ---- lists under a test: the h-th flag says whether the h-th item passes
 
 module _ {A : Type 0} (f : A → Bool) (d : A) where
-  flag-map : (l : List A) (h : ℕ) → h < length l → getD (map f l) h false ≡ f (getD l h d)
-  flag-map [] h within = absurd (omega arith)
-  flag-map (a ∷ l) zero within = refl
-  flag-map (a ∷ l) (suc h) within = flag-map l h (omega arith)
-
-  map-set : (l : List A) (h : ℕ) (v : A) → map f (set l h v) ≡ set (map f l) h (f v)
-  map-set [] h v = refl
-  map-set (a ∷ l) zero v = refl
-  map-set (a ∷ l) (suc h) v = ap (λ bs. f a ∷ bs) (map-set l h v)
-
   -- the test of bit h tells whether the h-th item passes
   pub flag-of : (l : List A) (h : ℕ) → h < length l → eqb (maskOf (map f l) / 2 ^ h % 2) 1 ≡ f (getD l h d)
-  flag-of l h within = mask-flag (map f l) h (omega (arith, length-map l f)) ∙ flag-map l h within
+  flag-of l h within = mask-flag (map f l) h (omega (arith, length-map l f)) ∙ getD-mapped f l h d false within
 
   -- an item that changes without changing its test keeps the mask
   pub mask-kept : (l : List A) (h : ℕ) (v : A) → f v ≡ f (getD l h d) → maskOf (map f (set l h v)) ≡ maskOf (map f l)
-  unfolding maskOf
-  mask-kept [] h v same = refl
-  mask-kept (a ∷ l) zero v same = rw same
-  mask-kept (a ∷ l) (suc h) v same = ap (λ m. 2 * m + bitOf (f a)) (mask-kept l h v same)
+  mask-kept l h v same = ap maskOf (map-set-same f l h v d same)
 
   module _ (l : List A) (h : ℕ) (within : h < length l) (passes : f (getD l h d) ≡ true) where
     on : getD (map f l) h false ≡ true
-    on = flag-map l h within ∙ passes
+    on = getD-mapped f l h d false within ∙ passes
 
     -- the mask has the bit of an item that passes
     pub left-least : 2 ^ h ≤ maskOf (map f l)
@@ -113,4 +109,4 @@ module _ {A : Type 0} (f : A → Bool) (d : A) where
 
     -- an item that stops passing takes its bit out of the mask
     pub mask-left : (v : A) → f v ≡ false → maskOf (map f l) - 2 ^ h ≡ maskOf (map f (set l h v))
-    mask-left v fails = rw (map-set l h v, fails) (mask-cleared (map f l) h (omega (arith, length-map l f)) on)
+    mask-left v fails = rw (← set-mapped f l h v, fails) (mask-cleared (map f l) h (omega (arith, length-map l f)) on)

@@ -1,9 +1,9 @@
 -- Document 01, "One grant, one word": a grant lets one head read one word or make one swap. Which one, by stage.
 --
---   accessOf h    the access that the head h makes next
---   Raisable t    the rank that stage t would store fits its byte
-use Prim.Native.Nat.{ℕ, _+_, _<_}
-use Rattle.job.specs.declared.Kind.{Kind}
+--   accessAt h t   the access that the head h makes at stage t
+--   accessOf h     the access that the head h makes next
+--   Raisable t     the rank that stage t would store fits its byte
+use Prim.Native.Nat.{_+_, _<_}
 use Rattle.process.specs.declared.Stage.{Stage}
 use Rattle.process.specs.declared.Stage.the-variants.{Resting, ReadNode, ReadParent, Halve, ReadAgain, RereadX, ReadRankX, ReadRankY, Link, Raise}
 use Rattle.process.specs.declared.Head.{Head}
@@ -11,6 +11,7 @@ use Rattle.process.specs.declared.Access.{Access}
 use Rattle.process.specs.declared.Access.the-variants.{Idle, Load, Cas}
 use Rattle.process.specs.Process.{nodeAt}
 
+-- The one word that the grant reads or swaps, stage by stage.
 abbrev pub accessAt : Head → Stage → Access
 accessAt h Resting = Idle
 -- find: read x's word
@@ -31,9 +32,11 @@ accessAt h (Link r e) = Cas (h .x) (record { rank = r; parent = h .x }) (record 
 -- the ranks read were equal: swap y's word from root with that rank to root with rank one higher
 accessAt h (Raise r) = Cas (h .y) (record { rank = r; parent = h .y }) (record { rank = r + 1; parent = h .y })
 
+-- The access of a head is that of its stage.
 unfoldable pub accessOf : Head → Access
 accessOf h = accessAt h (h .stage)
 
+-- A rank that is stored is one byte.
 abbrev pub Raisable : Stage → Type 0
 Raisable Resting = Unit {0}
 Raisable (ReadNode k s) = Unit {0}

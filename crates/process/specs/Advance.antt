@@ -1,9 +1,14 @@
 -- Document 01, "One grant, one word": where each access leads, with the word that was seen, at grant number `now`.
 -- Comparing, choosing and finishing cost nothing, so they are part of the grant before.
 --
---   advanceOf h w now   the head after its access and what the grant did, one clause a stage
 --   quiet               nothing to record beyond one more grant used
 --   continue, attempt   on to the next stage, after a read or after a swap
+--   together k, apart k now   the answer, or the next stage, once both finds have ended at one root, or at two
+--   ended, readNode, moveUp   a find: one of its two ended; its node was read; it moves up
+--   reread              a same-set's last read
+--   rankBoth, linked, link, raise   a union: both ranks are read; the link is written; the link's swap; the rank's swap
+--   advanceAt h w now t   the head after its access at stage t and what the grant did, one clause a stage
+--   advanceOf h w now   the same at the head's own stage
 use mathlib.Core.Bool.{Bool, true, false, not, cond}
 use Prim.Native.Nat.{ℕ}
 use lib.Dec.{eqb}
@@ -22,9 +27,11 @@ use Rattle.process.specs.declared.Event.{Event}
 use Rattle.process.specs.declared.Advanced.{Advanced}
 use Rattle.process.specs.Process.{nodeAt, staged, movedTo, restart}
 
+-- Most grants end no find, write no link and give no answer.
 abbrev pub quiet : Event
 quiet = record { failed = false; found = false; linked = false; answer = Unfinished; point = 0 }
 
+-- On to the next stage after a read.
 abbrev pub continue : Head → Stage → Advanced
 continue h t = record { head = staged h t; event = quiet }
 
@@ -95,6 +102,7 @@ raise h r w =
       event = record { failed = not (same w (record { rank = r; parent = h .y })); found = false; linked = false; answer = Joined; point = 0 };
     }
 
+-- Where the access of each stage leads.
 abbrev pub advanceAt : Head → Node → ℕ → Stage → Advanced
 advanceAt h w now Resting = continue h Resting
 advanceAt h w now (ReadNode k s) = readNode h k s w now
@@ -107,5 +115,6 @@ advanceAt h w now (ReadRankY r) = rankBoth h r (w .rank)
 advanceAt h w now (Link r e) = link h r e w now
 advanceAt h w now (Raise r) = raise h r w
 
+-- Where the access of a head leads is told by its stage.
 unfoldable pub advanceOf : Head → Node → ℕ → Advanced
 advanceOf h w now = advanceAt h w now (h .stage)

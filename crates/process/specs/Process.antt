@@ -1,5 +1,6 @@
 -- Document 01, "One grant, one word": the record of a head and the start of its loop.
 --
+--   restingAt t    the stage t is that of a head at rest
 --   isResting h    the head h serves no request
 --   ofSide s x y   x or y, by the side s
 --   nodeAt h s     the current node of side s
@@ -17,6 +18,7 @@ use Rattle.process.specs.declared.Stage.{Stage}
 use Rattle.process.specs.declared.Stage.the-variants.{Resting, ReadNode, ReadParent, Halve, ReadAgain, RereadX, ReadRankX, ReadRankY, Link, Raise}
 use Rattle.process.specs.declared.Head.{Head}
 
+-- What a head is doing is a choice of cases: resting, or some stage of a request.
 abbrev pub restingAt : Stage → Bool
 restingAt Resting = true
 restingAt (ReadNode k s) = false
@@ -29,19 +31,24 @@ restingAt (ReadRankY r) = false
 restingAt (Link r e) = false
 restingAt (Raise r) = false
 
+-- A head that rests serves no request.
 abbrev pub isResting : Head → Bool
 isResting h = restingAt (h .stage)
 
+-- A find serves one of the request's two places.
 abbrev pub ofSide : Side → ℕ → ℕ → ℕ
 ofSide X x y = x
 ofSide Y x y = y
 
+-- The place that the find of that side has come to.
 abbrev pub nodeAt : Head → Side → ℕ
 nodeAt h s = ofSide s (h .x) (h .y)
 
+-- The head with its stage changed, and nothing else.
 abbrev pub staged : Head → Stage → Head
 staged h t = record { stage = t; x = h .x; y = h .y; request = h .request }
 
+-- The head with the place of one side changed, and nothing else.
 abbrev pub movedTo : Head → Side → ℕ → Head
 movedTo h X v = record { stage = h .stage; x = v; y = h .y; request = h .request }
 movedTo h Y v = record { stage = h .stage; x = h .x; y = v; request = h .request }

@@ -3,17 +3,16 @@
 --   RequestsTo s n h at count              the requests before the place `at` are read, `count` of them
 --   RunsTo s h from at before count grants the runs from `from` to `at` are read; `before` is the last of them
 --   X-start, X-next, X-refused, X-end      the invariant holds at first, after a record, and what it gives at each way out
-use mathlib.Core.Path.{_≡_, refl, _∙_, sym, ap}
+use mathlib.Core.Path.{_≡_, refl, sym, ap}
 use mathlib.Core.List.{List, _∷_, map}
 use Prim.Native.Nat.{ℕ, _+_, _*_, _≤_, _<_}
 use native.Mathlib.Omega.{arith}
 use lib.ListN.{length, getD, drop, length-drop, length-append, length-replicate}
-use lib.Seq.{drop-drop}
 use borrow.Author.Tests.{ne-eqb}
 use Rattle.jobfile.specs.declared.Run.{Run}
 use Rattle.jobfile.specs.Format.{requestMark, runMark, word, _then_}
 use Rattle.jobfile.specs.Meaning.{records, requestRefusal, requestsRefusal, runAt, runRefusal, runsRefusal, fullRun, granted}
-use Rattle.jobfile.proofs.Records.{records-next, records-end}
+use Rattle.jobfile.proofs.Records.{records-here, records-end}
 use Rattle.jobfile.proofs.Passed.{request-passed, run-passed}
 use Rattle.reader.specs.Reader.{requestSectionOf, runSectionOf}
 
@@ -28,10 +27,10 @@ module _ (s : List ℕ) (nodes heads : ℕ) where
   requests-start l = record { within = l; place = refl; number = refl; counted = omega arith }
 
 module _ {s : List ℕ} {nodes heads at count : ℕ} (h : RequestsTo s nodes heads at count) where
-  -- at a request, the section's refusal is its own, or else that of the requests behind it
   request-here : word (drop at s) ≡ requestMark → records 8 requestMark (drop at s) ≡ drop at s ∷ records 8 requestMark (drop (at + 8) s)
-  request-here m = records-next 8 requestMark (omega arith) refl (drop at s) m ∙ ap (λ (t : List ℕ). drop at s ∷ records 8 requestMark t) (drop-drop 8 at s)
+  request-here = records-here 8 requestMark (omega arith) refl s at
 
+  -- at a request, the section's refusal is its own, or else that of the requests behind it
   refusal-here : word (drop at s) ≡ requestMark
       → (requestRefusal nodes heads count (drop at s) then requestsRefusal nodes heads (count + 1) (records 8 requestMark (drop (at + 8) s)))
       ≡ requestsRefusal nodes heads 0 (records 8 requestMark (drop 6 s))
@@ -77,7 +76,7 @@ module _ (s : List ℕ) (heads start : ℕ) where
 
 module _ {s : List ℕ} {heads start at : ℕ} {before : Run} {count grants : ℕ} (h : RunsTo s heads start at before count grants) where
   run-here : word (drop at s) ≡ runMark → records 4 runMark (drop at s) ≡ drop at s ∷ records 4 runMark (drop (at + 4) s)
-  run-here m = records-next 4 runMark (omega arith) refl (drop at s) m ∙ ap (λ (t : List ℕ). drop at s ∷ records 4 runMark t) (drop-drop 4 at s)
+  run-here = records-here 4 runMark (omega arith) refl s at
 
   run-refusal-here : word (drop at s) ≡ runMark
       → (runRefusal heads before (drop at s) then runsRefusal heads (runAt (drop at s)) (records 4 runMark (drop (at + 4) s)))

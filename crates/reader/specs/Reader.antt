@@ -14,6 +14,7 @@ use Rattle.reader.specs.declared.Checked.{Checked}
 use Rattle.reader.specs.declared.sections.RequestSection.{RequestSection}
 use Rattle.reader.specs.declared.sections.RunSection.{RunSection}
 
+-- The counts: places, heads, requests, grants, and the runs.
 abbrev pub countsOf : Meaning → Checked
 countsOf m =
     record {
@@ -25,11 +26,13 @@ countsOf m =
       runs = length (longestRuns (m .job .schedule));
     }
 
+-- The requests of the file: the first refusal, or how many there are.
 unfoldable pub requestSectionOf : ℕ → ℕ → List (List ℕ) → RequestSection
 requestSectionOf nodes heads ts =
     let number = requestsRefusal nodes heads 0 ts in
     record { number = number; count = cond (eqb number 0) (length ts) 0 }
 
+-- The runs of the file: the first refusal, or how many there are and the grants that they give.
 unfoldable pub runSectionOf : ℕ → List (List ℕ) → RunSection
 runSectionOf heads ts =
     let number = runsRefusal heads fullRun ts in

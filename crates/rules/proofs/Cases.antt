@@ -1,7 +1,8 @@
 -- Document 01's starred cases hold of the rules, all by computation.
+--
+-- Main law: played-cases, what the rules leave of each case of the table is what is expected of it.
 use mathlib.Core.Path.{_≡_, refl}
 use mathlib.Core.List.{map}
-use Rattle.job.specs.declared.Tally.{Tally}
 use Rattle.word.specs.Word.{encode}
 use Rattle.process.specs.Access.{accessOf}
 use Rattle.process.specs.Advance.{advanceOf}

@@ -1,32 +1,33 @@
--- What each of the five outcomes does to the entries and to its own request.
+-- What each of the five outcomes does to the table, to the entries and to its own request.
+--
+--   q, a, past′, t′   the request served, the head's step, the history and the table after the grant
+--   B₁, united        the labels before the grant, and what a union of the request makes of them
+--   with-entries es   the state after the grant, with the entries es
+--   Does es           the effect of the grant, with the entries es
+--   entered           the entries with the request's own at this grant
 --
 -- Main law: outcome-effect.
-use mathlib.Core.Path.{_≡_, refl, sym, ap, ap₂, _∙_, subst}
+use mathlib.Core.Path.{_≡_, refl, sym, ap, _∙_, subst}
 use mathlib.Core.Logic.{_≢_}
-use mathlib.Core.Bool.{Bool, true, false, cond, true≢false}
-use mathlib.Core.List.{List, [], _∷_, _++_, List·Memᴰ}
-use Prim.Native.Nat.{ℕ, suc, _+_, _≤_, _<_}
+use mathlib.Core.Bool.{true, false}
+use mathlib.Core.List.{List, [], _∷_, _++_}
+use Prim.Native.Nat.{ℕ, suc, _+_, _≤_}
 use native.Mathlib.Omega.{arith}
 use native.Mathlib.Decide.{ℕ-discrete}
-use lib.Dec.{eqb}
 use lib.ListN.{length}
 use borrow.Author.Tests.{eq-eqb, ne-eqb}
 use Rattle.job.specs.declared.Kind.{Kind}
 use Rattle.job.specs.declared.Kind.the-variants.{Union, SameSet}
-use Rattle.job.specs.declared.Answer.{Answer}
-use Rattle.job.specs.declared.Answer.the-variants.{Unfinished, Joined, Together, Yes, No}
+use Rattle.job.specs.declared.Answer.the-variants.{Joined}
 use Rattle.job.specs.declared.Request.{Request}
 use Rattle.job.specs.Job.{answerNumber}
 use Rattle.word.specs.declared.Node.{Node}
-use Rattle.process.specs.declared.Stage.the-variants.{Raise}
 use Rattle.process.specs.declared.Head.{Head}
 use Rattle.process.specs.declared.Advanced.{Advanced}
 use Rattle.process.specs.Process.{restingAt}
 use Rattle.process.specs.Access.{accessOf}
 use Rattle.process.specs.Advance.{together}
 use Rattle.forest.specs.Forest.{rootCount}
-use Rattle.forest.proofs.Sound.{Sound}
-use Rattle.forest.proofs.Later.{Later, later-refl}
 use Rattle.linearization.specs.Partition.{Labels, join, replyTo, reply, next}
 use Rattle.linearization.specs.Entry.{Entry, insert, occurrences}
 use Rattle.linearization.proofs.Partition.{reply-together, reply-apart, next-same-set, next-union, next-together}
@@ -37,20 +38,20 @@ use Rattle.rules.specs.Report.{isFinal}
 use Rattle.rules.specs.State.{State, requestAt}
 use Rattle.rules.specs.Step.{advanced, served}
 use Rattle.rules.specs.Run.{Happening}
-use Rattle.rules.specs.History.{rowOf, linkOf, pointOf}
+use Rattle.rules.specs.History.{linkOf, pointOf}
 use Rattle.rules.specs.Linearized.{operationAt, promised}
-use Rattle.rules.proofs.History.{Other, other-served, row-other, served-answer, served-last, served-first, served-settled, row-first-bound, row-last-bound, link-other, link-served, link-unserved, find-served, find-unserved, point-linked, point-unlinked, point-same-set, point-union, usedFor, used-now, used-kept}
+use Rattle.rules.proofs.History.{other-served, row-other, served-answer, link-served, link-unserved, find-served, point-unlinked, point-same-set, point-union, usedFor}
 use Rattle.rules.proofs.Stages.{isRaising, pendingOf, Raising, Knows}
-use Rattle.rules.proofs.Outcomes.{Kept, Going, Closing, Linked, Joining, Ending, Denying, Outcome}
+use Rattle.rules.proofs.Outcomes.{Kept, Unlinked, Going, Closing, Linked, Joining, Ending, Denying, Outcome}
 use Rattle.rules.proofs.Outcomes.Linked.{finished, raises}
 use Rattle.rules.proofs.Outcomes.Outcome.{going, closing, joining, ending, denying}
-use Rattle.rules.proofs.Invariant.{labels, ApartAt, claim, Candidate, Timed, Over, Current, Placed, Invariant}
+use Rattle.rules.proofs.Invariant.{labels, ApartAt, claim, Candidate, Placed, Invariant}
 use Rattle.rules.proofs.Others.{placed-other}
+use Rattle.rules.proofs.Own.{finished-over, unfinished-current, timed-on, timed-raising, placed-now, placed-pending, placed-still}
 use Rattle.rules.proofs.Serving.{Serving, serving-of, more, After, Effect}
 use Rattle.rules.proofs.Serving.After.{continues, finishes}
 
--- ---- answers and their numbers
-
+-- yes and already together are what the specification answers of nodes in one set
 together-reply : (k : Kind) → replyTo k true ≡ promised (answerNumber (together k))
 together-reply Union = refl
 together-reply SameSet = refl
@@ -58,13 +59,6 @@ together-reply SameSet = refl
 together-final : (k : Kind) → isFinal (together k) ≡ true
 together-final Union = refl
 together-final SameSet = refl
-
-final-number : (a : Answer) → isFinal a ≡ true → answerNumber a ≢ 0
-final-number Unfinished f z = true≢false (sym f)
-final-number Joined f z = omega arith
-final-number Together f z = omega arith
-final-number Yes f z = omega arith
-final-number No f z = omega arith
 
 module _ (qs : List Request) (n : ℕ) (B : Labels) (roots₀ : ℕ) (S : State) (past : List Happening) (h : ℕ) (head : Head)
     (inv : Invariant qs n B roots₀ S past) (srv : Serving qs n B S past h head) where
@@ -83,14 +77,13 @@ module _ (qs : List Request) (n : ℕ) (B : Labels) (roots₀ : ℕ) (S : State)
   abbrev B₁ : Labels
   B₁ = labels qs B S
 
-  -- the state after the grant, with the entries es′
   abbrev with-entries : List Entry → State
-  with-entries es′ =
+  with-entries es =
       record {
         table = t′;
         heads = served qs S h head .heads;
         report = served qs S h head .report;
-        entries = es′;
+        entries = es;
         idle = S .idle;
         failed = served qs S h head .failed;
         links = served qs S h head .links;
@@ -98,7 +91,7 @@ module _ (qs : List Request) (n : ℕ) (B : Labels) (roots₀ : ℕ) (S : State)
       }
 
   abbrev Does : List Entry → Type 0
-  Does es′ = Effect qs n B roots₀ S (with-entries es′) past′ q a
+  Does es = Effect qs n B roots₀ S (with-entries es) past′ q a
 
   unplaced : a .event .point ≡ 0 → Does (S .entries) → Effect qs n B roots₀ S (served qs S h head) past′ q a
   unplaced z does = subst Does (sym (rw (eq-eqb (a .event .point) 0 z) refl)) does
@@ -109,20 +102,27 @@ module _ (qs : List Request) (n : ℕ) (B : Labels) (roots₀ : ℕ) (S : State)
       entries : served qs S h head .entries ≡ insert point q (S .entries)
       entries = rw (ne-eqb (a .event .point) 0 (λ z. omega arith), e)
 
+  -- ---- the table
+
+  -- the table shows the labels that the entries make
+  table-kept : {B′ : Labels} (es : List Entry) → after (operationAt qs) B es ≡ B′ → Kept n (S .table) t′ B₁ B′
+      → Kept n (S .table) t′ B₁ (after (operationAt qs) B es)
+  table-kept es e kept = subst (λ C. Kept n (S .table) t′ B₁ C) (sym e) kept
+
+  roots-stay : a .event .linked ≡ false → Unlinked n (S .table) t′ B₁ → rootCount (parent t′) n + served qs S h head .links ≡ roots₀
+  roots-stay unlinked table = rw unlinked (ap (λ k. k + S .links) (table .roots) ∙ inv .roots)
+
   -- ---- entries that stand
 
-  other : (p : ℕ) → p ≢ q → Other p (serving-of S head)
-  other p d = other-served p q (a .event) (λ e. d (sym e))
+  claim-other : (p : ℕ) → p ≢ q → claim past p ≡ claim past′ p
+  claim-other p d = ap (λ r. promised (r .answer)) (sym (row-other p (serving-of S head) past (other-served p q (a .event) d)))
 
   -- a request that is not listed leaves every entry as it stands
   entries-stand : occurrences q (S .entries) ≡ 0 → Replayed (operationAt qs) (Placed qs past′) (claim past′) B 0 (S .entries)
   entries-stand none =
       replayed-map (inv .entries)
-      (λ e m p. placed-other (serving-of S head) (other (e .request) (occurrences-absent q none m)) p)
-      (λ e m. ap (λ r. promised (r .answer)) (sym (row-other (e .request) (serving-of S head) past (other (e .request) (occurrences-absent q none m)))))
-
-  entries-below : Below (suc (S .now)) (S .entries)
-  entries-below e m = omega (arith, replayed-fact (inv .entries) e m .until, inv .clock)
+      (λ e m p. placed-other (serving-of S head) (other-served (e .request) q (a .event) (occurrences-absent q none m)) p)
+      (λ e m. claim-other (e .request) (occurrences-absent q none m))
 
   -- before its link a request is not listed
   module _ (unraised : isRaising (head .stage) ≡ false) where
@@ -132,99 +132,65 @@ module _ (qs : List Request) (n : ℕ) (B : Labels) (roots₀ : ℕ) (S : State)
     not-listed : occurrences q (S .entries) ≡ 0
     not-listed = srv .listed ∙ rw (eq-eqb (linkOf q past) 0 not-linked)
 
-  -- ---- the row of the request
+    listed-once : (point : ℕ) → occurrences q (insert point q (S .entries)) ≡ 1
+    listed-once point = occurrences-inserted point q (S .entries) ∙ ap suc not-listed
 
-  finished-over : (times : ℕ) → isFinal (a .event .answer) ≡ true → times ≡ 1 → Over q past′ times
-  finished-over times final once =
-      record {
-        finished = λ z. final-number (a .event .answer) final (sym (served-answer q (a .event) past) ∙ z);
-        begun = served-first q (a .event) past;
-        ended = row-last-bound q past′;
-        listed = once;
-      }
+    still-unlinked : a .event .linked ≡ false → linkOf q past′ ≡ 0
+    still-unlinked e = link-unserved q (a .event) past e ∙ not-linked
 
-  unfinished-current : (times : ℕ) → a .event .answer ≡ Unfinished → times ≡ cond (eqb (linkOf q past′) 0) 0 1 → Current q past′ times
-  unfinished-current times answer listed =
-      record {
-        unfinished = served-answer q (a .event) past ∙ ap answerNumber answer;
-        begun = served-first q (a .event) past;
-        listed = listed;
-      }
-
-  -- an entry at this grant
-  placed-now : suc (length past) ≡ pointOf (requestAt qs q .kind) q past′ → Placed qs past′ (entry (suc (S .now)) q)
-  placed-now point =
-      record {
-        known = srv .within;
-        since = omega (arith, row-first-bound q past′, inv .clock);
-        until = omega (arith, inv .clock);
-        ended = λ z. omega (arith, served-last q (a .event) past z, inv .clock);
-        point = ap suc (inv .clock) ∙ point;
-        used = ap (usedFor past′) (ap suc (inv .clock)) ∙ used-now q (a .event) past;
-      }
+  others-stay : (point p : ℕ) → p ≢ q → occurrences p (insert point q (S .entries)) ≡ occurrences p (S .entries)
+  others-stay point p d = occurrences-other point q p (S .entries) (λ e. d (sym e))
 
   -- ---- going on
 
   going-effect : Going n (S .now) (S .table) t′ B₁ (ApartAt qs B (S .entries) q) (requestAt qs q) (head .stage) a → Does (S .entries)
   going-effect g =
+      let unlinked = still-unlinked (g .unraised) (g .unlinked) in
       record {
-        sound = g .kept .sound;
-        later = g .kept .later;
-        roots = rw (g .unlinked) (ap (λ k. k + S .links) (g .roots) ∙ inv .roots);
+        kept = g .table .kept;
+        roots = roots-stay (g .unlinked) (g .table);
         settled = λ point l. refl;
         entries = entries-stand (not-listed (g .unraised));
         others = λ p d. refl;
-        after = continues (g .unfinished) (g .busy) (g .knows) timed
-            (unfinished-current (occurrences q (S .entries)) (g .unfinished) (not-listed (g .unraised) ∙ sym (rw (eq-eqb (linkOf q past′) 0 unlinked))));
+        after = continues (g .unfinished) (g .busy) (g .knows)
+            (timed-on q (a .event) past (g .still) unlinked (λ d. g .proposed d ∙ ap suc (inv .clock)) (g .found))
+            (unfinished-current q (a .event) past (g .unfinished)
+            (not-listed (g .unraised) ∙ sym (rw (eq-eqb (linkOf q past′) 0 unlinked))));
       }
-    where
-      unlinked : linkOf q past′ ≡ 0
-      unlinked = link-unserved q (a .event) past (g .unlinked) ∙ not-linked (g .unraised)
 
-      timed : Timed q past′ (a .head .stage)
-      timed =
-          record {
-            unlinked = λ e. unlinked;
-            linked = λ e. absurd (true≢false (sym e ∙ g .still));
-            candidate = λ d.
-                let here : pendingOf (a .head .stage) ≡ suc (length past) = g .proposed d ∙ ap suc (inv .clock) in
-                record {
-                  begun = served-first q (a .event) past;
-                  since = omega (arith, row-first-bound q past′);
-                  last = find-served q (a .event) past (g .found d) ∙ sym here;
-                  used = ap (usedFor past′) here ∙ used-now q (a .event) past;
-                };
-          }
+  -- ---- an entry at this grant
 
-  -- ---- an entry at this grant: its labels, and the entries with it
+  abbrev entered : List Entry
+  entered = insert (suc (S .now)) q (S .entries)
 
-  abbrev e-now : Entry
-  e-now = entry (suc (S .now)) q
+  abbrev own : Entry
+  own = entry (suc (S .now)) q
 
-  inserted-last : insert (suc (S .now)) q (S .entries) ≡ S .entries ++ (e-now ∷ [])
-  inserted-last = insert-last (suc (S .now)) q (S .entries) entries-below
+  entries-below : Below (suc (S .now)) (S .entries)
+  entries-below e m = omega (arith, replayed-fact (inv .entries) e m .until, inv .clock)
 
-  labels-now : after (operationAt qs) B (insert (suc (S .now)) q (S .entries)) ≡ next B₁ (operationAt qs q)
-  labels-now = ap (after (operationAt qs) B) inserted-last ∙ after-snoc (operationAt qs) B (S .entries) e-now
+  entered-last : entered ≡ S .entries ++ (own ∷ [])
+  entered-last = insert-last (suc (S .now)) q (S .entries) entries-below
 
-  settled-now : (point : ℕ) → point ≤ S .now → labelsTo (operationAt qs) point B (insert (suc (S .now)) q (S .entries)) ≡ labelsTo (operationAt qs) point B (S .entries)
-  settled-now point l = ap (labelsTo (operationAt qs) point B) inserted-last ∙ labelsTo-snoc (operationAt qs) point B (S .entries) e-now (omega arith)
+  entered-labels : after (operationAt qs) B entered ≡ next B₁ (operationAt qs q)
+  entered-labels = ap (after (operationAt qs) B) entered-last ∙ after-snoc (operationAt qs) B (S .entries) own
 
-  entries-now : occurrences q (S .entries) ≡ 0 → suc (length past) ≡ pointOf (requestAt qs q .kind) q past′
-      → reply B₁ (operationAt qs q) ≡ claim past′ q
-      → Replayed (operationAt qs) (Placed qs past′) (claim past′) B 0 (insert (suc (S .now)) q (S .entries))
-  entries-now none point answered =
-      subst (λ es. Replayed (operationAt qs) (Placed qs past′) (claim past′) B 0 es) (sym inserted-last)
-      (replayed-snoc e-now (entries-stand none) (omega arith) entries-below (placed-now point) answered)
+  entered-settled : (point : ℕ) → point ≤ S .now → labelsTo (operationAt qs) point B entered ≡ labelsTo (operationAt qs) point B (S .entries)
+  entered-settled point l =
+      ap (labelsTo (operationAt qs) point B) entered-last ∙ labelsTo-snoc (operationAt qs) point B (S .entries) own (omega arith)
+
+  entered-replayed : isRaising (head .stage) ≡ false → suc (length past) ≡ pointOf (requestAt qs q .kind) q past′
+      → reply B₁ (operationAt qs q) ≡ claim past′ q → Replayed (operationAt qs) (Placed qs past′) (claim past′) B 0 entered
+  entered-replayed unraised point answered =
+      let placed = subst (λ k. Placed qs past′ (entry (suc k) q)) (sym (inv .clock)) (placed-now q (a .event) past (srv .within) point) in
+      subst (Replayed (operationAt qs) (Placed qs past′) (claim past′) B 0) (sym entered-last)
+      (replayed-snoc own (entries-stand (not-listed unraised)) (omega arith) entries-below placed answered)
 
   -- ---- the two finds ended at one root
 
-  module _ (c : Closing (S .now) (S .table) t′ B₁ (requestAt qs q) (head .stage) a) where
-    closing-labels : after (operationAt qs) B (insert (suc (S .now)) q (S .entries)) ≡ B₁
-    closing-labels = labels-now ∙ next-together B₁ (operationAt qs q) (c .one-set)
-
+  module _ (c : Closing n (S .now) (S .table) t′ B₁ (requestAt qs q) (head .stage) a) where
     closing-point : (k : Kind) → suc (length past) ≡ pointOf k q past′
-    closing-point Union = sym (point-unlinked q (a .event) past (link-unserved q (a .event) past (c .unlinked) ∙ not-linked (c .unraised)))
+    closing-point Union = sym (point-unlinked q (a .event) past (still-unlinked (c .unraised) (c .unlinked)))
     closing-point SameSet = sym (point-same-set q past′ ∙ find-served q (a .event) past (c .found))
 
     closing-answer : reply B₁ (operationAt qs q) ≡ claim past′ q
@@ -232,31 +198,26 @@ module _ (qs : List Request) (n : ℕ) (B : Labels) (roots₀ : ℕ) (S : State)
         reply-together B₁ (operationAt qs q) (c .one-set) ∙ together-reply (requestAt qs q .kind)
         ∙ ap (λ b. promised (answerNumber b)) (sym (c .answer)) ∙ ap promised (sym (served-answer q (a .event) past))
 
-    closing-effect : Does (insert (suc (S .now)) q (S .entries))
+    closing-effect : Does entered
     closing-effect =
+        let final = ap isFinal (c .answer) ∙ together-final (requestAt qs q .kind) in
         record {
-          sound = subst (λ C. Sound n (parent t′) (rank t′) C) (sym closing-labels)
-              (subst (λ u. Sound n (parent u) (rank u) B₁) (sym (c .same)) (inv .sound));
-          later = subst (λ C. Later n (parent (S .table)) (rank (S .table)) B₁ (parent t′) (rank t′) C) (sym closing-labels)
-              (subst (λ u. Later n (parent (S .table)) (rank (S .table)) B₁ (parent u) (rank u) B₁) (sym (c .same))
-              (later-refl n (parent (S .table)) (rank (S .table)) B₁));
-          roots = rw (c .unlinked) (ap (λ u. rootCount (parent u) n + S .links) (c .same) ∙ inv .roots);
-          settled = settled-now;
-          entries = entries-now (not-listed (c .unraised)) (closing-point (requestAt qs q .kind)) closing-answer;
-          others = λ p d. occurrences-other (suc (S .now)) q p (S .entries) (λ e. d (sym e));
-          after = finishes final (c .rests)
-              (finished-over (occurrences q (insert (suc (S .now)) q (S .entries))) final
-              (occurrences-inserted (suc (S .now)) q (S .entries) ∙ ap suc (not-listed (c .unraised))));
+          kept = table-kept entered (entered-labels ∙ next-together B₁ (operationAt qs q) (c .one-set)) (c .table .kept);
+          roots = roots-stay (c .unlinked) (c .table);
+          settled = entered-settled;
+          entries = entered-replayed (c .unraised) (closing-point (requestAt qs q .kind)) closing-answer;
+          others = others-stay (suc (S .now));
+          after = finishes final (c .rests) (finished-over q (a .event) past final (listed-once (c .unraised) (suc (S .now))));
         }
-      where
-        final : isFinal (a .event .answer) ≡ true
-        final = ap isFinal (c .answer) ∙ together-final (requestAt qs q .kind)
 
   -- ---- the link was written
 
-  module _ (j : Joining n (S .now) (S .table) t′ B₁ (join B₁ (requestAt qs q .x) (requestAt qs q .y)) (requestAt qs q) (head .stage) a) where
-    joining-labels : after (operationAt qs) B (insert (suc (S .now)) q (S .entries)) ≡ join B₁ (requestAt qs q .x) (requestAt qs q .y)
-    joining-labels = labels-now ∙ next-union B₁ (operationAt qs q) (j .kind)
+  abbrev united : Labels
+  united = join B₁ (requestAt qs q .x) (requestAt qs q .y)
+
+  module _ (j : Joining n (S .now) (S .table) t′ B₁ united (requestAt qs q) (head .stage) a) where
+    joining-labels : after (operationAt qs) B entered ≡ united
+    joining-labels = entered-labels ∙ next-union B₁ (operationAt qs q) (j .kind)
 
     joining-link : linkOf q past′ ≡ suc (length past)
     joining-link = link-served q (a .event) past (j .linked)
@@ -265,13 +226,10 @@ module _ (qs : List Request) (n : ℕ) (B : Labels) (roots₀ : ℕ) (S : State)
     linked-now z = omega (arith, joining-link)
 
     joining-point : suc (length past) ≡ pointOf (requestAt qs q .kind) q past′
-    joining-point = sym (ap (λ k. pointOf k q past′) (j .kind) ∙ point-linked q (a .event) past linked-now ∙ joining-link)
-
-    listed-once : occurrences q (insert (suc (S .now)) q (S .entries)) ≡ 1
-    listed-once = occurrences-inserted (suc (S .now)) q (S .entries) ∙ ap suc (not-listed (j .unraised))
+    joining-point = sym (ap (λ k. pointOf k q past′) (j .kind) ∙ point-union q past′ linked-now ∙ joining-link)
 
     -- joined is promised to a listed union, finished or not
-    joining-claim : Linked n t′ (join B₁ (requestAt qs q .x) (requestAt qs q .y)) (requestAt qs q) a → Joined ≡ claim past′ q
+    joining-claim : Linked n t′ united (requestAt qs q) a → Joined ≡ claim past′ q
     joining-claim (finished answer rests) = sym (ap promised (served-answer q (a .event) past ∙ ap answerNumber answer))
     joining-claim (raises k answer stage r) = sym (ap promised (served-answer q (a .event) past ∙ ap answerNumber answer))
 
@@ -279,36 +237,25 @@ module _ (qs : List Request) (n : ℕ) (B : Labels) (roots₀ : ℕ) (S : State)
     joining-answer =
         reply-apart B₁ (operationAt qs q) (j .two-sets) ∙ ap (λ k. replyTo k false) (j .kind) ∙ joining-claim (j .after)
 
-    joining-after : Linked n t′ (join B₁ (requestAt qs q .x) (requestAt qs q .y)) (requestAt qs q) a
-        → After qs n B (with-entries (insert (suc (S .now)) q (S .entries))) past′ q a
+    joining-after : Linked n t′ united (requestAt qs q) a → After qs n B (with-entries entered) past′ q a
     joining-after (finished answer rests) =
-        finishes (ap isFinal answer) rests (finished-over (occurrences q (insert (suc (S .now)) q (S .entries))) (ap isFinal answer) listed-once)
+        finishes (ap isFinal answer) rests (finished-over q (a .event) past (ap isFinal answer) (listed-once (j .unraised) (suc (S .now))))
     joining-after (raises k answer stage r) =
         continues answer (ap restingAt stage)
-        (subst (λ st. Knows n (parent t′) (rank t′) labels′ (ApartAt qs B es′ q) (suc (S .now)) (requestAt qs q) (a .head) st) (sym stage)
+        (subst (Knows n (parent t′) (rank t′) (after (operationAt qs) B entered) (ApartAt qs B entered q) (suc (S .now)) (requestAt qs q) (a .head)) (sym stage)
         (subst (λ C. Raising n (rank t′) C (requestAt qs q) (a .head .y) k) (sym joining-labels) r))
-        (record {
-          unlinked = λ e. absurd (true≢false (sym (ap isRaising stage) ∙ e));
-          linked = λ e. linked-now;
-          candidate = λ d. absurd (d (ap pendingOf stage));
-        })
-        (unfinished-current (occurrences q es′) answer (listed-once ∙ sym (rw (ne-eqb (linkOf q past′) 0 linked-now))))
-      where
-        es′ : List Entry
-        es′ = insert (suc (S .now)) q (S .entries)
+        (timed-raising q (a .event) past (ap isRaising stage) (ap pendingOf stage) linked-now)
+        (unfinished-current q (a .event) past answer
+        (listed-once (j .unraised) (suc (S .now)) ∙ sym (rw (ne-eqb (linkOf q past′) 0 linked-now))))
 
-        labels′ : Labels
-        labels′ = after (operationAt qs) B es′
-
-    joining-effect : Does (insert (suc (S .now)) q (S .entries))
+    joining-effect : Does entered
     joining-effect =
         record {
-          sound = subst (λ C. Sound n (parent t′) (rank t′) C) (sym joining-labels) (j .kept .sound);
-          later = subst (λ C. Later n (parent (S .table)) (rank (S .table)) B₁ (parent t′) (rank t′) C) (sym joining-labels) (j .kept .later);
+          kept = table-kept entered joining-labels (j .kept);
           roots = rw (j .linked) (omega (arith, j .roots, inv .roots));
-          settled = settled-now;
-          entries = entries-now (not-listed (j .unraised)) joining-point joining-answer;
-          others = λ p d. occurrences-other (suc (S .now)) q p (S .entries) (λ e. d (sym e));
+          settled = entered-settled;
+          entries = entered-replayed (j .unraised) joining-point joining-answer;
+          others = others-stay (suc (S .now));
           after = joining-after (j .after);
         }
 
@@ -318,67 +265,41 @@ module _ (qs : List Request) (n : ℕ) (B : Labels) (roots₀ : ℕ) (S : State)
     was-linked : linkOf q past ≢ 0
     was-linked = srv .timed .linked (d .raised)
 
-    ending-answer : rowOf q past′ .answer ≡ 1
-    ending-answer = served-answer q (a .event) past ∙ ap answerNumber (d .answer)
+    -- its own entry stays where it is, and so do the others
+    ending-placed : (e : Entry) → Dec (e .request ≡ q) → Placed qs past e → Placed qs past′ e
+    ending-placed e (yes is) p =
+        subst (λ r. Placed qs past′ (entry (e .point) r)) (sym is)
+        (placed-still q (a .event) past (srv .within) (d .kind) (d .unlinked) was-linked (srv .begun (d .raised))
+        (subst (λ r. Placed qs past (entry (e .point) r)) is p))
+    ending-placed e (no not-own) p = placed-other (serving-of S head) (other-served (e .request) q (a .event) not-own) p
 
-    still-linked : linkOf q past′ ≡ linkOf q past
-    still-linked = link-unserved q (a .event) past (d .unlinked)
-
-    -- its own entry stays where it is
-    placed-own : (e : Entry) → e .request ≡ q → Placed qs past e → Placed qs past′ e
-    placed-own e is p =
-        let first = served-settled q (a .event) past (srv .begun (d .raised)) in
-        let here : pointOf (requestAt qs q .kind) q past′ ≡ pointOf (requestAt qs q .kind) q past =
-        ap (λ k. pointOf k q past′) (d .kind)
-        ∙ point-linked q (a .event) past (λ z. was-linked (sym still-linked ∙ z))
-        ∙ still-linked ∙ sym (point-union q past was-linked) ∙ ap (λ k. pointOf k q past) (sym (d .kind)) in
-        record {
-          known = p .known;
-          since = omega (arith, ap (λ k. rowOf k past′ .first) is, first, ap (λ k. rowOf k past .first) is, p .since);
-          until = omega (arith, p .until);
-          ended = λ z. omega (
-            arith,
-            ap (λ k. rowOf k past′ .last) is,
-            p .until,
-            served-last q (a .event) past (λ y. z (ap (λ k. rowOf k past′ .last) is ∙ y)),
-          );
-          point = p .point ∙ ap (λ k. pointOf (requestAt qs k .kind) k past) is ∙ sym here ∙ ap (λ k. pointOf (requestAt qs k .kind) k past′) (sym is);
-          used = used-kept (serving-of S head) past (e .point) (p .until) ∙ p .used;
-        }
-
-    placed-either : (e : Entry) → Dec (e .request ≡ q) → Placed qs past e → Placed qs past′ e
-    placed-either e (yes is) p = placed-own e is p
-    placed-either e (no not-is) p = placed-other (serving-of S head) (other (e .request) not-is) p
-
-    claim-either : (p : ℕ) → Dec (p ≡ q) → claim past p ≡ claim past′ p
-    claim-either p (yes is) =
-        ap (claim past) is ∙ ap promised (srv .unfinished) ∙ sym (ap promised ending-answer) ∙ ap (claim past′) (sym is)
-    claim-either p (no not-is) = ap (λ r. promised (r .answer)) (sym (row-other p (serving-of S head) past (other p not-is)))
+    -- joined was promised before, and is reported now
+    ending-claim : (p : ℕ) → Dec (p ≡ q) → claim past p ≡ claim past′ p
+    ending-claim p (yes is) =
+        ap (claim past) is ∙ ap promised (srv .unfinished)
+        ∙ sym (ap promised (served-answer q (a .event) past ∙ ap answerNumber (d .answer))) ∙ ap (claim past′) (sym is)
+    ending-claim p (no not-own) = claim-other p not-own
 
     ending-effect : Does (S .entries)
     ending-effect =
+        let final = ap isFinal (d .answer) in
         record {
-          sound = d .kept .sound;
-          later = d .kept .later;
-          roots = rw (d .unlinked) (ap (λ k. k + S .links) (d .roots) ∙ inv .roots);
+          kept = d .table .kept;
+          roots = roots-stay (d .unlinked) (d .table);
           settled = λ point l. refl;
-          entries = replayed-map (inv .entries) (λ e m p. placed-either e (ℕ-discrete (e .request) q) p) (λ e m. claim-either (e .request) (ℕ-discrete (e .request) q));
+          entries = replayed-map (inv .entries) (λ e m. ending-placed e (ℕ-discrete (e .request) q)) (λ e m. ending-claim (e .request) (ℕ-discrete (e .request) q));
           others = λ p e. refl;
-          after = finishes (ap isFinal (d .answer)) (d .rests)
-              (finished-over (occurrences q (S .entries)) (ap isFinal (d .answer)) (srv .listed ∙ rw (ne-eqb (linkOf q past) 0 was-linked)));
+          after = finishes final (d .rests) (finished-over q (a .event) past final (srv .listed ∙ rw (ne-eqb (linkOf q past) 0 was-linked)));
         }
 
   -- ---- x was still a root
 
-  module _ (d : Denying (S .now) (S .table) t′ (ApartAt qs B (S .entries) q) (requestAt qs q) (head .stage) a) where
+  module _ (d : Denying n (S .now) (S .table) t′ B₁ (ApartAt qs B (S .entries) q) (requestAt qs q) (head .stage) a) where
     abbrev point : ℕ
     point = pendingOf (head .stage)
 
     candidate : Candidate q past point
     candidate = srv .timed .candidate (λ z. omega (arith, d .positive))
-
-    deny-answer : rowOf q past′ .answer ≡ 4
-    deny-answer = served-answer q (a .event) past ∙ ap answerNumber (d .answer)
 
     -- the point is nobody else's, since no two requests used one grant
     point-free : Free point (S .entries)
@@ -387,49 +308,33 @@ module _ (qs : List Request) (n : ℕ) (B : Labels) (roots₀ : ℕ) (S : State)
         let same : suc (e .request) ≡ suc q = sym (p .used) ∙ ap (usedFor past) is ∙ candidate .used in
         occurrences-absent q (not-listed (d .unraised)) m (omega arith)
 
-    placed-there : Placed qs past′ (entry point q)
-    placed-there =
-        record {
-          known = srv .within;
-          since = omega (arith, served-settled q (a .event) past (candidate .begun), candidate .since);
-          until = omega (arith, d .until, inv .clock);
-          ended = λ z. omega (arith, served-last q (a .event) past z, d .until, inv .clock);
-          point = sym (ap (λ k. pointOf k q past′) (d .kind) ∙ point-same-set q past′ ∙ find-unserved q (a .event) past (d .unfound) ∙ candidate .last);
-          used = used-kept (serving-of S head) past point (omega (arith, d .until, inv .clock)) ∙ candidate .used;
-        }
-
+    -- at its point the specification answers no, and no label changes
     silent : Silent (operationAt qs) (claim past′) (labelsTo (operationAt qs) point B (S .entries)) q
     silent =
         record {
           answered = reply-apart (labelsTo (operationAt qs) point B (S .entries)) (operationAt qs q) (d .two-sets)
-              ∙ ap (λ k. replyTo k false) (d .kind) ∙ sym (ap promised deny-answer);
+              ∙ ap (λ k. replyTo k false) (d .kind)
+              ∙ sym (ap promised (served-answer q (a .event) past ∙ ap answerNumber (d .answer)));
           unchanged = next-same-set (labelsTo (operationAt qs) point B (S .entries)) (operationAt qs q) (d .kind);
         }
 
-    deny-labels : after (operationAt qs) B (insert point q (S .entries)) ≡ B₁
-    deny-labels = after-insert (operationAt qs) point q B (S .entries) (silent .unchanged)
-
     denying-effect : Does (insert point q (S .entries))
     denying-effect =
+        let final = ap isFinal (d .answer) in
+        let until : point ≤ length past = omega (arith, d .until, inv .clock) in
         record {
-          sound = subst (λ C. Sound n (parent t′) (rank t′) C) (sym deny-labels)
-              (subst (λ u. Sound n (parent u) (rank u) B₁) (sym (d .same)) (inv .sound));
-          later = subst (λ C. Later n (parent (S .table)) (rank (S .table)) B₁ (parent t′) (rank t′) C) (sym deny-labels)
-              (subst (λ u. Later n (parent (S .table)) (rank (S .table)) B₁ (parent u) (rank u) B₁) (sym (d .same))
-              (later-refl n (parent (S .table)) (rank (S .table)) B₁));
-          roots = rw (d .unlinked) (ap (λ u. rootCount (parent u) n + S .links) (d .same) ∙ inv .roots);
+          kept = table-kept (insert point q (S .entries)) (after-insert (operationAt qs) point q B (S .entries) (silent .unchanged)) (d .table .kept);
+          roots = roots-stay (d .unlinked) (d .table);
           settled = λ m l. labelsTo-insert (operationAt qs) point q m B (S .entries) (silent .unchanged);
-          entries = replayed-insert point q (entries-stand (not-listed (d .unraised))) (omega (arith, d .positive)) point-free placed-there silent;
-          others = λ p e. occurrences-other point q p (S .entries) (λ is. e (sym is));
-          after = finishes (ap isFinal (d .answer)) (d .rests)
-              (finished-over (occurrences q (insert point q (S .entries))) (ap isFinal (d .answer))
-              (occurrences-inserted point q (S .entries) ∙ ap suc (not-listed (d .unraised))));
+          entries = replayed-insert point q (entries-stand (not-listed (d .unraised))) (omega (arith, d .positive)) point-free
+              (placed-pending q (a .event) past (srv .within) (d .kind) (d .unfound) until candidate) silent;
+          others = others-stay point;
+          after = finishes final (d .rests) (finished-over q (a .event) past final (listed-once (d .unraised) point));
         }
 
   -- ---- any outcome
 
-  pub outcome-effect :
-      Outcome n (S .now) (S .table) t′ B₁ (join B₁ (requestAt qs q .x) (requestAt qs q .y)) (ApartAt qs B (S .entries) q) (requestAt qs q) (head .stage) a
+  pub outcome-effect : Outcome n (S .now) (S .table) t′ B₁ united (ApartAt qs B (S .entries) q) (requestAt qs q) (head .stage) a
       → Effect qs n B roots₀ S (served qs S h head) past′ q a
   outcome-effect (going g) = unplaced (g .unplaced) (going-effect g)
   outcome-effect (closing c) = placed-at (suc (S .now)) (c .point) (omega arith) (closing-effect c)

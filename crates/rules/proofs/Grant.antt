@@ -1,13 +1,14 @@
 -- One grant keeps the invariant: idle, or serving a head that goes on with its request or begins its next one.
 --
--- Main law: step-invariant.
+--   united q   what a union of request q would make of the sets
+--
+-- Main laws: served-effect, what the grant does to a head that it serves; step-invariant.
 use mathlib.Core.Path.{_≡_, refl, sym, ap, _∙_, subst}
 use mathlib.Core.Logic.{_≢_}
 use mathlib.Core.Bool.{Bool, true, false, cond, true≢false}
 use mathlib.Core.List.{List, _∷_}
 use Prim.Native.Nat.{ℕ, suc, _≤_, _<_}
 use native.Mathlib.Omega.{arith}
-use lib.Dec.{eqb, ltb}
 use lib.ListN.{length}
 use borrow.Author.Tests.{ltb-true, eq-eqb}
 use Rattle.job.specs.declared.Request.{Request}
@@ -26,16 +27,17 @@ use Rattle.rules.specs.State.{State, requestAt, hasWork}
 use Rattle.rules.specs.Step.{ready, headAt, advanced, served, passed, step}
 use Rattle.rules.specs.Run.{Happening, happened}
 use Rattle.rules.specs.Run.Happening.{idle}
-use Rattle.rules.specs.History.{rowOf, linkOf}
+use Rattle.rules.specs.History.{linkOf}
 use Rattle.rules.specs.Linearized.{promised}
 use Rattle.rules.proofs.History.{row-other}
 use Rattle.rules.proofs.Stages.{pendingOf, Inside, finding-begin, knows-later, pending-until}
-use Rattle.rules.proofs.Outcomes.{Outcome}
-use Rattle.rules.proofs.Steps.{step-outcome}
-use Rattle.rules.proofs.Invariant.{labels, ApartAt, claim, Timed, Current, Waiting, Phase, Placed, Invariant}
+use Rattle.rules.proofs.Outcomes.{Outcome, Present}
+use Rattle.rules.proofs.StepOutcome.{step-outcome}
+use Rattle.rules.proofs.Invariant.{labels, ApartAt, Current, Waiting, Phase, Invariant}
 use Rattle.rules.proofs.Invariant.Phase.{over, current, waiting}
 use Rattle.rules.proofs.Others.{timed-other, phase-other, placed-other}
-use Rattle.rules.proofs.Serving.{Serving, more, effect-invariant}
+use Rattle.rules.proofs.Positions.{phase-of}
+use Rattle.rules.proofs.Serving.{Serving, more, effect-invariant, Effect}
 use Rattle.rules.proofs.Effects.{outcome-effect}
 
 -- The request of a head with work left is being served, if the head is not at rest, or waits for it.
@@ -85,7 +87,7 @@ module _ {qs : List Request} {n : ℕ} {B : Labels} {roots₀ : ℕ} {S : State}
       own-head = inv .own h present within
 
       own-phase : Phase (headAt S h) (headAt S h .request) past (occurrences (headAt S h .request) (S .entries))
-      own-phase = subst (λ k. Phase (headAt S k) (headAt S h .request) past (occurrences (headAt S h .request) (S .entries))) own-head (inv .phases (headAt S h .request) within)
+      own-phase = phase-of inv h (headAt S h .request) within own-head
 
       -- the head goes on
       serving-busy : isResting (headAt S h) ≡ false → Serving qs n B S past h (headAt S h)
@@ -130,10 +132,12 @@ module _ {qs : List Request} {n : ℕ} {B : Labels} {roots₀ : ℕ} {S : State}
           chosen t = ap (λ b. cond b (begin (requestAt qs (headAt S h .request)) (headAt S h .request)) (headAt S h)) t
 
     -- what the request's union would make of the sets
-    union-merged : (q : ℕ) → Merged (labels qs B S) (join (labels qs B S) (requestAt qs q .x) (requestAt qs q .y)) (requestAt qs q .x) (requestAt qs q .y)
+    abbrev united : ℕ → Labels
+    united q = join (labels qs B S) (requestAt qs q .x) (requestAt qs q .y)
+
+    union-merged : (q : ℕ) → Merged (labels qs B S) (united q) (requestAt qs q .x) (requestAt qs q .y)
     unfolding join
-    union-merged q =
-        relabelled-merged (labels qs B S) (join (labels qs B S) (requestAt qs q .x) (requestAt qs q .y)) (requestAt qs q .x) (requestAt qs q .y) (λ i. refl)
+    union-merged q = relabelled-merged (labels qs B S) (united q) (requestAt qs q .x) (requestAt qs q .y) (λ i. refl)
 
     -- no entry is beyond this grant
     apart-now : (q : ℕ) → labels qs B S (requestAt qs q .x) ≢ labels qs B S (requestAt qs q .y) → ApartAt qs B (S .entries) q (suc (S .now))
@@ -141,23 +145,25 @@ module _ {qs : List Request} {n : ℕ} {B : Labels} {roots₀ : ℕ} {S : State}
         subst (λ C. C (requestAt qs q .x) ≢ C (requestAt qs q .y))
         (sym (labelsTo-all _ (suc (S .now)) B (S .entries) (λ e m. omega (arith, replayed-fact (inv .entries) e m .until, inv .clock))))
 
-    pub served-outcome : (head : Head) → Serving qs n B S past h head
-        → Outcome n (S .now) (S .table) (touched (S .table) (accessOf head)) (labels qs B S)
-        (join (labels qs B S) (requestAt qs (head .request) .x) (requestAt qs (head .request) .y))
+    present-now : (q : ℕ) → q < length qs → Present n (S .now) (S .table) (labels qs B S) (united q) (ApartAt qs B (S .entries) q) (requestAt qs q)
+    present-now q within =
+        record { nodes = inv .nodes; inside = inside q within; sound = inv .sound; merged = union-merged q; apart = apart-now q }
+
+    served-outcome : {head : Head} → Serving qs n B S past h head
+        → Outcome n (S .now) (S .table) (touched (S .table) (accessOf head)) (labels qs B S) (united (head .request))
         (ApartAt qs B (S .entries) (head .request)) (requestAt qs (head .request)) (head .stage) (advanced S head)
     unfolding accessOf advanceOf
-    served-outcome head srv =
-        step-outcome (S .table) (labels qs B S) (join (labels qs B S) (requestAt qs (head .request) .x) (requestAt qs (head .request) .y)) (S .now)
-        (ApartAt qs B (S .entries) (head .request)) (requestAt qs (head .request)) (inv .nodes) (inside (head .request) (srv .within)) (inv .sound)
-        (union-merged (head .request)) (apart-now (head .request)) head (head .stage) (srv .busy) (srv .knows)
+    served-outcome {head} srv = step-outcome (present-now (head .request) (srv .within)) head (head .stage) (srv .busy) (srv .knows)
 
-    served-invariant : (head : Head) → Serving qs n B S past h head → Invariant qs n B roots₀ (served qs S h head) (more S head past)
-    served-invariant head srv =
-        effect-invariant present inside inv srv (outcome-effect qs n B roots₀ S past h head inv srv (served-outcome head srv))
+    pub served-effect : {head : Head} → Serving qs n B S past h head
+        → Effect qs n B roots₀ S (served qs S h head) (more S head past) (head .request) (advanced S head)
+    served-effect {head} srv = outcome-effect qs n B roots₀ S past h head inv srv (served-outcome srv)
 
     pub step-invariant : Invariant qs n B roots₀ (step qs S h) (happened qs S h ∷ past)
     unfolding step happened
     step-invariant =
         split (hasWork qs (headAt S h))
-        (λ t. rw t (served-invariant (ready qs (headAt S h)) (serving-ready (ltb-true (headAt S h .request) (length qs) t))))
+        (λ t.
+        let serving = serving-ready (ltb-true (headAt S h .request) (length qs) t) in
+        rw t (effect-invariant present inside inv serving (served-effect serving)))
         (λ t. rw t idle-invariant)

@@ -1,13 +1,14 @@
 -- What one more happening does to what a history says.
 --
 --   Other q a        the grant a was not used for request q
+--   userOf a         one more than the request that the grant a was used for, 0 for none
 --   usedFor past p   one more than the request that grant p was used for, 0 for none
 --
 -- Main laws: row-served and row-other, the row of a request after a grant; point-other, a grant for another request
 -- leaves a point alone; used-kept, what grant p was used for stays so.
-use mathlib.Core.Path.{_≡_, refl, sym, ap, _∙_}
+use mathlib.Core.Path.{_≡_, refl, sym, _∙_}
 use mathlib.Core.Logic.{_≢_}
-use mathlib.Core.Bool.{Bool, true, false, cond}
+use mathlib.Core.Bool.{Bool, true, false, cond, true≢false}
 use mathlib.Core.List.{List, [], _∷_}
 use Prim.Native.Nat.{ℕ, suc, _+_, _≤_}
 use native.Mathlib.Omega.{arith}
@@ -31,8 +32,8 @@ use Rattle.rules.specs.History.{firstWhere, lastWhere, countWhere, isOf,
 abbrev pub Other : ℕ → Happening → Type 0
 Other q a = isOf q a ≡ false
 
-pub other-served : (q r : ℕ) (e : Event) → r ≢ q → Other q (serving r e)
-other-served q r e d = ne-eqb r q d
+pub other-served : (q r : ℕ) (e : Event) → q ≢ r → Other q (serving r e)
+other-served q r e d = ne-eqb r q (λ e. d (sym e))
 
 -- it ended no find of q, linked nothing for it and left its answer
 other-find : (q : ℕ) (a : Happening) → Other q a → endsFindOf q a ≡ false
@@ -48,9 +49,6 @@ other-answer q idle past o = refl
 other-answer q (serving r e) past o = rw o
 
 module _ (f : Happening → Bool) (a : Happening) (past : List Happening) where
-  pub last-new : f a ≡ true → lastWhere f (a ∷ past) ≡ suc (length past)
-  last-new t = rw t
-
   pub last-kept : f a ≡ false → lastWhere f (a ∷ past) ≡ lastWhere f past
   last-kept o = rw o
 
@@ -101,6 +99,13 @@ row-other q a past o =
       last = cond (eqb (other-answer q a past o i) 0) 0 (last-kept (isOf q) a past o i);
       used = count-kept (isOf q) a past o i;
     }
+
+pub final-number : (a : Answer) → isFinal a ≡ true → answerNumber a ≢ 0
+final-number Unfinished f z = true≢false (sym f)
+final-number Joined f z = omega arith
+final-number Together f z = omega arith
+final-number Yes f z = omega arith
+final-number No f z = omega arith
 
 -- a last grant is 0 exactly while the answer is
 last-answer : (a : Answer) (now : ℕ) → cond (isFinal a) now 0 ≡ cond (eqb (answerNumber a) 0) 0 now
@@ -184,12 +189,7 @@ module _ (q : ℕ) (e : Event) (past : List Happening) where
   pub find-unserved : e .found ≡ false → lastWhere (endsFindOf q) (serving q e ∷ past) ≡ lastWhere (endsFindOf q) past
   find-unserved t = rw (of-itself q e past, t)
 
-  -- a union that has linked has its point there
-  pub point-linked : linkOf q (serving q e ∷ past) ≢ 0 → pointOf Union q (serving q e ∷ past) ≡ linkOf q (serving q e ∷ past)
-  unfolding pointOf
-  point-linked d = rw (ne-eqb (linkOf q (serving q e ∷ past)) 0 d)
-
-  -- one that has not, at its last grant
+  -- a union that has not linked has its point at its last grant
   pub point-unlinked : linkOf q (serving q e ∷ past) ≡ 0 → pointOf Union q (serving q e ∷ past) ≡ suc (length past)
   unfolding pointOf
   point-unlinked z = rw (eq-eqb (linkOf q (serving q e ∷ past)) 0 z, of-itself q e past)
@@ -198,6 +198,7 @@ pub point-same-set : (q : ℕ) (past : List Happening) → pointOf SameSet q pas
 unfolding pointOf
 point-same-set q past = refl
 
+-- and one that has linked, there
 pub point-union : (q : ℕ) (past : List Happening) → linkOf q past ≢ 0 → pointOf Union q past ≡ linkOf q past
 unfolding pointOf
 point-union q past d = rw (ne-eqb (linkOf q past) 0 d)

@@ -32,8 +32,7 @@ use Rattle.rules.proofs.History.{Other, other-served, first-new, row-ot
 use Rattle.rules.proofs.Stages.{Inside}
 use Rattle.rules.proofs.Invariant.{labels, Invariant}
 use Rattle.rules.proofs.Serving.{Serving, serving-of, more, Effect}
-use Rattle.rules.proofs.Effects.{outcome-effect}
-use Rattle.rules.proofs.Grant.{serving-ready, served-outcome, step-invariant}
+use Rattle.rules.proofs.Grant.{serving-ready, served-effect, step-invariant}
 use Rattle.rules.proofs.Theorem.{step-heads}
 use Rattle.rules.proofs.Positions.{phase-begun}
 
@@ -46,15 +45,13 @@ pub record Layer (qs : List Request) (n : ℕ) (B : Labels) (roots₀ : ℕ) (P 
 module _ {qs : List Request} {n : ℕ} {B : Labels} {roots₀ : ℕ} (inside : (q : ℕ) → q < length qs → Inside n (requestAt qs q))
     {P : State → List Happening → Type 0} (layer : Layer qs n B roots₀ P) where
   module _ {S : State} {past : List Happening} (inv : Invariant qs n B roots₀ S past) (h : ℕ) (present : h < length (S .heads)) where
-    serving-layer : {head : Head} → Serving qs n B S past h head → P S past → P (served qs S h head) (more S head past)
-    serving-layer {head} srv =
-        layer .serves inv srv (outcome-effect qs n B roots₀ S past h head inv srv (served-outcome inside inv h present head srv))
-
     step-layer : P S past → P (step qs S h) (happened qs S h ∷ past)
     unfolding step happened
     step-layer holds =
         split (hasWork qs (headAt S h))
-        (λ t. rw t (serving-layer (serving-ready inside inv h present (ltb-true (headAt S h .request) (length qs) t)) holds))
+        (λ t.
+        let serving = serving-ready inside inv h present (ltb-true (headAt S h .request) (length qs) t) in
+        rw t (layer .serves inv serving (served-effect inside inv h present serving) holds))
         (λ t. rw t (layer .idles inv holds))
 
   pub run-layer : (S : State) (past : List Happening) (gs : List ℕ) → ((h : ℕ) → List·Memᴰ h gs → h < length (S .heads))
@@ -122,9 +119,6 @@ module _ {qs : List Request} {n : ℕ} {B : Labels} {roots₀ : ℕ} where
   module _ {S : State} {past : List Happening} {h : ℕ} {head : Head} (inv : Invariant qs n B roots₀ S past) (srv : Serving qs n B S past h head)
       (p q : ℕ) (earlier : p < q) (within : q < length qs) (one : requestAt qs p .head ≡ requestAt qs q .head)
       (holds : Before (rowOf p past) (rowOf q past)) where
-    apart : (r : ℕ) → r ≢ head .request → Other r (serving-of S head)
-    apart r d = other-served r (head .request) (advanced S head .event) (λ e. d (sym e))
-
     -- while the earlier one is being served, the later one waits
     not-begun : p ≡ head .request → rowOf q past .first ≢ 0 → ⊥
     not-begun is begun =
@@ -133,12 +127,12 @@ module _ {qs : List Request} {n : ℕ} {B : Labels} {roots₀ : ℕ} where
 
     before-step : Dec (p ≡ head .request) → Dec (q ≡ head .request) → Before (rowOf p (more S head past)) (rowOf q (more S head past))
     before-step (yes is) _ =
-        let row = row-other q (serving-of S head) past (apart q (λ e. omega arith)) in
+        let row = row-other q (serving-of S head) past (other-served q (head .request) (advanced S head .event) (λ e. omega arith)) in
         λ begun. absurd (not-begun is (λ z. begun (ap (λ r. r .first) row ∙ z)))
     before-step (no d) (yes is) =
         subst (λ k. Before (rowOf p past) (rowOf k past) → Before (rowOf p (more S head past)) (rowOf k (more S head past))) (sym is)
-        (before-served p (head .request) (advanced S head .event) past (apart p d)) holds
-    before-step (no d) (no c) = before-other p q (serving-of S head) past (apart p d) (apart q c) holds
+        (before-served p (head .request) (advanced S head .event) past (other-served p (head .request) (advanced S head .event) d)) holds
+    before-step (no d) (no c) = before-other p q (serving-of S head) past (other-served p (head .request) (advanced S head .event) d) (other-served q (head .request) (advanced S head .event) c) holds
 
   pub in-turn-layer : Layer qs n B roots₀ (λ S past. InTurn qs past)
   in-turn-layer =
@@ -152,4 +146,4 @@ module _ {qs : List Request} {n : ℕ} {B : Labels} {roots₀ : ℕ} where
 
   pub later-layer : (p r C : ℕ → ℕ)
       → Layer qs n B roots₀ (λ S past. Later n p r C (parent (S .table)) (rank (S .table)) (labels qs B S))
-  later-layer p r C = record { idles = λ inv later. later; serves = λ inv srv effect later. later-trans later (effect .later) }
+  later-layer p r C = record { idles = λ inv later. later; serves = λ inv srv effect later. later-trans later (effect .kept .later) }

@@ -1,38 +1,50 @@
 -- What a grant can be to the request that it serves: five outcomes, whatever the stage.
+-- The table t becomes t′; B are the labels before the grant, B′ what a union of the request makes of them.
 --
 --   Kept t t′ B B′    the table stays sound, and the new state is a later one
+--   Unlinked t t′ B   so it does with the same labels, and no root is lost
 --   Going             the head goes on with its request
 --   Closing           the two finds ended at one root: yes, or already together
---   Joining           the link was written
+--   Joining           the link was written; Linked, what follows it: finished, or about to raise
 --   Ending            the raise was tried: the linked union is finished
 --   Denying           x is still a root: no, at the point that was pending
-use mathlib.Core.Path.{_≡_}
+--   Outcome           one of the five
+--   Present           what stands as the grant is made, whatever the head
+--
+-- Laws: unchanged, a grant that writes nothing; goes-on, a step to a stage with no pending point.
+use mathlib.Core.Path.{_≡_, refl}
 use mathlib.Core.Logic.{_≢_}
 use mathlib.Core.Bool.{Bool, true, false}
 use mathlib.Core.List.{List}
 use Prim.Native.Nat.{ℕ, suc, _≤_}
+use lib.ListN.{length}
 use Rattle.job.specs.declared.Kind.the-variants.{Union, SameSet}
 use Rattle.job.specs.declared.Answer.the-variants.{Unfinished, Joined, No}
 use Rattle.job.specs.declared.Request.{Request}
 use Rattle.word.specs.declared.Node.{Node}
 use Rattle.process.specs.declared.Stage.{Stage}
 use Rattle.process.specs.declared.Stage.the-variants.{Resting, Raise}
+use Rattle.process.specs.declared.Head.{Head}
 use Rattle.process.specs.declared.Advanced.{Advanced}
 use Rattle.process.specs.Process.{isResting}
 use Rattle.process.specs.Advance.{together}
 use Rattle.forest.specs.Forest.{rootCount}
+use Rattle.forest.proofs.Merge.{Merged}
 use Rattle.forest.proofs.Sound.{Sound}
-use Rattle.forest.proofs.Later.{Later}
+use Rattle.forest.proofs.Later.{Later, later-refl}
 use Rattle.rules.specs.Table.{parent, rank}
-use Rattle.rules.proofs.Stages.{isRaising, pendingOf, Raising, Knows}
+use Rattle.rules.proofs.Stages.{isRaising, pendingOf, Inside, Raising, Knows}
 
 pub record Kept (n : ℕ) (t t′ : List Node) (B B′ : ℕ → ℕ) : Type 0 where
   pub sound : Sound n (parent t′) (rank t′) B′
   pub later : Later n (parent t) (rank t) B (parent t′) (rank t′) B′
 
-pub record Going (n now : ℕ) (t t′ : List Node) (B : ℕ → ℕ) (Apart : ℕ → Type 0) (q : Request) (st : Stage) (a : Advanced) : Type 0 where
+pub record Unlinked (n : ℕ) (t t′ : List Node) (B : ℕ → ℕ) : Type 0 where
   pub kept : Kept n t t′ B B
   pub roots : rootCount (parent t′) n ≡ rootCount (parent t) n
+
+pub record Going (n now : ℕ) (t t′ : List Node) (B : ℕ → ℕ) (Apart : ℕ → Type 0) (q : Request) (st : Stage) (a : Advanced) : Type 0 where
+  pub table : Unlinked n t t′ B
   pub unraised : isRaising st ≡ false
   pub unlinked : a .event .linked ≡ false
   pub unfinished : a .event .answer ≡ Unfinished
@@ -44,8 +56,8 @@ pub record Going (n now : ℕ) (t t′ : List Node) (B : ℕ → ℕ) (Apart : �
   pub found : pendingOf (a .head .stage) ≢ 0 → a .event .found ≡ true
   pub knows : Knows n (parent t′) (rank t′) B Apart (suc now) q (a .head) (a .head .stage)
 
-pub record Closing (now : ℕ) (t t′ : List Node) (B : ℕ → ℕ) (q : Request) (st : Stage) (a : Advanced) : Type 0 where
-  pub same : t′ ≡ t
+pub record Closing (n now : ℕ) (t t′ : List Node) (B : ℕ → ℕ) (q : Request) (st : Stage) (a : Advanced) : Type 0 where
+  pub table : Unlinked n t t′ B
   pub unraised : isRaising st ≡ false
   pub unlinked : a .event .linked ≡ false
   pub found : a .event .found ≡ true
@@ -70,8 +82,7 @@ pub record Joining (n now : ℕ) (t t′ : List Node) (B B′ : ℕ → ℕ) (q 
   pub after : Linked n t′ B′ q a
 
 pub record Ending (n : ℕ) (t t′ : List Node) (B : ℕ → ℕ) (q : Request) (st : Stage) (a : Advanced) : Type 0 where
-  pub kept : Kept n t t′ B B
-  pub roots : rootCount (parent t′) n ≡ rootCount (parent t) n
+  pub table : Unlinked n t t′ B
   pub raised : isRaising st ≡ true
   pub kind : q .kind ≡ Union
   pub unlinked : a .event .linked ≡ false
@@ -79,8 +90,8 @@ pub record Ending (n : ℕ) (t t′ : List Node) (B : ℕ → ℕ) (q : Request)
   pub unplaced : a .event .point ≡ 0
   pub rests : a .head .stage ≡ Resting
 
-pub record Denying (now : ℕ) (t t′ : List Node) (Apart : ℕ → Type 0) (q : Request) (st : Stage) (a : Advanced) : Type 0 where
-  pub same : t′ ≡ t
+pub record Denying (n now : ℕ) (t t′ : List Node) (B : ℕ → ℕ) (Apart : ℕ → Type 0) (q : Request) (st : Stage) (a : Advanced) : Type 0 where
+  pub table : Unlinked n t t′ B
   pub unraised : isRaising st ≡ false
   pub kind : q .kind ≡ SameSet
   pub unlinked : a .event .linked ≡ false
@@ -94,7 +105,37 @@ pub record Denying (now : ℕ) (t t′ : List Node) (Apart : ℕ → Type 0) (q 
 
 pub data Outcome (n now : ℕ) (t t′ : List Node) (B B′ : ℕ → ℕ) (Apart : ℕ → Type 0) (q : Request) (st : Stage) (a : Advanced) : Type 0 where
   going : Going n now t t′ B Apart q st a → Outcome n now t t′ B B′ Apart q st a
-  closing : Closing now t t′ B q st a → Outcome n now t t′ B B′ Apart q st a
+  closing : Closing n now t t′ B q st a → Outcome n now t t′ B B′ Apart q st a
   joining : Joining n now t t′ B B′ q st a → Outcome n now t t′ B B′ Apart q st a
   ending : Ending n t t′ B q st a → Outcome n now t t′ B B′ Apart q st a
-  denying : Denying now t t′ Apart q st a → Outcome n now t t′ B B′ Apart q st a
+  denying : Denying n now t t′ B Apart q st a → Outcome n now t t′ B B′ Apart q st a
+
+pub record Present (n now : ℕ) (t : List Node) (B B′ : ℕ → ℕ) (Apart : ℕ → Type 0) (q : Request) : Type 0 where
+  pub nodes : length t ≡ n
+  pub inside : Inside n q
+  pub sound : Sound n (parent t) (rank t) B
+  pub merged : Merged B B′ (q .x) (q .y)
+  -- where the request's two nodes are in two sets, they are apart at this grant's point
+  pub apart : B (q .x) ≢ B (q .y) → Apart (suc now)
+
+pub unchanged : {n now : ℕ} {t : List Node} {B B′ : ℕ → ℕ} {Apart : ℕ → Type 0} {q : Request} → Present n now t B B′ Apart q → Unlinked n t t B
+unchanged {n} {t = t} {B = B} present = record { kept = record { sound = present .sound; later = later-refl n (parent t) (rank t) B }; roots = refl }
+
+pub goes-on : {n now : ℕ} {t t′ : List Node} {B B′ : ℕ → ℕ} {Apart : ℕ → Type 0} {q : Request} (st : Stage) (head : Head) (failed found : Bool)
+    → isRaising st ≡ false → isResting head ≡ false → isRaising (head .stage) ≡ false → pendingOf (head .stage) ≡ 0
+    → Unlinked n t t′ B → Knows n (parent t′) (rank t′) B Apart (suc now) q head (head .stage)
+    → Outcome n now t t′ B B′ Apart q st
+    (record { head = head; event = record { failed = failed; found = found; linked = false; answer = Unfinished; point = 0 } })
+goes-on st head failed found unraised busy still none table knows =
+    going (record {
+      table = table;
+      unraised = unraised;
+      unlinked = refl;
+      unfinished = refl;
+      unplaced = refl;
+      busy = busy;
+      still = still;
+      proposed = λ d. absurd (d none);
+      found = λ d. absurd (d none);
+      knows = knows;
+    })

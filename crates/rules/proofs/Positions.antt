@@ -1,7 +1,7 @@
 -- What a head's position says of its requests, and so of the heads with work left.
 --
--- Main laws: phase-begun, phase-passed and phase-left, a request by its head's position; work-left, the heads with work
--- left are those with an unfinished request.
+-- Main laws: phase-of, a request's phase by the head that it is for; phase-begun, phase-passed and phase-left, a request
+-- by its head's position; work-left, the heads with work left are those with an unfinished request.
 use mathlib.Core.Path.{_≡_, refl, sym, ap, _∙_, subst}
 use mathlib.Core.Logic.{_≢_}
 use mathlib.Core.Bool.{Bool, true, false, true≢false}
@@ -17,7 +17,7 @@ use Rattle.forest.specs.Forest.{count}
 use Rattle.forest.proofs.Count.{count-same}
 use Rattle.linearization.specs.Partition.{Labels}
 use Rattle.linearization.specs.Entry.{occurrences}
-use Rattle.linearization.proofs.Tests.{split}
+use Rattle.linearization.proofs.Tests.{split, count-swap}
 use Rattle.rules.specs.State.{State, requestAt, resting, hasWork, working}
 use Rattle.rules.specs.Step.{headAt, plus}
 use Rattle.rules.specs.Run.{Happening}
@@ -60,17 +60,11 @@ some-false : (test : ℕ → Bool) (n : ℕ) → ((i : ℕ) → i < n → test i
 some-false test zero fails = refl
 some-false test (suc n) fails = rw (fails n (omega arith)) (some-false test n (λ i l. fails i (omega arith)))
 
-plus-plus : (a b : Bool) (n : ℕ) → plus a (plus b n) ≡ plus b (plus a n)
-plus-plus true true n = refl
-plus-plus true false n = refl
-plus-plus false true n = refl
-plus-plus false false n = refl
-
 -- counting may begin with the first number instead of the last
 count-first : (test : ℕ → Bool) (n : ℕ) → count test (suc n) ≡ plus (test 0) (count (λ i. test (suc i)) n)
 count-first test zero = refl
 count-first test (suc n) =
-    ap (plus (test (suc n))) (count-first test n) ∙ plus-plus (test (suc n)) (test 0) (count (λ i. test (suc i)) n)
+    ap (plus (test (suc n))) (count-first test n) ∙ count-swap (test (suc n)) (test 0) (count (λ i. test (suc i)) n)
 
 working-count : (qs : List Request) (heads : List Head) → working qs heads ≡ count (λ h. hasWork qs (getD heads h (resting 0))) (length heads)
 working-count qs [] = refl

@@ -3,15 +3,14 @@
 --   seek-from, seek-bound   the request found is not before the place searched from, nor beyond the number of requests
 --   seek-own                it is the head's own
 --   seek-least              no request of that head is passed over
-use mathlib.Core.Path.{_≡_, refl, sym, ap, _∙_}
-use mathlib.Core.Bool.{Bool, true, false, cond}
+use mathlib.Core.Path.{_≡_, sym, ap, _∙_}
 use mathlib.Core.List.{List, [], _∷_}
 use Prim.Native.Nat.{ℕ, zero, suc, _+_, _-_, _≤_, _<_}
 use native.Mathlib.Omega.{arith}
 use lib.Dec.{eqb}
 use lib.ListN.{length, getD, drop, length-drop}
 use lib.Seq.{getD-drop}
-use borrow.Author.Tests.{eqb-true, eqb-false, eq-eqb}
+use borrow.Author.Tests.{eqb-true, eq-eqb}
 use Rattle.job.specs.declared.Request.{Request}
 use Rattle.linearization.proofs.Tests.{split}
 use Rattle.rules.specs.State.{noRequest, requestAt, seekIn, seek}
@@ -41,10 +40,6 @@ module _ (h : ℕ) where
   seekIn-least q (suc i) (r ∷ rs) inside own =
       split (eqb (r .head) h) (λ t. rw t (omega arith)) (λ t. rw t (omega (arith, seekIn-least (suc q) i rs (omega arith) own)))
 
--- An element of what is left after dropping.
-drop-at : (q i : ℕ) (rs : List Request) → getD (drop q rs) i noRequest ≡ getD rs (q + i) noRequest
-drop-at q i rs = getD-drop q rs i noRequest
-
 module _ (qs : List Request) (h q : ℕ) where
   pub seek-from : q ≤ seek qs h q
   unfolding seek
@@ -61,7 +56,7 @@ module _ (qs : List Request) (h q : ℕ) where
       let found : seekIn h q (drop q qs) ≡ q + i = omega (arith, seekIn-from h q (drop q qs)) in
       let there : getD (drop q qs) i noRequest .head ≡ h =
       seekIn-own h q i (drop q qs) found (omega (arith, length-drop q qs, seekIn-from h q (drop q qs))) in
-      ap (λ k. requestAt qs k .head) found ∙ ap (λ r. r .head) (sym (drop-at q i qs)) ∙ there
+      ap (λ k. requestAt qs k .head) found ∙ ap (λ r. r .head) (sym (getD-drop q qs i noRequest)) ∙ there
 
   pub seek-least : (k : ℕ) → q ≤ k → k < length qs → requestAt qs k .head ≡ h → seek qs h q ≤ k
   unfolding seek
@@ -69,5 +64,5 @@ module _ (qs : List Request) (h q : ℕ) where
       let i = k - q in
       let found : k ≡ q + i = omega arith in
       let there : getD (drop q qs) i noRequest .head ≡ h =
-      ap (λ r. r .head) (drop-at q i qs) ∙ ap (λ j. requestAt qs j .head) (sym found) ∙ own in
+      ap (λ r. r .head) (getD-drop q qs i noRequest) ∙ ap (λ j. requestAt qs j .head) (sym found) ∙ own in
       omega (arith, seekIn-least h q i (drop q qs) (omega (arith, length-drop q qs)) there)

@@ -1,24 +1,27 @@
 -- One grant that serves a head: from what it does to its own request to the invariant of the whole state.
 --
---   Serving    the head that a grant serves, begun or not, and what is known of its request
---   After      the request after the grant: it continues, or it is finished
---   Effect     what the grant does to table, entries and its own request
+--   Serving             the head that a grant serves, begun or not, and what is known of its request
+--   serving-of S head   the grant, as the history has it
+--   more S head past    the history with it
+--   next-head qs h a    the head before its next request
+--   After               the request after the grant: it continues, or it is finished
+--   Effect              what the grant does to table, entries and its own request
+--   Known p a           what the head a knows of request p after the grant
+--   Seated              what holds of the served head after the grant
 --
 -- Main law: effect-invariant.
-use mathlib.Core.Path.{_≡_, refl, sym, ap, ap₂, _∙_, subst}
+use mathlib.Core.Path.{_≡_, sym, ap, ap₂, _∙_, subst}
 use mathlib.Core.Logic.{_≢_}
-use mathlib.Core.Bool.{Bool, true, false, cond, true≢false}
+use mathlib.Core.Bool.{true, false, cond, true≢false}
 use mathlib.Core.List.{List, _∷_}
 use Prim.Native.Nat.{ℕ, suc, _+_, _≤_, _<_}
 use native.Mathlib.Omega.{arith}
-use native.Mathlib.Decide.{ℕ-discrete, decLt}
+use native.Mathlib.Decide.{ℕ-discrete}
 use lib.Dec.{eqb}
-use lib.ListN.{length, getD, set, length-set}
+use lib.ListN.{length, getD, length-set}
 use lib.Seq.{getD-set-same, getD-set-other}
-use Rattle.job.specs.declared.Answer.{Answer}
 use Rattle.job.specs.declared.Answer.the-variants.{Unfinished}
 use Rattle.job.specs.declared.Request.{Request}
-use Rattle.process.specs.declared.Stage.{Stage}
 use Rattle.process.specs.declared.Stage.the-variants.{Resting}
 use Rattle.process.specs.declared.Head.{Head}
 use Rattle.process.specs.declared.Advanced.{Advanced}
@@ -26,26 +29,26 @@ use Rattle.process.specs.Process.{isResting, restingAt}
 use Rattle.process.specs.Access.{accessOf}
 use Rattle.process.specs.Advance.{advanceOf}
 use Rattle.forest.specs.Forest.{rootCount}
-use Rattle.forest.proofs.Sound.{Sound}
-use Rattle.forest.proofs.Later.{Later}
 use Rattle.linearization.specs.Partition.{Labels}
-use Rattle.linearization.specs.Entry.{Entry, occurrences}
+use Rattle.linearization.specs.Entry.{occurrences}
 use Rattle.linearization.proofs.Replay.{labelsTo, Replayed}
-use Rattle.rules.specs.Table.{parent, rank, seen, touched}
+use Rattle.rules.specs.Table.{parent, rank, seen}
 use Rattle.rules.specs.Report.{noRow, isFinal, charge}
 use Rattle.rules.specs.State.{State, requestAt, seek, resting}
-use Rattle.rules.specs.Step.{headAt, advanced, settled, entered, served}
+use Rattle.rules.specs.Step.{headAt, advanced, settled, served}
 use Rattle.rules.specs.Run.{Happening}
 use Rattle.rules.specs.Run.Happening.{serving}
 use Rattle.rules.specs.History.{rowOf, linkOf}
 use Rattle.rules.specs.Linearized.{operationAt}
-use Rattle.rules.proofs.History.{Other, other-served, row-other, row-served}
+use Rattle.rules.proofs.History.{other-served, row-other, row-served}
 use Rattle.rules.proofs.Table.{length-touched}
 use Rattle.rules.proofs.Requests.{seek-from, seek-own, seek-least}
-use Rattle.rules.proofs.Stages.{isRaising, pendingOf, Inside, Knows, pending-until, knows-later}
+use Rattle.rules.proofs.Stages.{isRaising, Inside, Knows, pending-until, knows-later}
+use Rattle.rules.proofs.Outcomes.{Kept}
 use Rattle.rules.proofs.Steps.{advance-keeps}
+use Rattle.rules.proofs.Positions.{phase-of}
 use Rattle.rules.proofs.Others.{timed-other, over-other, waiting-other, phase-other}
-use Rattle.rules.proofs.Invariant.{labels, ApartAt, claim, Timed, Over, Current, Waiting, Busy, Phase, Placed, Invariant}
+use Rattle.rules.proofs.Invariant.{labels, ApartAt, claim, Timed, Over, Current, Busy, Phase, Placed, Invariant}
 use Rattle.rules.proofs.Invariant.Phase.{over, current, waiting}
 
 pub record Serving (qs : List Request) (n : ℕ) (B : Labels) (S : State) (past : List Happening) (h : ℕ) (head : Head) : Type 0 where
@@ -79,8 +82,7 @@ pub data After (qs : List Request) (n : ℕ) (B : Labels) (S′ : State) (past�
   finishes : isFinal (a .event .answer) ≡ true → a .head .stage ≡ Resting → Over q past′ (occurrences q (S′ .entries)) → After qs n B S′ past′ q a
 
 pub record Effect (qs : List Request) (n : ℕ) (B : Labels) (roots₀ : ℕ) (S S′ : State) (past′ : List Happening) (q : ℕ) (a : Advanced) : Type 0 where
-  pub sound : Sound n (parent (S′ .table)) (rank (S′ .table)) (labels qs B S′)
-  pub later : Later n (parent (S .table)) (rank (S .table)) (labels qs B S) (parent (S′ .table)) (rank (S′ .table)) (labels qs B S′)
+  pub kept : Kept n (S .table) (S′ .table) (labels qs B S) (labels qs B S′)
   pub roots : rootCount (parent (S′ .table)) n + S′ .links ≡ roots₀
   -- the sets up to an earlier point stay
   pub settled : (point : ℕ) → point ≤ S .now → labelsTo (operationAt qs) point B (S′ .entries) ≡ labelsTo (operationAt qs) point B (S .entries)
@@ -120,9 +122,6 @@ module _ {qs : List Request} {n : ℕ} {B : Labels} {roots₀ : ℕ} {S : State}
     timed : isResting head′ ≡ false → Timed (head′ .request) (more S head past) (head′ .stage)
     phase : (p : ℕ) → p < length qs → requestAt qs p .head ≡ h → Phase head′ p (more S head past) (occurrences p (S′ .entries))
 
-  apart-requests : (p : ℕ) → p ≢ q → Other p (serving-of S head)
-  apart-requests p d = other-served p q (advanced S head .event) (λ e. d (sym e))
-
   -- it continues with its request
   module _ (unfinished : advanced S head .event .answer ≡ Unfinished) where
     stays : head′ ≡ advanced S head .head
@@ -136,11 +135,11 @@ module _ {qs : List Request} {n : ℕ} {B : Labels} {roots₀ : ℕ} {S : State}
         → Phase head′ p (more S head past) (occurrences p (S′ .entries))
     phase-stays busy now p (yes e) old = current (e ∙ sym position-stays) busy (rw e now)
     phase-stays busy now p (no d) (over l o) =
-        over (omega (arith, serving .position, position-stays)) (over-other p past (serving-of S head) (apart-requests p d) (effect .others p d) o)
+        over (omega (arith, serving .position, position-stays)) (over-other p past (serving-of S head) (other-served p q (advanced S head .event) d) (effect .others p d) o)
     phase-stays busy now p (no d) (current e b c) = absurd (d (e ∙ serving .position))
     phase-stays busy now p (no d) (waiting l r w) =
         waiting (omega (arith, serving .position, position-stays)) (λ e. absurd (d (e ∙ position-stays)))
-        (waiting-other p past (serving-of S head) (apart-requests p d) (effect .others p d) w)
+        (waiting-other p past (serving-of S head) (other-served p q (advanced S head .event) d) (effect .others p d) w)
 
   -- it has finished it
   module _ (final : isFinal (advanced S head .event .answer) ≡ true) (rests : advanced S head .head .stage ≡ Resting) where
@@ -159,11 +158,11 @@ module _ {qs : List Request} {n : ℕ} {B : Labels} {roots₀ : ℕ} {S : State}
     phase-moves done p l own (yes e) old = over (omega (arith, position-moves, seek-from qs h (suc q))) (rw e done)
     phase-moves done p l own (no d) (over before o) =
         over (omega (arith, serving .position, position-moves, seek-from qs h (suc q)))
-        (over-other p past (serving-of S head) (apart-requests p d) (effect .others p d) o)
+        (over-other p past (serving-of S head) (other-served p q (advanced S head .event) d) (effect .others p d) o)
     phase-moves done p l own (no d) (current e b c) = absurd (d (e ∙ serving .position))
     phase-moves done p l own (no d) (waiting from r w) =
         waiting (omega (arith, position-moves, seek-least qs h (suc q) p (omega (arith, serving .position)) l own)) (λ e. resting-now)
-        (waiting-other p past (serving-of S head) (apart-requests p d) (effect .others p d) w)
+        (waiting-other p past (serving-of S head) (other-served p q (advanced S head .event) d) (effect .others p d) w)
 
   seated : After qs n B S′ (more S head past) q (advanced S head) → Seated
   seated (continues unfinished busy knows timed now) =
@@ -174,7 +173,7 @@ module _ {qs : List Request} {n : ℕ} {B : Labels} {roots₀ : ℕ} {S : State}
         timed = λ b. subst (λ a. Timed (a .request) (more S head past) (a .stage)) (sym (stays unfinished))
             (subst (λ p. Timed p (more S head past) (advanced S head .head .stage)) (sym keeps) timed);
         phase = λ p l own. phase-stays unfinished (ap isResting (stays unfinished) ∙ busy) now p (ℕ-discrete p q)
-            (subst (λ k. Phase (headAt S k) p past (occurrences p (S .entries))) own (inv .phases p l));
+            (phase-of inv h p l own);
       }
   seated (finishes final rests done) =
       record {
@@ -183,7 +182,7 @@ module _ {qs : List Request} {n : ℕ} {B : Labels} {roots₀ : ℕ} {S : State}
         knows = λ b. absurd (true≢false (sym (resting-now final rests) ∙ b));
         timed = λ b. absurd (true≢false (sym (resting-now final rests) ∙ b));
         phase = λ p l own. phase-moves final rests done p l own (ℕ-discrete p q)
-            (subst (λ k. Phase (headAt S k) p past (occurrences p (S .entries))) own (inv .phases p l));
+            (phase-of inv h p l own);
       }
 
   -- ---- the other heads
@@ -198,7 +197,7 @@ module _ {qs : List Request} {n : ℕ} {B : Labels} {roots₀ : ℕ} {S : State}
 
     knows-other : isResting (headAt S k) ≡ false → Known (headAt S k .request) (headAt S k)
     knows-other b =
-        knows-later (effect .later) (inside (headAt S k .request) (inv .busy k b .within))
+        knows-later (effect .kept .later) (inside (headAt S k .request) (inv .busy k b .within))
         {Apart = ApartAt qs B (S .entries) (headAt S k .request)} {Apart′ = ApartAt qs B (S′ .entries) (headAt S k .request)}
         {now = S .now} {now′ = suc (S .now)} (omega arith)
         (λ point l apart. subst (λ C. C (requestAt qs (headAt S k .request) .x) ≢ C (requestAt qs (headAt S k .request) .y)) (sym (effect .settled point l)) apart)
@@ -208,7 +207,7 @@ module _ {qs : List Request} {n : ℕ} {B : Labels} {roots₀ : ℕ} {S : State}
     timed-kept b =
         let until = pending-until n (parent (S .table)) (rank (S .table)) (labels qs B S) (ApartAt qs B (S .entries) (headAt S k .request)) (S .now)
         (requestAt qs (headAt S k .request)) (headAt S k) (headAt S k .stage) (inv .knows k b) in
-        timed-other (serving-of S head) (apart-requests (headAt S k .request) (request-other b)) (omega (arith, until, inv .clock)) (inv .timed k b)
+        timed-other (serving-of S head) (other-served (headAt S k .request) q (advanced S head .event) (request-other b)) (omega (arith, until, inv .clock)) (inv .timed k b)
 
   head-served : headAt S′ h ≡ head′
   head-served = getD-set-same (S .heads) h head′ (resting 0) present
@@ -223,7 +222,40 @@ module _ {qs : List Request} {n : ℕ} {B : Labels} {roots₀ : ℕ} {S : State}
       ∙ row-served q (advanced S head .event) past ∙ ap (λ k. rowOf k (more S head past)) (sym e)
   rows-served p l (no d) =
       getD-set-other (S .report) q p (charge (getD (S .report) q noRow) (suc (S .now)) (advanced S head .event .answer)) noRow d
-      ∙ inv .rows p l ∙ sym (row-other p (serving-of S head) past (apart-requests p d))
+      ∙ inv .rows p l ∙ sym (row-other p (serving-of S head) past (other-served p q (advanced S head .event) d))
+
+  -- ---- every head
+
+  seated-now : Seated
+  seated-now = seated (effect .after)
+
+  own-each : (k : ℕ) → k < length (S .heads) → Dec (k ≡ h) → headAt S′ k .request < length qs → requestAt qs (headAt S′ k .request) .head ≡ k
+  own-each k l (yes e) = rw (e, head-served) (seated-now .own)
+  own-each k l (no d) = rw (head-other k d) (inv .own k l)
+
+  busy-each : (k : ℕ) → Dec (k ≡ h) → isResting (headAt S′ k) ≡ false → Busy qs k (headAt S′ k .request)
+  busy-each k (yes e) = rw (e, head-served) (seated-now .busy)
+  busy-each k (no d) = rw (head-other k d) (inv .busy k)
+
+  knows-each : (k : ℕ) → Dec (k ≡ h) → isResting (headAt S′ k) ≡ false → Known (headAt S′ k .request) (headAt S′ k)
+  knows-each k (yes e) =
+      subst (λ a. isResting a ≡ false → Known (a .request) a) (sym head-served ∙ ap (headAt S′) (sym e)) (seated-now .knows)
+  knows-each k (no d) = subst (λ a. isResting a ≡ false → Known (a .request) a) (sym (head-other k d)) (knows-other k d)
+
+  timed-each : (k : ℕ) → Dec (k ≡ h) → isResting (headAt S′ k) ≡ false → Timed (headAt S′ k .request) (more S head past) (headAt S′ k .stage)
+  timed-each k (yes e) =
+      subst (λ a. isResting a ≡ false → Timed (a .request) (more S head past) (a .stage)) (sym head-served ∙ ap (headAt S′) (sym e)) (seated-now .timed)
+  timed-each k (no d) =
+      subst (λ a. isResting a ≡ false → Timed (a .request) (more S head past) (a .stage)) (sym (head-other k d)) (timed-kept k d)
+
+  phase-each : (p : ℕ) → p < length qs → Dec (requestAt qs p .head ≡ h)
+      → Phase (headAt S′ (requestAt qs p .head)) p (more S head past) (occurrences p (S′ .entries))
+  phase-each p l (yes e) =
+      subst (λ a. Phase a p (more S head past) (occurrences p (S′ .entries))) (sym head-served ∙ ap (headAt S′) (sym e)) (seated-now .phase p l e)
+  phase-each p l (no d) =
+      let apart : p ≢ q = λ e. d (ap (λ k. requestAt qs k .head) e ∙ serving .own) in
+      subst (λ a. Phase a p (more S head past) (occurrences p (S′ .entries))) (sym (head-other (requestAt qs p .head) d))
+      (phase-other p past (serving-of S head) (other-served p q (advanced S head .event) apart) (effect .others p apart) (inv .phases p l))
 
   -- ---- the whole state
 
@@ -234,38 +266,12 @@ module _ {qs : List Request} {n : ℕ} {B : Labels} {roots₀ : ℕ} {S : State}
         clock = ap suc (inv .clock);
         reports = length-set (S .report) q (charge (getD (S .report) q noRow) (suc (S .now)) (advanced S head .event .answer)) ∙ inv .reports;
         rows = λ p l. rows-served p l (ℕ-discrete p q);
-        sound = effect .sound;
+        sound = effect .kept .sound;
         roots = effect .roots;
-        own = λ k l. own k (omega (arith, length-set (S .heads) h head′)) (ℕ-discrete k h);
-        busy = λ k. busy k (ℕ-discrete k h);
-        knows = λ k. knows k (ℕ-discrete k h);
-        timed = λ k. timed k (ℕ-discrete k h);
+        own = λ k l. own-each k (omega (arith, length-set (S .heads) h head′)) (ℕ-discrete k h);
+        busy = λ k. busy-each k (ℕ-discrete k h);
+        knows = λ k. knows-each k (ℕ-discrete k h);
+        timed = λ k. timed-each k (ℕ-discrete k h);
         entries = effect .entries;
-        phases = λ p l. phase p l (ℕ-discrete (requestAt qs p .head) h);
+        phases = λ p l. phase-each p l (ℕ-discrete (requestAt qs p .head) h);
       }
-    where
-      now : Seated
-      now = seated (effect .after)
-
-      own : (k : ℕ) → k < length (S .heads) → Dec (k ≡ h) → headAt S′ k .request < length qs → requestAt qs (headAt S′ k .request) .head ≡ k
-      own k l (yes e) = rw (e, head-served) (now .own)
-      own k l (no d) = rw (head-other k d) (inv .own k l)
-
-      busy : (k : ℕ) → Dec (k ≡ h) → isResting (headAt S′ k) ≡ false → Busy qs k (headAt S′ k .request)
-      busy k (yes e) = rw (e, head-served) (now .busy)
-      busy k (no d) = rw (head-other k d) (inv .busy k)
-
-      knows : (k : ℕ) → Dec (k ≡ h) → isResting (headAt S′ k) ≡ false → Known (headAt S′ k .request) (headAt S′ k)
-      knows k (yes e) = subst (λ a. isResting a ≡ false → Known (a .request) a) (sym head-served ∙ ap (headAt S′) (sym e)) (now .knows)
-      knows k (no d) = subst (λ a. isResting a ≡ false → Known (a .request) a) (sym (head-other k d)) (knows-other k d)
-
-      timed : (k : ℕ) → Dec (k ≡ h) → isResting (headAt S′ k) ≡ false → Timed (headAt S′ k .request) (more S head past) (headAt S′ k .stage)
-      timed k (yes e) = subst (λ a. isResting a ≡ false → Timed (a .request) (more S head past) (a .stage)) (sym head-served ∙ ap (headAt S′) (sym e)) (now .timed)
-      timed k (no d) = subst (λ a. isResting a ≡ false → Timed (a .request) (more S head past) (a .stage)) (sym (head-other k d)) (timed-kept k d)
-
-      phase : (p : ℕ) → p < length qs → Dec (requestAt qs p .head ≡ h) → Phase (headAt S′ (requestAt qs p .head)) p (more S head past) (occurrences p (S′ .entries))
-      phase p l (yes e) = subst (λ a. Phase a p (more S head past) (occurrences p (S′ .entries))) (sym head-served ∙ ap (headAt S′) (sym e)) (now .phase p l e)
-      phase p l (no d) =
-          let apart : p ≢ q = λ e. d (ap (λ k. requestAt qs k .head) e ∙ serving .own) in
-          subst (λ a. Phase a p (more S head past) (occurrences p (S′ .entries))) (sym (head-other (requestAt qs p .head) d))
-          (phase-other p past (serving-of S head) (apart-requests p apart) (effect .others p apart) (inv .phases p l))

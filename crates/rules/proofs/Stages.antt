@@ -2,31 +2,38 @@
 -- Everywhere p gives each node's parent, r its rank, B its label; a point is Apart when the request's two nodes are in
 -- two sets there; now is the number of grants so far.
 --
+--   Inside n q          the request's two nodes are nodes
 --   Finding k x y       the head's x and y stand for the request's two nodes, and the request is of kind k
 --   Above v u           u is above v: in the same set, and v, no root, comes before it
---   Knows h stage       what the head h knows at that stage
+--   ReadingParent, Halving, ReadingAgain   what is known at each stage of a find,
+--   Rereading                              at a same-set's last read,
+--   ReadingRanks, Linking, Raising         and at a union's stages after its finds
+--   Knows h stage       which of these the head h knows at that stage
 --   isRaising stage     the head's link has been written
 --   pendingOf stage     the point that a same-set may get, or 0
 --
--- Main laws: finding-begin, at the loop's start; knows-later, what is known survives any later state.
-use mathlib.Core.Path.{_≡_, refl, sym, ap, _∙_}
+-- Main laws: finding-begin, at the loop's start; own-parent and above-parent, which nodes are above; knows-later, what is
+-- known survives any later state.
+use mathlib.Core.Path.{_≡_, refl, _∙_}
 use mathlib.Core.Logic.{_≢_}
 use mathlib.Core.Bool.{Bool, true, false}
-use Prim.Native.Nat.{ℕ, suc, _+_, _*_, _^_, _≤_, _<_}
+use Prim.Native.Nat.{ℕ, suc, _^_, _≤_, _<_}
 use native.Mathlib.Omega.{arith}
+use native.Mathlib.Decide.{ℕ-discrete}
 use Rattle.job.specs.declared.Kind.{Kind}
 use Rattle.job.specs.declared.Kind.the-variants.{Union, SameSet}
 use Rattle.job.specs.declared.Request.{Request}
-use Rattle.word.specs.Word.{key, nodeLimit}
+use Rattle.word.specs.Word.{key}
 use Rattle.process.specs.declared.Side.{Side}
 use Rattle.process.specs.declared.Side.the-variants.{X, Y}
 use Rattle.process.specs.declared.Stage.{Stage}
 use Rattle.process.specs.declared.Stage.the-variants.{Resting, ReadNode, ReadParent, Halve, ReadAgain, RereadX, ReadRankX, ReadRankY, Link, Raise}
 use Rattle.process.specs.declared.Head.{Head}
 use Rattle.process.specs.Process.{nodeAt}
+use Rattle.forest.proofs.Forest.{WellFormed, Labelled}
 use Rattle.forest.proofs.Size.{size}
 use Rattle.forest.proofs.Merge.{Ends}
-use Rattle.forest.proofs.Merge.Ends.{straight, crossed}
+use Rattle.forest.proofs.Merge.Ends.{straight}
 use Rattle.forest.proofs.Later.{Later, later-before, later-ends}
 
 abbrev pub isRaising : Stage → Bool
@@ -153,6 +160,22 @@ module _ (n : ℕ) (p r B : ℕ → ℕ) (Apart : ℕ → Type 0) (now : ℕ) (q
   pending-until (ReadRankY rank) a = omega arith
   pending-until (Link rank e) a = omega arith
   pending-until (Raise rank) a = omega arith
+
+-- ---- nodes above a node
+
+module _ {n : ℕ} {p r B : ℕ → ℕ} (formed : WellFormed n p r) (labelled : Labelled n p B) where
+  pub own-parent : (v : ℕ) → v < n → p v ≢ v → Above n p r B v (p v)
+  own-parent v node d = record { node = formed .inside v node; lower = d; same = labelled .along v node; before = formed .rising v node d }
+
+  -- the parent of a node above v is above v, too
+  pub above-parent : {v u : ℕ} → Above n p r B v u → Above n p r B v (p u)
+  above-parent {v} {u} a = go (ℕ-discrete (p u) u)
+    where
+      go : Dec (p u ≡ u) → Above n p r B v (p u)
+      go (yes e) = rw e a
+      go (no d) =
+          let on = own-parent u (a .node) d in
+          record { node = on .node; lower = a .lower; same = on .same ∙ a .same; before = omega (arith, a .before, on .before) }
 
 -- ---- what survives a later state
 

@@ -1,13 +1,13 @@
--- The table as functions: what a write to one node changes in parents and ranks, and the table at the start.
+-- The table as functions: what a store changes in parents and ranks, what a swap that writes has seen, and the start.
 --
---   stored t i w     the table t with the node i written
-use mathlib.Core.Path.{_≡_, refl, sym, ap, _∙_}
-use mathlib.Core.Logic.{_≢_}
+-- Laws: parent-changed and rank-changed, a store changes its own node alone; length-touched, an access leaves the number of
+-- nodes; found-parent and found-rank, a swap that writes saw what it expected; fresh-start, the table at the start.
+use mathlib.Core.Path.{_≡_, refl, ap}
 use mathlib.Core.Bool.{Bool, true, false, cond}
-use mathlib.Core.List.{List, [], _∷_}
+use mathlib.Core.List.{List}
 use Prim.Native.Nat.{ℕ, zero, suc, _+_, _≤_, _<_}
 use native.Mathlib.Omega.{arith}
-use lib.ListN.{length, getD, set, length-set}
+use lib.ListN.{length, set, length-set}
 use lib.Seq.{getD-set-same, getD-set-other}
 use Rattle.word.specs.declared.Node.{Node}
 use Rattle.word.specs.Word.{same, nodeLimit}
@@ -16,7 +16,7 @@ use Rattle.forest.proofs.Sound.{Start}
 use Rattle.forest.proofs.Writes.{Changed}
 use Rattle.process.specs.declared.Access.{Access}
 use Rattle.process.specs.declared.Access.the-variants.{Idle, Load, Cas}
-use Rattle.rules.specs.Table.{noNode, at, parent, rank, freshFrom, fresh, seen, touched}
+use Rattle.rules.specs.Table.{noNode, at, parent, rank, freshFrom, fresh, touched}
 
 module _ (t : List Node) (i : ℕ) (w : Node) (inside : i < length t) where
   pub parent-changed : Changed (parent t) (parent (set t i w)) i (w .parent)

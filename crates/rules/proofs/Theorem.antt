@@ -2,17 +2,18 @@
 --
 --   Startable n t B    the table t shows the sets B: what a run may start from
 --
--- Main laws: run-invariant, the invariant holds at every moment of every run; linearized, the theorem for any start;
--- fresh-linearized, the theorem for document 01's start; run-prefix and history-prefix, a cut is a shorter schedule.
-use mathlib.Core.Path.{_≡_, refl, sym, ap, _∙_, subst}
+-- Main laws: headsFrom-at, each head at the start; run-invariant, the invariant holds at every moment of every run;
+-- linearized, the theorem for any start; fresh-linearized, the theorem for document 01's start; run-prefix and
+-- history-prefix, a cut is a shorter schedule.
+use mathlib.Core.Path.{_≡_, refl, sym, ap, _∙_}
 use mathlib.Core.Logic.{_≢_}
 use mathlib.Core.Bool.{Bool, true, false, cond, not, true≢false}
-use mathlib.Core.List.{List, [], _∷_, _++_, map, List·Memᴰ, List·Memᴰ·head, List·Memᴰ·tail}
+use mathlib.Core.List.{List, [], _∷_, _++_, List·Memᴰ, List·Memᴰ·head, List·Memᴰ·tail}
 use Prim.Native.Nat.{ℕ, zero, suc, _+_, _≤_, _<_}
 use native.Mathlib.Omega.{arith}
 use native.Mathlib.Decide.{decLt}
 use lib.Dec.{eqb}
-use lib.ListN.{length, getD, replicate, length-set, length-replicate, getD-replicate}
+use lib.ListN.{length, getD, length-set, length-replicate, getD-replicate}
 use borrow.Author.Tests.{eq-eqb, ne-eqb}
 use Rattle.job.specs.declared.Request.{Request}
 use Rattle.word.specs.declared.Node.{Node}
@@ -22,7 +23,7 @@ use Rattle.process.specs.Process.{isResting}
 use Rattle.forest.specs.Forest.{rootCount}
 use Rattle.forest.proofs.Forest.{together-iff-label}
 use Rattle.forest.proofs.Sound.{Sound, start-sound}
-use Rattle.linearization.specs.Partition.{Labels, apart, replies}
+use Rattle.linearization.specs.Partition.{Labels, apart}
 use Rattle.linearization.specs.Entry.{Entry, occurrences}
 use Rattle.linearization.proofs.Tests.{split}
 use Rattle.linearization.proofs.Replay.{Replayed, ended, replayed-fact, replayed-rising, replayed-replies, replayed-map}
@@ -32,11 +33,11 @@ use Rattle.rules.specs.State.{State, requestAt, seek, resting, headsFrom
 use Rattle.rules.specs.Step.{headAt, ready, advanced, settled, step}
 use Rattle.rules.specs.Run.{Happening, run, happened, history}
 use Rattle.rules.specs.History.{rowOf, linkOf}
-use Rattle.rules.specs.Linearized.{operationAt, operations, rowAt, promised, isListed, Playable, Linearized}
+use Rattle.rules.specs.Linearized.{operationAt, rowAt, promised, isListed, Playable, Linearized}
 use Rattle.rules.proofs.Table.{length-fresh, fresh-start}
 use Rattle.rules.proofs.Requests.{seek-own, seek-least}
 use Rattle.rules.proofs.Stages.{Inside}
-use Rattle.rules.proofs.Invariant.{claim, Over, Current, Waiting, Phase, Placed, Invariant}
+use Rattle.rules.proofs.Invariant.{Waiting, Phase, Placed, Invariant}
 use Rattle.rules.proofs.Invariant.Phase.{over, current, waiting}
 use Rattle.rules.proofs.Grant.{step-invariant}
 
@@ -50,28 +51,29 @@ pub length-heads : (qs : List Request) (h m : ℕ) → length (headsFrom qs h m)
 length-heads qs h zero = refl
 length-heads qs h (suc m) = ap suc (length-heads qs (suc h) m)
 
-heads-at : (qs : List Request) (h m k : ℕ) → k < m → getD (headsFrom qs h m) k (resting 0) ≡ resting (seek qs (h + k) 0)
-heads-at qs h zero k l = absurd (omega arith)
-heads-at qs h (suc m) zero l = let same : h ≡ h + 0 = omega arith in ap (λ i. resting (seek qs i 0)) same
-heads-at qs h (suc m) (suc k) l =
+-- each head starts at rest before its first request
+pub headsFrom-at : (qs : List Request) (h m k : ℕ) → k < m → getD (headsFrom qs h m) k (resting 0) ≡ resting (seek qs (h + k) 0)
+headsFrom-at qs h zero k l = absurd (omega arith)
+headsFrom-at qs h (suc m) zero l = let same : h ≡ h + 0 = omega arith in ap (λ i. resting (seek qs i 0)) same
+headsFrom-at qs h (suc m) (suc k) l =
     let same : suc h + k ≡ h + suc k = omega arith in
-    heads-at qs (suc h) m k (omega arith) ∙ ap (λ i. resting (seek qs i 0)) same
+    headsFrom-at qs (suc h) m k (omega arith) ∙ ap (λ i. resting (seek qs i 0)) same
 
-heads-beyond : (qs : List Request) (h m k : ℕ) → m ≤ k → getD (headsFrom qs h m) k (resting 0) ≡ resting 0
-heads-beyond qs h zero k l = refl
-heads-beyond qs h (suc m) zero l = absurd (omega arith)
-heads-beyond qs h (suc m) (suc k) l = heads-beyond qs (suc h) m k (omega arith)
+headsFrom-beyond : (qs : List Request) (h m k : ℕ) → m ≤ k → getD (headsFrom qs h m) k (resting 0) ≡ resting 0
+headsFrom-beyond qs h zero k l = refl
+headsFrom-beyond qs h (suc m) zero l = absurd (omega arith)
+headsFrom-beyond qs h (suc m) (suc k) l = headsFrom-beyond qs (suc h) m k (omega arith)
 
 module _ (qs : List Request) (m : ℕ) (t : List Node) where
   start-head : (h : ℕ) → h < m → headAt (start qs m t) h ≡ resting (seek qs h 0)
-  start-head h l = let same : 0 + h ≡ h = omega arith in heads-at qs 0 m h l ∙ ap (λ i. resting (seek qs i 0)) same
+  start-head h l = let same : 0 + h ≡ h = omega arith in headsFrom-at qs 0 m h l ∙ ap (λ i. resting (seek qs i 0)) same
 
   start-resting : (h : ℕ) → isResting (headAt (start qs m t) h) ≡ true
   start-resting h = go (decLt h m)
     where
       go : Dec (h < m) → isResting (headAt (start qs m t) h) ≡ true
       go (yes l) = ap isResting (start-head h l)
-      go (no l) = ap isResting (heads-beyond qs 0 m h (omega arith))
+      go (no l) = ap isResting (headsFrom-beyond qs 0 m h (omega arith))
 
   -- no head is beyond a request of its own
   start-position : (q : ℕ) → q < length qs → headAt (start qs m t) (requestAt qs q .head) .request ≤ q
@@ -79,7 +81,7 @@ module _ (qs : List Request) (m : ℕ) (t : List Node) where
     where
       go : Dec (requestAt qs q .head < m) → headAt (start qs m t) (requestAt qs q .head) .request ≤ q
       go (yes k) = rw (start-head (requestAt qs q .head) k) (seek-least qs (requestAt qs q .head) 0 q (omega arith) l refl)
-      go (no k) = rw (heads-beyond qs 0 m (requestAt qs q .head) (omega arith)) (omega arith)
+      go (no k) = rw (headsFrom-beyond qs 0 m (requestAt qs q .head) (omega arith)) (omega arith)
 
 start-waiting : (q : ℕ) → Waiting q [] 0
 unfolding rowOf linkOf

@@ -2,7 +2,10 @@
 --
 --   Case        a job, cut where the case cuts it, with what is expected of it
 --   Outcome     table as words, report, line-up and tally
+--   shown qs S  a state as an outcome
 --   outcome c   what the rules leave
+--   wanted c    what is expected
+--   union, sameSet, row, entry, tally   requests, report rows, entries and tallies by their numbers
 --   cases       the table
 use mathlib.Core.List.{List, [], _∷_, _++_, map}
 use Prim.Native.Nat.{ℕ}
@@ -17,12 +20,14 @@ use Rattle.rules.specs.Table.{fresh}
 use Rattle.rules.specs.State.{State, start, tallyOf}
 use Rattle.rules.specs.Run.{run}
 
+-- What a case names of what a run leaves.
 pub record Outcome : Type 0 where
   pub words : List ℕ
   pub report : List Row
   pub entries : List Entry
   pub tally : Tally
 
+-- A case is a job with the grants before its cut, and what it leaves.
 pub record Case : Type 0 where
   pub nodes : ℕ
   pub heads : ℕ
@@ -30,12 +35,15 @@ pub record Case : Type 0 where
   pub schedule : List ℕ
   pub expected : Outcome
 
+-- What a state shows.
 abbrev pub shown : List Request → State → Outcome
 shown qs S = record { words = map encode (S .table); report = S .report; entries = S .entries; tally = tallyOf qs S }
 
+-- What the rules leave of the case.
 abbrev pub outcome : Case → Outcome
 outcome c = shown (c .requests) (run (c .requests) (start (c .requests) (c .heads) (fresh (c .nodes))) (c .schedule))
 
+-- What document 01 says of it.
 abbrev pub wanted : Case → Outcome
 wanted c = c .expected
 
@@ -43,6 +51,7 @@ wanted c = c .expected
 abbrev pub union : ℕ → ℕ → ℕ → Request
 union h x y = record { head = h; kind = Union; x = x; y = y }
 
+-- The same for a same-set.
 abbrev pub sameSet : ℕ → ℕ → ℕ → Request
 sameSet h x y = record { head = h; kind = SameSet; x = x; y = y }
 
@@ -58,6 +67,7 @@ entry point request = record { point = point; request = request }
 abbrev pub tally : ℕ → ℕ → ℕ → ℕ → Tally
 tally idle failed links working = record { idle = idle; failed = failed; links = links; working = working }
 
+-- The starred cases in document 01's order; after them schedules on which a wrong link makes a cycle.
 abbrev pub cases : List Case
 cases =
     -- One place, union 0 0, two grants: already together; point 2.

@@ -3,6 +3,9 @@
 --
 --   firstWhere f past, lastWhere f past   the first and the last grant with f, 0 if there is none
 --   countWhere f past                     the number of grants with f
+--   isIdle a, hasFailed a, hasLink a      the grant was idle, a swap that failed, or a link that wrote
+--   isOf q a, endsFindOf q a, linksFor q a   it was used for q, ended a find from y of q, or linked q
+--   answerOf q past                       the number of q's answer
 --   rowOf q past                          the report row of request q
 --   linkOf q past                         the grant at which q has linked, 0 if it has not
 --   pointOf k q past                      the point of request q, of kind k
@@ -18,26 +21,32 @@ use Rattle.rules.specs.declared.Row.{Row}
 use Rattle.rules.specs.Run.{Happening}
 use Rattle.rules.specs.Run.Happening.{idle, serving}
 
+-- The first grant with f.
 abbrev pub firstWhere : (Happening → Bool) → List Happening → ℕ
 firstWhere f [] = 0
 firstWhere f (a ∷ past) = cond (eqb (firstWhere f past) 0) (cond (f a) (suc (length past)) 0) (firstWhere f past)
 
+-- The last grant with f.
 abbrev pub lastWhere : (Happening → Bool) → List Happening → ℕ
 lastWhere f [] = 0
 lastWhere f (a ∷ past) = cond (f a) (suc (length past)) (lastWhere f past)
 
+-- How many grants had f.
 abbrev pub countWhere : (Happening → Bool) → List Happening → ℕ
 countWhere f [] = 0
 countWhere f (a ∷ past) = cond (f a) (suc (countWhere f past)) (countWhere f past)
 
+-- The grant was idle.
 abbrev pub isIdle : Happening → Bool
 isIdle idle = true
 isIdle (serving q e) = false
 
+-- It was a swap that failed.
 abbrev pub hasFailed : Happening → Bool
 hasFailed idle = false
 hasFailed (serving q e) = e .failed
 
+-- It was a link swap that wrote.
 abbrev pub hasLink : Happening → Bool
 hasLink idle = false
 hasLink (serving q e) = e .linked

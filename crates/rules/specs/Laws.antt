@@ -24,10 +24,12 @@ use Rattle.rules.specs.Run.{Happening}
 use Rattle.rules.specs.History.{countWhere, isIdle, hasFailed, hasLink, isOf, rowOf}
 use Rattle.rules.specs.Linearized.{rowAt}
 
+-- Some number below n passes the test.
 abbrev pub some : (ℕ → Bool) → ℕ → Bool
 some test zero = false
 some test (suc n) = cond (test n) true (some test n)
 
+-- A request of head h whose answer is still 0.
 abbrev pub isUnfinished : List Request → List Row → ℕ → ℕ → Bool
 isUnfinished qs report h q = cond (eqb (requestAt qs q .head) h) (eqb (rowAt report q .answer) 0) false
 
@@ -35,6 +37,7 @@ isUnfinished qs report h q = cond (eqb (requestAt qs q .head) h) (eqb (rowAt rep
 abbrev pub headsLeft : List Request → List Row → ℕ → ℕ
 headsLeft qs report m = count (λ h. some (isUnfinished qs report h) (length qs)) m
 
+-- At every moment of a run.
 pub record Lawful (nodes : ℕ) (qs : List Request) (S : State) (past : List Happening) : Type 0 where
   -- "Every parent that isn't the place itself comes after it."
   pub parents : (i : ℕ) → i < nodes → parent (S .table) i ≢ i
@@ -63,6 +66,7 @@ pub record Lawful (nodes : ℕ) (qs : List Request) (S : State) (past : List Hap
   pub ordered : (p q : ℕ) → p < q → q < length qs → requestAt qs p .head ≡ requestAt qs q .head
       → rowAt (S .report) q .first ≢ 0 → rowAt (S .report) p .last < rowAt (S .report) q .first
 
+-- Between any two moments of a run: t is the table at the earlier one.
 pub record Follows (nodes : ℕ) (t t′ : List Node) : Type 0 where
   -- A place that is no root stays none,
   pub lower : (i : ℕ) → i < nodes → parent t i ≢ i → parent t′ i ≢ i

@@ -2,7 +2,7 @@
 -- report, the entries of the line-up, and the history of the run.
 --
 --   operationAt qs q   request q as the sequential specification (document 01: the plain book) sees it
---   operations qs es   the requests of the entries es, in their order
+--   rowAt report q     the report row of request q
 --   promised n         what the specification is to answer to a listed request whose report row has the answer n
 --   isListed row link  a request with this report row, which linked at the grant `link` (0: not), is in the line-up
 --   Playable           an accepted job: nodes have words, requests are about nodes, grants are for heads
@@ -20,7 +20,7 @@ use Rattle.job.specs.declared.Request.{Request}
 use Rattle.word.specs.declared.Node.{Node}
 use Rattle.word.specs.Word.{nodeLimit}
 use Rattle.linearization.specs.Partition.{Labels, Operation, replay, replies}
-use Rattle.linearization.specs.Entry.{Entry, Rising, occurrences}
+use Rattle.linearization.specs.Entry.{Entry, Rising, occurrences, operations}
 use Rattle.forest.specs.Forest as forest
 use Rattle.rules.specs.declared.Row.{Row}
 use Rattle.rules.specs.Table.{parent}
@@ -33,9 +33,7 @@ use Rattle.rules.specs.History.{linkOf, pointOf}
 abbrev pub operationAt : List Request → ℕ → Operation
 operationAt qs q = record { kind = requestAt qs q .kind; x = requestAt qs q .x; y = requestAt qs q .y }
 
-abbrev pub operations : List Request → List Entry → List Operation
-operations qs es = map (λ e. operationAt qs (e .request)) es
-
+-- The four numbers of request q.
 abbrev pub rowAt : List Row → ℕ → Row
 rowAt report q = getD report q noRow
 
@@ -67,7 +65,7 @@ pub record Linearized (B : Labels) (nodes : ℕ) (qs : List Request) (table : Li
   pub ordered : (e f : Entry) → List·Memᴰ e entries → List·Memᴰ f entries → rowAt report (e .request) .last ≢ 0
       → rowAt report (e .request) .last < rowAt report (f .request) .first → e .point < f .point
   -- "Replayed one at a time by the plain book, every request gets its reported answer (listed unfinished ones: joined)."
-  pub answers : replies B (operations qs entries) ≡ map (λ e. promised (rowAt report (e .request) .answer)) entries
+  pub answers : replies B (operations (operationAt qs) entries) ≡ map (λ e. promised (rowAt report (e .request) .answer)) entries
   -- "Two places share a group in the book exactly when they do in the table."
   pub sets : (i j : ℕ) → i < nodes → j < nodes
-      → forest.Together (parent table) i j ↔ (replay B (operations qs entries) i ≡ replay B (operations qs entries) j)
+      → forest.Together (parent table) i j ↔ (replay B (operations (operationAt qs) entries) i ≡ replay B (operations (operationAt qs) entries) j)

@@ -11,9 +11,11 @@ use Rattle.job.specs.declared.Answer.the-variants.{Unfinished, Joined, Together
 use Rattle.job.specs.Job.{answerNumber}
 use Rattle.rules.specs.declared.Row.{Row}
 
+-- All four numbers are 0 before the request's first grant.
 abbrev pub noRow : Row
 noRow = record { answer = 0; first = 0; last = 0; used = 0 }
 
+-- Every answer but unfinished ends its request.
 abbrev pub isFinal : Answer → Bool
 isFinal Unfinished = false
 isFinal Joined = true

@@ -2,6 +2,8 @@
 --
 --   run qs S gs           the state after the grants gs
 --   Happening             what one grant was: idle, or a grant used for request q with its event
+--   happenedBy S turn     what a grant was, by whom it serves
+--   happened qs S h       what a grant to head h is in the state S
 --   history qs S past gs  what the grants were, the newest first: the grant number of the newest is the list's length
 use mathlib.Core.List.{List, [], _∷_}
 use Prim.Native.Nat.{ℕ}
@@ -11,21 +13,26 @@ use Rattle.rules.specs.State.{State}
 use Rattle.rules.specs.Step.{Turn, turn, advanced, step}
 use Rattle.rules.specs.Step.Turn.{idled, serves}
 
+-- A run is the list of grants of an accepted job, in any mix.
 abbrev pub run : List Request → State → List ℕ → State
 run qs S [] = S
 run qs S (h ∷ gs) = run qs (step qs S h) gs
 
+-- What a grant was: idle, or used for request q, with what it did.
 pub data Happening : Type 0 where
   idle : Happening
   serving : ℕ → Event → Happening
 
+-- What the grant was, by whom it serves.
 abbrev pub happenedBy : State → Turn → Happening
 happenedBy S idled = idle
 happenedBy S (serves head) = serving (head .request) (advanced S head .event)
 
+-- What a grant to head h is.
 unfoldable pub happened : List Request → State → ℕ → Happening
 happened qs S h = happenedBy S (turn qs S h)
 
+-- What the grants of a run were, one by one.
 abbrev pub history : List Request → State → List Happening → List ℕ → List Happening
 history qs S past [] = past
 history qs S past (h ∷ gs) = history qs (step qs S h) (happened qs S h ∷ past) gs

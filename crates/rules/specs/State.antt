@@ -1,10 +1,15 @@
 -- Document 01, "Whole runs and the plain book": what stands between two grants, and what stands before the first.
 --
+--   noRequest            what stands past the last request
 --   requestAt qs q       request number q
 --   seek qs h q          the first request of head h from number q on, or the number of requests
+--   seekIn h q rs        the same among the requests rs, which are numbered from q on
 --   State                table, heads, report, entries, counters, grants so far
+--   resting q            a head at rest before request q
+--   headsFrom qs h m     m heads from number h on, each before its first request
 --   start qs m t         m heads before their first request, on the table t
 --   hasWork qs head      the head has an unfinished request
+--   working qs heads     how many heads have work left
 --   tallyOf qs S         the four counters
 use mathlib.Core.Bool.{Bool, cond}
 use mathlib.Core.List.{List, [], _∷_}
@@ -21,9 +26,11 @@ use Rattle.linearization.specs.Entry.{Entry}
 use Rattle.rules.specs.declared.Row.{Row}
 use Rattle.rules.specs.Report.{noRow}
 
+-- What stands past the last request.
 abbrev pub noRequest : Request
 noRequest = record { head = 0; kind = Union; x = 0; y = 0 }
 
+-- A request by its number.
 abbrev pub requestAt : List Request → ℕ → Request
 requestAt qs q = getD qs q noRequest
 
@@ -32,9 +39,11 @@ abbrev pub seekIn : ℕ → ℕ → List Request → ℕ
 seekIn h q [] = q
 seekIn h q (r ∷ rs) = cond (eqb (r .head) h) q (seekIn h (suc q) rs)
 
+-- The request that a head serves next: its first from number q on, or the count where it has none left.
 unfoldable pub seek : List Request → ℕ → ℕ → ℕ
 seek qs h q = seekIn h q (drop q qs)
 
+-- Each grant finds what the grant before it left, and nobody else writes to any of that in between.
 pub record State : Type 0 where
   pub table : List Node
   pub heads : List Head
@@ -46,9 +55,11 @@ pub record State : Type 0 where
   -- the number of grants so far; grants count from 1
   pub now : ℕ
 
+-- A head at rest before request q.
 abbrev pub resting : ℕ → Head
 resting q = record { stage = Resting; x = 0; y = 0; request = q }
 
+-- m heads from number h on, each resting before its first request.
 abbrev pub headsFrom : List Request → ℕ → ℕ → List Head
 headsFrom qs h zero = []
 headsFrom qs h (suc m) = resting (seek qs h 0) ∷ headsFrom qs (suc h) m
@@ -71,6 +82,7 @@ start qs m t =
 abbrev pub hasWork : List Request → Head → Bool
 hasWork qs head = ltb (head .request) (length qs)
 
+-- The number of heads with work left.
 abbrev pub working : List Request → List Head → ℕ
 working qs [] = 0
 working qs (head ∷ heads) = cond (hasWork qs head) (suc (working qs heads)) (working qs heads)

@@ -1,15 +1,24 @@
 -- Document 01, "One grant, one word" and "Report and line-up": what one grant does to the state.
 --
+--   Turn               whom a grant serves
+--   ready qs head      the head as it stands, or as it begins its next request
+--   turnOf qs head     whom a grant to that head serves
+--   headAt S h         head number h
 --   turn qs S h        whom a grant to head h serves: nobody, or the head as it stands or as it begins its next request
+--   advanced S head    the head after its access, and what the grant did
+--   settled qs h a     the head with its next request, if it has finished one
+--   entered es q e     the entries with the one that the grant enters, if any
+--   plus b n           one more than n, if b
 --   served qs S h head the state after a grant to head h that serves it
+--   passed S           the state after an idle grant
+--   stepBy qs S h turn the state after a grant to head h, by whom it serves
 --   step qs S h        the state after a grant to head h
-use mathlib.Core.Bool.{Bool, true, false, not, cond}
+use mathlib.Core.Bool.{Bool, cond}
 use mathlib.Core.List.{List}
-use Prim.Native.Nat.{ℕ, suc, _+_}
+use Prim.Native.Nat.{ℕ, suc}
 use lib.Dec.{eqb}
 use lib.ListN.{getD, set}
 use Rattle.job.specs.declared.Request.{Request}
-use Rattle.word.specs.declared.Node.{Node}
 use Rattle.process.specs.declared.Head.{Head}
 use Rattle.process.specs.declared.Event.{Event}
 use Rattle.process.specs.declared.Advanced.{Advanced}
@@ -17,7 +26,6 @@ use Rattle.process.specs.Process.{begin, isResting}
 use Rattle.process.specs.Access.{accessOf}
 use Rattle.process.specs.Advance.{advanceOf}
 use Rattle.linearization.specs.Entry.{Entry, insert}
-use Rattle.rules.specs.declared.Row.{Row}
 use Rattle.rules.specs.Table.{seen, touched}
 use Rattle.rules.specs.Report.{noRow, isFinal, charge}
 use Rattle.rules.specs.State.{requestAt, seek, State, resting, hasWork}
@@ -35,9 +43,11 @@ ready qs head = cond (isResting head) (begin (requestAt qs (head .request)) (hea
 abbrev pub turnOf : List Request → Head → Turn
 turnOf qs head = cond (hasWork qs head) (serves (ready qs head)) idled
 
+-- The head of that number, as it stands.
 abbrev pub headAt : State → ℕ → Head
 headAt S h = getD (S .heads) h (resting 0)
 
+-- Whom a grant to head h serves.
 abbrev pub turn : List Request → State → ℕ → Turn
 turn qs S h = turnOf qs (headAt S h)
 
@@ -56,9 +66,11 @@ settled qs h a =
 abbrev pub entered : List Entry → ℕ → Event → List Entry
 entered es q e = cond (eqb (e .point) 0) es (insert (e .point) q es)
 
+-- A counter counts what has happened.
 abbrev pub plus : Bool → ℕ → ℕ
 plus b n = cond b (suc n) n
 
+-- Comparing, choosing and finishing cost nothing: one grant is one access, its row, its entry and its counts.
 abbrev pub served : List Request → State → ℕ → Head → State
 served qs S h head =
     record {
@@ -86,9 +98,11 @@ passed S =
       now = suc (S .now);
     }
 
+-- The state after the grant, by whom it serves.
 abbrev pub stepBy : List Request → State → ℕ → Turn → State
 stepBy qs S h idled = passed S
 stepBy qs S h (serves head) = served qs S h head
 
+-- The state after a grant to head h.
 unfoldable pub step : List Request → State → ℕ → State
 step qs S h = stepBy qs S h (turn qs S h)

@@ -1,6 +1,8 @@
 -- Document 01, "Places, words, order" and "One grant, one word": the table as a list of nodes, and one access to it.
 --
 --   at t i, parent t i, rank t i   the node i of the table t, its parent and its rank
+--   noNode                         what stands past the table's end
+--   freshFrom i n                  n places from number i on, each its own parent
 --   fresh n                        the table at the start
 --   seen t a                       the word that the access a sees
 --   touched t a                    the table after the access a
@@ -13,15 +15,19 @@ use Rattle.word.specs.Word.{same}
 use Rattle.process.specs.declared.Access.{Access}
 use Rattle.process.specs.declared.Access.the-variants.{Idle, Load, Cas}
 
+-- What stands past the table's end.
 abbrev pub noNode : Node
 noNode = record { rank = 0; parent = 0 }
 
+-- The node of a place: its rank and its parent.
 abbrev pub at : List Node → ℕ → Node
 at t i = getD t i noNode
 
+-- A place is a root when it is its own parent.
 abbrev pub parent : List Node → ℕ → ℕ
 parent t i = at t i .parent
 
+-- The rank in its word.
 abbrev pub rank : List Node → ℕ → ℕ
 rank t i = at t i .rank
 
@@ -30,6 +36,7 @@ abbrev pub freshFrom : ℕ → ℕ → List Node
 freshFrom i zero = []
 freshFrom i (suc n) = record { rank = 0; parent = i } ∷ freshFrom (suc i) n
 
+-- The table of n places at the start.
 abbrev pub fresh : ℕ → List Node
 fresh n = freshFrom 0 n
 

@@ -1,10 +1,15 @@
 -- Laws of words: the two round trips, what equal nodes are, and the order as one comparison of numbers.
-use mathlib.Core.Path.{_≡_, refl, _∙_, sym, ap}
+--
+--   rank-encode, parent-encode, decode-encode   what is read of a node's word is the node
+--   encode-decode   what is encoded of a decoded word is the word
+--   same-true       nodes that the test finds the same are equal
+--   before-key      "comes before" is the order of keys
+use mathlib.Core.Path.{_≡_, refl, _∙_, sym}
 use mathlib.Core.Bool.{Bool, true, false, cond}
-use Prim.Native.Nat.{ℕ, _+_, _*_, _<_, _/_, _%_}
+use Prim.Native.Nat.{ℕ, _<_}
 use native.Mathlib.Omega.{arith}
 use lib.Dec.{eqb, ltb}
-use borrow.Author.Tests.{eqb-true, eqb-false, eq-eqb, ltb-true, ltb-false, lt-ltb, le-ltb}
+use borrow.Author.Tests.{eqb-true, eqb-false, ltb-true, ltb-false, lt-ltb, le-ltb}
 use Rattle.word.specs.declared.Node.{Node}
 use Rattle.word.specs.Word.{rankOf, parentOf, decode, encode, same, before, key, rankLimit, nodeLimit}
 
@@ -32,9 +37,6 @@ same-true a b e = go (eqb (a .rank) (b .rank)) refl e
     go : (t : Bool) → eqb (a .rank) (b .rank) ≡ t → cond t (eqb (a .parent) (b .parent)) false ≡ true → a ≡ b
     go true r p = λ i. record { rank = eqb-true (a .rank) (b .rank) r i; parent = eqb-true (a .parent) (b .parent) p i }
     go false r p = let z : false ≡ true = p in let y : _≡_ {A = ℕ} 0 1 = cc in absurd (omega arith)
-
-pub same-refl : (a : Node) → same a a ≡ true
-same-refl a = rw (eq-eqb (a .rank) (a .rank) refl) (eq-eqb (a .parent) (a .parent) refl)
 
 -- the order of document 01 is the order of keys
 pub before-key : (ra a rb b : ℕ) → a < nodeLimit → b < nodeLimit → before ra a rb b ≡ ltb (key ra a) (key rb b)

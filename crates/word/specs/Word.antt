@@ -11,9 +11,11 @@ use Prim.Native.Nat.{ℕ, _+_, _*_, _/_, _%_}
 use lib.Dec.{eqb, ltb}
 use Rattle.word.specs.declared.Node.{Node}
 
+-- The rank's byte of a word ends here; no rank of 4,096 places comes near.
 abbrev pub rankLimit : ℕ
 rankLimit = 256
 
+-- The parent of a word is 16 bits.
 abbrev pub nodeLimit : ℕ
 nodeLimit = 65536
 
@@ -21,12 +23,15 @@ nodeLimit = 65536
 unfoldable pub rankOf : ℕ → ℕ
 rankOf w = w / 65536
 
+-- The parent is the rest.
 unfoldable pub parentOf : ℕ → ℕ
 parentOf w = w % 65536
 
+-- The word of a node.
 unfoldable pub encode : Node → ℕ
 encode n = n .rank * 65536 + n .parent
 
+-- The node of a word.
 abbrev pub decode : ℕ → Node
 decode w = record { rank = rankOf w; parent = parentOf w }
 

@@ -1,5 +1,6 @@
 -- The records stored one after the other are the file, and what the writer leaves with it.
 --
+--   header j            the first record of a job's file
 --   body j              the records of a job's file before its close
 --   body-closed         the body with its close is the file
 --   file-stored         the four parts, stored behind one another, are the file
@@ -13,14 +14,13 @@ use lib.Dec.{eqb}
 use lib.ListN.{length, take, drop, length-append, length-map}
 use lib.Seq.{sets, take-at}
 use borrow.Author.Tests.{eqb-true, ne-eqb}
-use Rattle.job.specs.declared.Request.{Request}
 use Rattle.job.specs.Job.{Job}
-use Rattle.jobfile.specs.declared.Run.{Run}
 use Rattle.jobfile.specs.Format.{jobMark, closeMark, wordBytes, wordSum, requestOf}
 use Rattle.jobfile.specs.Written.{requestsBytes, runsBytes, longestRuns, fileWith, balance, written}
 use Rattle.jobfile.specs.Draft.{Draft, fieldsOf, jobOf, draftRefusal}
 use Rattle.jobfile.specs.Meaning.{accepted, meaning}
 use Rattle.jobfile.proofs.Tests.{split, through}
+use Rattle.jobfile.proofs.Places.{length-requests, length-runs}
 use Rattle.jobfile.proofs.RoundTrip.{written-draft}
 use Rattle.writer.specs.declared.Written.{Written}
 use Rattle.writer.specs.Write.{closeBytes, writeRefusal, answer, writes}
@@ -50,14 +50,6 @@ body-closed j =
     let sum : wordSum (fileWith j 0) ≡ wordSum (body j ++ wordBytes closeMark) = ap wordSum (file-parts j 0) ∙ sum-zero (body j ++ wordBytes closeMark) in
     sym (file-parts j (balance j) ∙ append-assoc (body j) (wordBytes closeMark) (wordBytes (balance j))
     ∙ ap (λ s. body j ++ (wordBytes closeMark ++ wordBytes ((65536 - s % 65536) % 65536))) sum)
-
-length-requests : (qs : List Request) → length (requestsBytes qs) ≡ 8 * length qs
-length-requests [] = refl
-length-requests (q ∷ qs) = omega (arith, length-requests qs)
-
-length-runs : (rs : List Run) → length (runsBytes rs) ≡ 4 * length rs
-length-runs [] = refl
-length-runs (r ∷ rs) = omega (arith, length-runs rs)
 
 -- What the buffer holds with the header, then the requests, then the runs, then the close.
 pub file-stored : (d : Draft) (out headed listed scheduled closed : List ℕ) (at : ℕ) → length (written (jobOf d)) ≤ length out

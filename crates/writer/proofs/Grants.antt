@@ -11,17 +11,16 @@ use mathlib.Core.List.{List, [], _∷_, _++_}
 use Prim.Native.Nat.{ℕ, suc, _+_, _≤_, _<_}
 use native.Mathlib.Omega.{arith}
 use native.Mathlib.Numerals.{add-one}
-use lib.Dec.{eqb, ltb}
 use lib.ListN.{length, getD, drop, replicate, length-drop, length-append, length-replicate, drop-of-length-le}
 use lib.Seq.{drop-cons}
-use borrow.Author.Tests.{ltb-true, le-leb, lt-leb}
+use borrow.Author.Tests.{le-leb, lt-leb}
 use Rattle.jobfile.specs.declared.Run.{Run}
 use Rattle.jobfile.specs.Format.{mostGrants, extends}
 use Rattle.jobfile.specs.Meaning.{granted}
 use Rattle.jobfile.specs.Written.{runsFrom, longestRuns}
 use Rattle.jobfile.specs.Draft.{grantsRefusal}
 use Rattle.jobfile.proofs.Tests.{split}
-use Rattle.jobfile.proofs.Runs.{granted-longest}
+use Rattle.jobfile.proofs.Runs.{extended, granted-longest}
 
 pub drop-next : (gs : List ℕ) (i : ℕ) → i < length gs → drop i gs ≡ getD gs i 0 ∷ drop (i + 1) gs
 drop-next gs i l = rw (drop-cons gs i 0 l, add-one)
@@ -49,13 +48,6 @@ module _ (heads : ℕ) (gs : List ℕ) (i : ℕ) (serving : Serving heads gs i) 
   unfolding grantsRefusal
   serving-all done = rw (← serving .same, drop-of-length-le gs {i = i} done)
 
--- A run that takes one more grant is under 255.
-pub extends-under : (r : Run) (g : ℕ) → extends r g ≡ true → r .count < mostGrants
-extends-under r g e =
-    split (eqb (r .head) g)
-    (λ s. let u : ltb (r .count) mostGrants ≡ true = rw s at e in ltb-true (r .count) mostGrants u)
-    (λ f. let z : false ≡ true = rw f at e in let y : _≡_ {A = ℕ} 0 1 = cc in absurd (omega arith))
-
 pub record Growing (gs : List ℕ) (at i : ℕ) (r : Run) : Type 0 where
   pub within : i ≤ length gs
   pub reach : at + r .count ≡ i
@@ -72,7 +64,7 @@ module _ (gs : List ℕ) (at i : ℕ) (r : Run) (growing : Growing gs at i r) wh
       record {
         within = omega arith;
         reach = omega (arith, growing .reach);
-        few = omega (arith, extends-under r (getD gs i 0) e);
+        few = omega (arith, extended r (getD gs i 0) e .under);
         same = sym (rw (drop-next gs i l, e)) ∙ growing .same;
       }
 

@@ -19,25 +19,25 @@ use Rattle.jobfile.specs.Draft.{fieldsOf, countRefusal, eachRefusal}
 use Rattle.jobfile.proofs.Tests.{through, Sized, Fit, fit, fit-passes}
 use Rattle.writer.specs.Write.{fieldsFrom}
 
-four : (t : List ℕ) → 4 ≤ length t → fieldsOf t ≡ fieldsFrom t 0 ∷ fieldsOf (drop 4 t)
-four [] l = absurd (omega arith)
-four (h ∷ []) l = absurd (omega arith)
-four (h ∷ k ∷ []) l = absurd (omega arith)
-four (h ∷ k ∷ x ∷ []) l = absurd (omega arith)
-four (h ∷ k ∷ x ∷ y ∷ t) l = refl
+fields-four : (t : List ℕ) → 4 ≤ length t → fieldsOf t ≡ fieldsFrom t 0 ∷ fieldsOf (drop 4 t)
+fields-four [] l = absurd (omega arith)
+fields-four (h ∷ []) l = absurd (omega arith)
+fields-four (h ∷ k ∷ []) l = absurd (omega arith)
+fields-four (h ∷ k ∷ x ∷ []) l = absurd (omega arith)
+fields-four (h ∷ k ∷ x ∷ y ∷ t) l = refl
 
-few : (t : List ℕ) → length t < 4 → fieldsOf t ≡ []
-few [] l = refl
-few (h ∷ []) l = refl
-few (h ∷ k ∷ []) l = refl
-few (h ∷ k ∷ x ∷ []) l = refl
-few (h ∷ k ∷ x ∷ y ∷ t) l = absurd (omega arith)
+fields-few : (t : List ℕ) → length t < 4 → fieldsOf t ≡ []
+fields-few [] l = refl
+fields-few (h ∷ []) l = refl
+fields-few (h ∷ k ∷ []) l = refl
+fields-few (h ∷ k ∷ x ∷ []) l = refl
+fields-few (h ∷ k ∷ x ∷ y ∷ t) l = absurd (omega arith)
 
 pub fields-next : (l : List ℕ) (at : ℕ) → at + 4 ≤ length l → fieldsOf (drop at l) ≡ fieldsFrom l at ∷ fieldsOf (drop (at + 4) l)
-fields-next l at room = four (drop at l) (rw length-drop (omega arith)) ∙ simp (getD-drop, drop-drop, add-zero)
+fields-next l at room = fields-four (drop at l) (rw length-drop (omega arith)) ∙ simp (getD-drop, drop-drop, add-zero)
 
 pub fields-end : (l : List ℕ) (at : ℕ) → length l < at + 4 → fieldsOf (drop at l) ≡ []
-fields-end l at short = few (drop at l) (rw length-drop (omega arith))
+fields-end l at short = fields-few (drop at l) (rw length-drop (omega arith))
 
 pub fields-count : (l : List ℕ) → length (fieldsOf l) ≡ length l / 4
 fields-count [] = refl

@@ -2,22 +2,22 @@
 --
 --   sets-after, stored-on   stores that follow on others are one row of stores
 --   sets-front          what stores from the front leave
---   kind-kept           the number of an admitted kind is kept
 --   request-stored      the four stores of a request make its record
+--   bytesOf qs          the bytes of the requests that admitted numbers stand for
 --   RequestsStored out₀ l at out     the requests before the position at are stored
 --   RunsStored out₀ start gs i at out   the runs of the grants before the i-th are stored, up to the byte at
-use mathlib.Core.Path.{_≡_, refl, _∙_, sym, ap}
+use mathlib.Core.Path.{_≡_, _∙_, sym, ap}
 use mathlib.Core.List.{List, [], _∷_, _++_, map}
-use Prim.Native.Nat.{ℕ, zero, suc, _+_, _*_, _≤_, _<_}
+use Prim.Native.Nat.{ℕ, suc, _+_, _*_, _≤_, _<_}
 use native.Mathlib.Omega.{arith}
 use lib.ListN.{length, drop, set, drop-of-length-le}
 use lib.Seq.{sets, sets-eq, length-sets}
-use Rattle.job.specs.Job.{kindOf, kindNumber}
 use Rattle.jobfile.specs.declared.Fields.{Fields}
 use Rattle.jobfile.specs.declared.Run.{Run}
 use Rattle.jobfile.specs.Format.{requestMark, mostNodes, mostHeads, wordBytes, fieldsRefusal, requestOf}
 use Rattle.jobfile.specs.Written.{requestBytes, requestsBytes, runBytes, runsBytes, longestRuns}
 use Rattle.jobfile.specs.Draft.{fieldsOf, eachRefusal}
+use Rattle.jobfile.proofs.KindNumbers.{kind-written}
 use Rattle.jobfile.proofs.Tests.{Both, through, fit}
 use Rattle.writer.specs.Write.{fieldsFrom}
 use Rattle.writer.proofs.Requests.{fields-next, fields-end}
@@ -34,12 +34,6 @@ stored-on l before after vs ws i k seam first second = second ∙ ap (λ (t : Li
 pub sets-front : (l vs : List ℕ) → length vs ≤ length l → sets l 0 vs ≡ vs ++ drop (length vs) l
 sets-front l vs fits = let z : 0 + length vs ≡ length vs = omega arith in rw z at (sets-eq vs l 0 (omega arith))
 
-pub kind-kept : (n : ℕ) → 0 < n → n ≤ 2 → kindNumber (kindOf n) ≡ n
-kind-kept zero some few = absurd (omega arith)
-kind-kept (suc zero) some few = refl
-kind-kept (suc (suc zero)) some few = refl
-kind-kept (suc (suc (suc n))) some few = absurd (omega arith)
-
 pub request-stored : (l a b c d : List ℕ) (at : ℕ) (q : Fields) → fieldsRefusal mostNodes mostHeads q ≡ 0
     → a ≡ sets l at (wordBytes requestMark) → b ≡ sets a (at + 2) (q .head ∷ q .kind ∷ [])
     → c ≡ sets b (at + 4) (wordBytes (q .x)) → d ≡ sets c (at + 6) (wordBytes (q .y))
@@ -49,7 +43,7 @@ request-stored l a b c d at q fits first second third fourth =
     let mark = wordBytes requestMark in
     let two = stored-on l a b mark (q .head ∷ q .kind ∷ []) at (at + 2) (omega arith) first second in
     let three = stored-on l b c (mark ++ q .head ∷ q .kind ∷ []) (wordBytes (q .x)) at (at + 4) (omega arith) two third in
-    rw (kind-kept (q .kind) (f .some-kind) (f .few-kinds))
+    rw (kind-written (q .kind) (f .some-kind) (f .few-kinds))
     (stored-on l c d (mark ++ (q .head ∷ q .kind ∷ []) ++ wordBytes (q .x)) (wordBytes (q .y)) at (at + 6) (omega arith) three fourth)
 
 -- The bytes of the requests that admitted numbers stand for.

@@ -36,12 +36,14 @@ writeRefusal d room = draftRefusal d then bufferRefusal (written (jobOf d)) room
 abbrev pub refused : ℕ → Written
 refused n = record { number = n; bytes = 0 }
 
+-- The bytes written, or the refusal.
 unfoldable pub answer : Draft → ℕ → Written
 answer d room =
     cond (eqb (writeRefusal d room) 0)
     (record { number = 0; bytes = length (written (jobOf d)) })
     (refused (writeRefusal d room))
 
+-- What the writer leaves: its answer and the lent buffer.
 pub record Left : Type 0 where
   pub answer : Written
   pub out : List ℕ

@@ -6,7 +6,8 @@ use denote.Ref.{now}
 use lib.ListN.{length}
 use borrow.Author.Needs.{needs}
 use borrow.Author.Tests.{not-true, not-false}
-use Rattle.writer.proofs.Grants.{extends-under, Growing, growing-first, growing-on, growing-stops, growing-ends}
+use Rattle.jobfile.proofs.Runs.{extended}
+use Rattle.writer.proofs.Grants.{Growing, growing-first, growing-on, growing-stops, growing-ends}
 use Rattle.writer.proofs.checks.run_at.Statement.{statement}
 use Rattle.writer.proofs.checks.run_at.Tie as tie
 
@@ -41,7 +42,7 @@ returns c =
 add-run : tie.Need-add-run Inv-loop μ-loop
 add-run c =
     let extends = c .before .before .does-extend in
-    omega (arith, extends-under (c .before .before .before .before .before .loop .run) _ (sym (extends .ensures) ∙ not-false (extends .result) (c .before .if1 .left)))
+    omega (arith, extended (c .before .before .before .before .before .loop .run) _ (sym (extends .ensures) ∙ not-false (extends .result) (c .before .if1 .left)) .under)
 
 add-i-2 : tie.Need-add-i-2 Inv-loop μ-loop
 add-i-2 c = search needs

@@ -1,0 +1,161 @@
+-- A union's grants once its finds have ended, stage by stage: each leads to one of the five outcomes.
+--
+--   Gives t′ st a   the step a at stage st, which leaves the table t′, is one of the outcomes
+--
+-- Laws, one a stage: read-rank-x, read-rank-y, link-x, raise-y.
+use mathlib.Core.Path.{_≡_, refl, sym, _∙_}
+use mathlib.Core.Bool.{Bool, true, false}
+use mathlib.Core.List.{List}
+use Prim.Native.Nat.{ℕ, suc, _+_, _≤_, _<_}
+use native.Mathlib.Omega.{arith}
+use lib.Dec.{eqb, ltb}
+use borrow.Author.Tests.{ltb-true, ltb-false}
+use Rattle.job.specs.declared.Kind.the-variants.{Union}
+use Rattle.job.specs.declared.Request.{Request}
+use Rattle.word.specs.declared.Node.{Node}
+use Rattle.word.specs.Word.{key, same, before}
+use Rattle.word.proofs.Laws.{before-key}
+use Rattle.process.specs.declared.Stage.{Stage}
+use Rattle.process.specs.declared.Stage.the-variants.{ReadRankX, ReadRankY, Link, Raise}
+use Rattle.process.specs.declared.Head.{Head}
+use Rattle.process.specs.declared.Advanced.{Advanced}
+use Rattle.process.specs.declared.Access.the-variants.{Cas}
+use Rattle.process.specs.Process.{staged, restart}
+use Rattle.process.specs.Advance.{continue, rankBoth, linked, link, raise}
+use Rattle.forest.proofs.Merge.{merged-ends}
+use Rattle.forest.proofs.Linking as linking
+use Rattle.forest.proofs.Raising as raising
+use Rattle.linearization.proofs.Tests.{split}
+use Rattle.rules.specs.Table.{at, parent, rank, touched}
+use Rattle.rules.proofs.Table.{found-parent, found-rank}
+use Rattle.rules.proofs.Stages.{Finding, ReadingRanks, Linking, Raising}
+use Rattle.rules.proofs.Outcomes.{Unlinked, Linked, Outcome, Present, unchanged, goes-on}
+use Rattle.rules.proofs.Outcomes.Linked.{finished, raises}
+use Rattle.rules.proofs.Outcomes.Outcome.{joining, ending}
+use Rattle.rules.proofs.Writes.{stored, linking-kept, linking-takes, linking-stays, raising-unlinked}
+use Rattle.rules.proofs.Steps.{ends-two, finding-exchange}
+
+module _ {n now : ℕ} {t : List Node} {B B′ : ℕ → ℕ} {Apart : ℕ → Type 0} {q : Request} (present : Present n now t B B′ Apart q) (h : Head) where
+  abbrev Gives : List Node → Stage → Advanced → Type 0
+  Gives t′ st a = Outcome n now t t′ B B′ Apart q st a
+
+  -- ---- the two ranks
+
+  pub read-rank-x : ReadingRanks n (rank t) B q (h .x) (h .y) 0 → Gives t ReadRankX (continue h (ReadRankY (rank t (h .x))))
+  read-rank-x a =
+      goes-on ReadRankX (staged h (ReadRankY (rank t (h .x)))) false false refl refl refl refl (unchanged present)
+      (record { finding = a .finding; distinct = a .distinct; rank = omega arith })
+
+  -- the order of the ranks read is the order of keys
+  ranks-order : (r : ℕ) → Finding n B q Union (h .x) (h .y)
+      → before (rank t (h .y)) (h .y) r (h .x) ≡ ltb (key (rank t (h .y)) (h .y)) (key r (h .x))
+  ranks-order r f =
+      let few = present .sound .formed .limit in
+      before-key (rank t (h .y)) (h .y) r (h .x) (omega (arith, f .right)) (omega (arith, f .left))
+
+  module _ (r : ℕ) (a : ReadingRanks n (rank t) B q (h .x) (h .y) r) where
+    -- y comes before x: they are exchanged
+    exchanged : key (rank t (h .y)) (h .y) < key r (h .x) → Linking n (rank t) B q (h .y) (h .x) (rank t (h .y))
+    exchanged order = record { finding = finding-exchange (a .finding); rank = omega arith; before = omega (arith, a .rank) }
+
+    straight : key r (h .x) ≤ key (rank t (h .y)) (h .y) → Linking n (rank t) B q (h .x) (h .y) r
+    straight order =
+        record {
+          finding = a .finding;
+          rank = a .rank;
+          before = omega (arith, a .distinct, a .finding .left, a .finding .right, present .sound .formed .limit);
+        }
+
+    pub read-rank-y : Gives t (ReadRankY r) (rankBoth h r (rank t (h .y)))
+    read-rank-y =
+        split (before (rank t (h .y)) (h .y) r (h .x))
+        (λ e. rw e
+        (goes-on (ReadRankY r) (record { stage = Link (rank t (h .y)) (eqb r (rank t (h .y))); x = h .y; y = h .x; request = h .request })
+        false false refl refl refl refl (unchanged present)
+        (exchanged (ltb-true (key (rank t (h .y)) (h .y)) (key r (h .x)) (sym (ranks-order r (a .finding)) ∙ e)))))
+        (λ e. rw e
+        (goes-on (ReadRankY r) (staged h (Link r (eqb r (rank t (h .y))))) false false refl refl refl refl (unchanged present)
+        (straight (ltb-false (key (rank t (h .y)) (h .y)) (key r (h .x)) (sym (ranks-order r (a .finding)) ∙ e)))))
+
+  -- ---- the link
+
+  module _ (r : ℕ) (a : Linking n (rank t) B q (h .x) (h .y) r) where
+    module _ (found : same (at t (h .x)) (record { rank = r; parent = h .x }) ≡ true) where
+      may-link : linking.Linking n (parent t) (rank t) B B′ (h .x) r (h .y)
+      may-link =
+          let rank-is = found-rank t (h .x) (record { rank = r; parent = h .x }) found in
+          record {
+            node = a .finding .left;
+            target = a .finding .right;
+            root = found-parent t (h .x) (record { rank = r; parent = h .x }) found;
+            rank = sym rank-is;
+            before = omega (arith, a .before, rank-is);
+            labels = merged-ends (present .merged) (h .x) (h .y) (a .finding .ends);
+          }
+
+      -- where the ranks read were equal, y's rank may be raised
+      to-raise : Raising n (rank (stored t (h .x) r (h .y))) B′ q (h .y) r
+      to-raise =
+          let stays = linking-stays t (present .nodes) (present .sound) may-link (h .y) in
+          record {
+            node = a .finding .right;
+            kind = a .finding .kind;
+            rank = omega (arith, a .before, a .finding .left, a .finding .right, present .sound .formed .limit, stays);
+            weight = linking.linking-weight (present .sound) may-link;
+          }
+
+      link-written : (e : Bool) → Gives (stored t (h .x) r (h .y)) (Link r e) (linked h r e (suc now))
+      link-written e =
+          joining (record {
+            kept = linking-kept t (present .nodes) (present .sound) may-link;
+            roots = linking-takes t (present .nodes) (present .sound) may-link;
+            unraised = refl;
+            kind = a .finding .kind;
+            linked = by-case e;
+            point = at-case e;
+            two-sets = ends-two (a .finding .ends) (linking.linking-apart (present .sound) may-link);
+            after = after e;
+          })
+        where
+          by-case : (e : Bool) → linked h r e (suc now) .event .linked ≡ true
+          by-case true = refl
+          by-case false = refl
+
+          at-case : (e : Bool) → linked h r e (suc now) .event .point ≡ suc now
+          at-case true = refl
+          at-case false = refl
+
+          after : (e : Bool) → Linked n (stored t (h .x) r (h .y)) B′ q (linked h r e (suc now))
+          after true = raises r refl refl to-raise
+          after false = finished refl refl
+
+    pub link-x : (e : Bool) → Gives (touched t (Cas (h .x) (record { rank = r; parent = h .x }) (record { rank = r; parent = h .y })))
+        (Link r e) (link h r e (at t (h .x)) (suc now))
+    link-x e =
+        split (same (at t (h .x)) (record { rank = r; parent = h .x }))
+        (λ s. rw s (link-written s e))
+        (λ s. rw s (goes-on (Link r e) (staged h (restart Union)) true false refl refl refl refl (unchanged present) (a .finding)))
+
+  -- ---- the raise
+
+  module _ (r : ℕ) (a : Raising n (rank t) B q (h .y) r) where
+    -- whether the swap wrote or not, the union is finished
+    raise-ends : {t′ : List Node} (w : Node) → Unlinked n t t′ B → Gives t′ (Raise r) (raise h r w)
+    raise-ends w table =
+        ending (record { table = table; raised = refl; kind = a .kind; unlinked = refl; answer = refl; unplaced = refl; rests = refl })
+
+    may-raise : same (at t (h .y)) (record { rank = r; parent = h .y }) ≡ true → raising.Raising n (parent t) (rank t) B (h .y) r
+    may-raise found =
+        record {
+          node = a .node;
+          root = found-parent t (h .y) (record { rank = r; parent = h .y }) found;
+          rank = sym (found-rank t (h .y) (record { rank = r; parent = h .y }) found);
+          weight = a .weight;
+        }
+
+    pub raise-y : (w : Node)
+        → Gives (touched t (Cas (h .y) (record { rank = r; parent = h .y }) (record { rank = r + 1; parent = h .y }))) (Raise r) (raise h r w)
+    raise-y w =
+        split (same (at t (h .y)) (record { rank = r; parent = h .y }))
+        (λ s. rw s (raise-ends w (raising-unlinked t (present .nodes) (present .sound) (may-raise s))))
+        (λ s. rw s (raise-ends w (unchanged present)))

@@ -1,0 +1,71 @@
+-- The three writes of the table, on its words: what the forest says of parents and ranks, said of a word that is stored.
+--
+--   stored t i k u   the table t with rank k and parent u in the word of node i
+--
+-- Laws: halving-unlinked and raising-unlinked, the sets stay and no root is lost; linking-kept, linking-takes and
+-- linking-stays, two sets become one, one root is lost and every rank stays.
+use mathlib.Core.Path.{_≡_, _∙_}
+use mathlib.Core.List.{List}
+use Prim.Native.Nat.{ℕ, suc, _+_}
+use native.Mathlib.Omega.{arith}
+use lib.ListN.{length, set}
+use Rattle.word.specs.declared.Node.{Node}
+use Rattle.forest.specs.Forest.{rootCount}
+use Rattle.forest.proofs.Sound.{Sound}
+use Rattle.forest.proofs.Writes.{Changed}
+use Rattle.forest.proofs.Halving.{Halving, halving-sound}
+use Rattle.forest.proofs.Linking.{Linking, linking-sound, linking-ranks}
+use Rattle.forest.proofs.Raising.{Raising, raising-sound}
+use Rattle.forest.proofs.Later.{halving-later, linking-later, raising-later}
+use Rattle.forest.proofs.Roots.{halving-roots, linking-roots, raising-roots}
+use Rattle.rules.specs.Table.{parent, rank}
+use Rattle.rules.proofs.Table.{parent-changed, rank-changed}
+use Rattle.rules.proofs.Outcomes.{Kept, Unlinked}
+
+abbrev pub stored : List Node → ℕ → ℕ → ℕ → List Node
+stored t i k u = set t i (record { rank = k; parent = u })
+
+module _ {n : ℕ} (t : List Node) {B : ℕ → ℕ} (nodes : length t ≡ n) (sound : Sound n (parent t) (rank t) B) where
+  pub halving-unlinked : {v k u : ℕ} → Halving n (parent t) (rank t) B v k u → Unlinked n t (stored t v k u) B
+  halving-unlinked {v} {k} {u} halving =
+      record {
+        kept = record { sound = halving-sound sound halving parents ranks; later = halving-later sound halving parents ranks };
+        roots = halving-roots sound halving parents ranks;
+      }
+    where
+      parents : Changed (parent t) (parent (stored t v k u)) v u
+      parents = parent-changed t v (record { rank = k; parent = u }) (omega (arith, halving .node))
+
+      ranks : Changed (rank t) (rank (stored t v k u)) v k
+      ranks = rank-changed t v (record { rank = k; parent = u }) (omega (arith, halving .node))
+
+  pub raising-unlinked : {y k : ℕ} → Raising n (parent t) (rank t) B y k → Unlinked n t (stored t y (k + 1) y) B
+  raising-unlinked {y} {k} raising =
+      record {
+        kept = record { sound = raising-sound sound raising parents ranks; later = raising-later sound raising parents ranks };
+        roots = raising-roots sound raising parents ranks;
+      }
+    where
+      parents : Changed (parent t) (parent (stored t y (k + 1) y)) y y
+      parents = parent-changed t y (record { rank = k + 1; parent = y }) (omega (arith, raising .node))
+
+      ranks : Changed (rank t) (rank (stored t y (k + 1) y)) y (suc k)
+      ranks =
+          let change = rank-changed t y (record { rank = k + 1; parent = y }) (omega (arith, raising .node)) in
+          record { at = change .at ∙ omega arith; other = change .other }
+
+  module _ {B′ : ℕ → ℕ} {x k y : ℕ} (linking : Linking n (parent t) (rank t) B B′ x k y) where
+    parents : Changed (parent t) (parent (stored t x k y)) x y
+    parents = parent-changed t x (record { rank = k; parent = y }) (omega (arith, linking .node))
+
+    ranks : Changed (rank t) (rank (stored t x k y)) x k
+    ranks = rank-changed t x (record { rank = k; parent = y }) (omega (arith, linking .node))
+
+    pub linking-kept : Kept n t (stored t x k y) B B′
+    linking-kept = record { sound = linking-sound sound linking parents ranks; later = linking-later sound linking parents ranks }
+
+    pub linking-takes : suc (rootCount (parent (stored t x k y)) n) ≡ rootCount (parent t) n
+    linking-takes = linking-roots sound linking parents ranks
+
+    pub linking-stays : (i : ℕ) → rank (stored t x k y) i ≡ rank t i
+    linking-stays = linking-ranks sound linking parents ranks
