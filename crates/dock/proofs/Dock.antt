@@ -7,7 +7,7 @@ use mathlib.Core.List.{List, [], _∷_, map}
 use Prim.Native.Nat.{ℕ, _+_, _*_, _^_, _≤_, _<_}
 use native.Mathlib.Omega.{arith}
 use lib.Dec.{eqb}
-use lib.ListN.{length, take, drop, replicate, length-append}
+use lib.ListN.{length, take, drop, replicate, length-append, length-map}
 use lib.Seq.{length-take-le}
 use borrow.Author.Tests.{eqb-true, le-ltb}
 use Rattle.job.specs.Job.{Job}
@@ -21,7 +21,7 @@ use Rattle.jobfile.specs.Admitted.{Admitted, Bytes}
 use Rattle.jobfile.proofs.Tests.{through}
 use Rattle.jobfile.proofs.RoundTrip.{admitted-meaning}
 use Rattle.stepper.specs.Buffers.{flatRows}
-use Rattle.stepper.proofs.Lists.{length-mapped, length-rows}
+use Rattle.stepper.proofs.Lists.{length-rows}
 use Rattle.stepper.proofs.Needs.{invariant-few}
 use Rattle.turns.specs.Turns.{runOf}
 use Rattle.player.specs.Player.{Left, cutOf, lentRefusal, playRefusal, playedOf}
@@ -43,7 +43,7 @@ accepted-printable j admitted table report linearization =
     let ended = run-ended j admitted in
     record {
       enough = record {
-        words = omega (arith, length-append (map encode (runOf j .table)) (drop (j .nodes) table), length-mapped encode (runOf j .table), ended .nodes);
+        words = omega (arith, length-append (map encode (runOf j .table)) (drop (j .nodes) table), length-map (runOf j .table) encode, ended .nodes);
         requests = omega (arith, length-append (flatRows (runOf j .report)) (drop (4 * length (j .requests)) report), length-rows (runOf j .report), ended .reports);
         entries = omega (arith, length-append (flat (runOf j .entries)) (drop (2 * length (runOf j .entries)) linearization), length-flat (runOf j .entries));
       };

@@ -12,7 +12,7 @@ use Prim.Native.Nat.{ℕ, _+_, _*_, _≤_, _<_}
 use native.Mathlib.Omega.{arith}
 use native.Mathlib.Decide.{ℕ-discrete, decLt}
 use lib.Count.{ones}
-use lib.ListN.{length, take, drop, replicate, take-append-drop, length-replicate}
+use lib.ListN.{length, take, drop, replicate, take-append-drop, length-replicate, length-map}
 use lib.Seq.{take-at, drop-at, length-take-le}
 use borrow.Author.Tests.{eq-eqb, ne-eqb}
 use Rattle.job.specs.declared.Tally.{Tally}
@@ -30,7 +30,6 @@ use Rattle.rules.proofs.Table.{length-fresh}
 use Rattle.mask.specs.Mask.{maskOf}
 use Rattle.start.specs.Start.{workFlag}
 use Rattle.stepper.specs.Shown.{requestsIn, Standing}
-use Rattle.stepper.proofs.Lists.{length-mapped}
 use Rattle.turns.specs.declared.Progress.{Progress}
 use Rattle.turns.specs.Turns.{Roomy, countedOf, buffersOf, Turned, firstProgress, firstTally}
 use Rattle.turns.proofs.Runs.{grants-few}
@@ -289,7 +288,7 @@ module _ (file table₀ report₀ linearization₀ : List ℕ) (tally₀ : Tally
     report-is = ap (λ x. x .report) was-accepted ∙ ap (λ k. replicate k 0 ++ drop k report₀) (sym rows-are)
 
     fresh-long : length (map encode (fresh (plan .counts .nodes))) ≡ plan .counts .nodes
-    fresh-long = length-mapped encode (fresh (plan .counts .nodes)) ∙ length-fresh 0 (plan .counts .nodes)
+    fresh-long = length-map (fresh (plan .counts .nodes)) encode ∙ length-fresh 0 (plan .counts .nodes)
 
     heads-are : plan .progress .heads ≡ headsFrom (requestsIn file) 0 16
     heads-are = ap (λ x. x .plan .progress .heads) was-accepted

@@ -1,14 +1,13 @@
 -- Demand 3 on the buffers: what they hold is what the rules' run leaves, and that is linearizable.
-use mathlib.Core.Path.{_≡_, refl, sym, ap, ap₂, _∙_, subst, subst₃}
+use mathlib.Core.Path.{_≡_, refl, sym, ap, _∙_, subst, subst₃}
 use mathlib.Core.List.{List, [], _∷_, _++_, map, List·Memᴰ, List·Memᴰ·head, List·Memᴰ·tail}
-use Prim.Native.Nat.{ℕ, zero, suc, _*_, _≤_, _<_}
+use Prim.Native.Nat.{ℕ, suc, _*_, _<_}
 use native.Mathlib.Omega.{arith}
-use lib.ListN.{length, getD, take, drop}
+use lib.ListN.{length, getD, take, drop, length-map}
 use lib.Seq.{take-at}
 use Rattle.job.specs.Job.{Job}
 use Rattle.word.specs.declared.Node.{Node}
 use Rattle.word.specs.Word.{decode, encode}
-use Rattle.word.proofs.Laws.{decode-encode}
 use Rattle.linearization.specs.Partition.{apart}
 use Rattle.linearization.specs.Entry.{Entry, flat, entriesOf}
 use Rattle.linearization.proofs.Numbers.{length-flat, entriesOf-flat}
@@ -16,15 +15,14 @@ use Rattle.jobfile.specs.Meaning.{meaning}
 use Rattle.jobfile.specs.Admitted.{Admitted}
 use Rattle.forest.proofs.Roots.{start-roots}
 use Rattle.rules.specs.declared.Row.{Row}
-use Rattle.rules.specs.Table.{at}
 use Rattle.rules.specs.State.{noRequest}
 use Rattle.rules.specs.Linearized.{Playable, Linearized}
 use Rattle.rules.proofs.Invariant.{Invariant}
 use Rattle.rules.proofs.Table.{fresh-start}
 use Rattle.rules.proofs.Theorem.{started-invariant, fresh-startable, fresh-linearized}
 use Rattle.stepper.specs.Buffers.{flatRows}
-use Rattle.stepper.proofs.Lists.{length-mapped, length-rows}
-use Rattle.stepper.proofs.Shown.{Worded}
+use Rattle.table.proofs.Words.{decode-words}
+use Rattle.stepper.proofs.Lists.{length-rows}
 use Rattle.stepper.proofs.Served.{invariant-worded}
 use Rattle.turns.specs.Turns.{runOf}
 use Rattle.player.specs.Player.{Left, cutOf}
@@ -45,14 +43,6 @@ admitted-playable j a =
 
 -- ---- from buffers back to lists
 
-decoded-table : (t : List Node) → ((i : ℕ) → i < length t → decode (encode (at t i)) ≡ at t i) → map decode (map encode t) ≡ t
-decoded-table [] each = refl
-decoded-table (n ∷ t) each =
-    ap₂ {C = List Node} (λ m r. m ∷ r) (each 0 (omega arith)) (decoded-table t (λ i l. each (suc i) (omega arith)))
-
-worded-table : (t : List Node) → Worded t → map decode (map encode t) ≡ t
-worded-table t w = decoded-table t (λ i l. decode-encode (at t i) (w .rank i l) (w .parent i l))
-
 rows-back : (rows : List Row) → rowsOf (flatRows rows) ≡ rows
 rows-back [] = refl
 rows-back (row ∷ rows) = ap {B = List Row} (λ r. row ∷ r) (rows-back rows)
@@ -71,8 +61,8 @@ module _ (j : Job) (admitted : Admitted j) where
 
   table-back : (lent : List ℕ) → map decode (take (j .nodes) (map encode (runOf j .table) ++ lent)) ≡ runOf j .table
   table-back lent =
-      ap (map decode) (take-at (map encode (runOf j .table)) lent (j .nodes) (length-mapped encode (runOf j .table) ∙ run-ended .nodes))
-      ∙ worded-table (runOf j .table) (invariant-worded run-ended)
+      ap (map decode) (take-at (map encode (runOf j .table)) lent (j .nodes) (length-map (runOf j .table) encode ∙ run-ended .nodes))
+      ∙ decode-words (runOf j .table) (invariant-worded run-ended)
 
   report-back : (lent : List ℕ) → rowsOf (take (4 * length (j .requests)) (flatRows (runOf j .report) ++ lent)) ≡ runOf j .report
   report-back lent =

@@ -3,7 +3,7 @@ use mathlib.Core.Path.{_≡_, sym, ap, _∙_, subst₂}
 use mathlib.Core.List.{List, [], _++_, map}
 use Prim.Native.Nat.{ℕ, _*_, _≤_}
 use native.Mathlib.Omega.{arith}
-use lib.ListN.{length, take, drop, replicate}
+use lib.ListN.{length, take, drop, replicate, length-map}
 use lib.Seq.{length-take-le}
 use Rattle.job.specs.Job.{Job}
 use Rattle.word.specs.Word.{encode}
@@ -17,11 +17,10 @@ use Rattle.rules.specs.Table.{fresh}
 use Rattle.rules.specs.State.{headsFrom}
 use Rattle.rules.proofs.Table.{length-fresh}
 use Rattle.stepper.specs.Shown.{Buffers, requestsIn, Playing, Standing}
-use Rattle.stepper.proofs.Lists.{length-mapped}
 use Rattle.start.specs.Start.{workFlag}
 use Rattle.start.proofs.Start.{start-standing}
 use Rattle.turns.specs.declared.Ended.{Ended}
-use Rattle.turns.specs.Turns.{startOf, End, endOf, Startable}
+use Rattle.turns.specs.Turns.{startOf, endOf, Startable}
 use Rattle.player.specs.Player.{Left, wholeOf, cutOf, Checks, Whole, Roomy}
 
 -- ---- the start
@@ -50,7 +49,7 @@ module _ {file : List ℕ} {checked : Checked} {n rows : ℕ} (lent : List ℕ) 
       }
     where
       length-table : length table ≡ meaning file .job .nodes
-      length-table = ap length is-table ∙ length-mapped encode (fresh n) ∙ length-fresh 0 n ∙ w .nodes
+      length-table = ap length is-table ∙ length-map (fresh n) encode ∙ length-fresh 0 n ∙ w .nodes
 
       shows :
           _≡_ {A = Buffers} (record { heads = heads; table = table; report = report; linearization = lent; entries = 0; mask = mask })

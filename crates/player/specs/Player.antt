@@ -18,7 +18,6 @@ use Rattle.word.specs.Word.{encode}
 use Rattle.linearization.specs.Entry.{flat}
 use Rattle.jobfile.specs.Format.{_then_}
 use Rattle.jobfile.specs.Meaning.{refused, meaning}
-use Rattle.jobfile.specs.Admitted.{Bytes}
 use Rattle.reader.specs.declared.Checked.{Checked}
 use Rattle.reader.specs.Reader.{countsOf}
 use Rattle.rules.specs.State.{State, tallyOf}

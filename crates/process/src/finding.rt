@@ -8,7 +8,6 @@ use job::Answer;
 use job::Kind;
 use word::Node;
 ghost use mathlib.Core.Path.{_≡_};
-ghost use Rattle.process.specs.Process.{staged, restart};
 ghost use Rattle.process.specs.Advance.{continue, attempt, together, apart, readNode, ended, moveUp, reread};
 
 // The head at its next stage, with nothing more to record.

@@ -7,7 +7,7 @@ use job::Kind;
 use job::Request;
 use word::Node;
 ghost use mathlib.Core.Path.{_≡_};
-ghost use Rattle.process.specs.Process.{begin, isResting, nodeAt, restart};
+ghost use Rattle.process.specs.Process.{begin, isResting, nodeAt};
 ghost use Rattle.process.specs.Access.{accessOf, Raisable};
 ghost use Rattle.process.specs.Advance.{advanceOf};
 

@@ -23,9 +23,7 @@ use borrow.Author.Tests.{eqb-true, eqb-false, eq-eqb, ne-eqb, ltb-true, lt-ltb}
 use Rattle.linearization.proofs.Tests.{split}
 use Rattle.job.specs.declared.Kind.{Kind}
 use Rattle.job.specs.declared.Kind.the-variants.{Union, SameSet}
-use Rattle.job.specs.declared.Answer.{Answer}
-use Rattle.job.specs.declared.Answer.the-variants.{Unfinished, Joined, Together, Yes, No}
-use Rattle.job.specs.Job.{answerNumber}
+use Rattle.job.specs.declared.Answer.the-variants.{Unfinished}
 use Rattle.word.specs.declared.Node.{Node}
 use Rattle.word.specs.Word.{key, same}
 use Rattle.process.specs.declared.Side.{Side}
@@ -41,6 +39,7 @@ use Rattle.forest.specs.Forest.{count}
 use Rattle.forest.proofs.Count.{count-le, count-positive, count-sum}
 use Rattle.rules.specs.Report.{isFinal}
 use Rattle.rules.specs.Table.{noNode, at, parent, rank, seen, touched}
+use Rattle.rules.proofs.History.{final-number}
 use Rattle.rules.proofs.Stages.{Above, Knows}
 use Rattle.query.specs.Query.{granted, steps, sameSet}
 use Rattle.query.specs.Ready.{Admitted, Serving}
@@ -245,13 +244,6 @@ enough-positive n p r B a b used ranks h ReadRankX busy knows needs = no-union (
 enough-positive n p r B a b used ranks h (ReadRankY rank) busy knows needs = no-union (knows .finding .kind)
 enough-positive n p r B a b used ranks h (Link rank e) busy knows needs = no-union (knows .finding .kind)
 enough-positive n p r B a b used ranks h (Raise rank) busy knows needs = no-union (knows .kind)
-
-final-number : (answer : Answer) → isFinal answer ≡ true → answerNumber answer ≢ 0
-final-number Unfinished e f = true≢false (sym e)
-final-number Joined e f = absurd (omega arith)
-final-number Together e f = absurd (omega arith)
-final-number Yes e f = absurd (omega arith)
-final-number No e f = absurd (omega arith)
 
 module _ {n : ℕ} {B : ℕ → ℕ} {a b : ℕ} (r : ℕ → ℕ) where
   step-enough : {t : List Node} (used : ℕ) (h : Head) (m : ℕ) → Serving n B a b t used h Unfinished → ((i : ℕ) → rank t i ≡ r i)

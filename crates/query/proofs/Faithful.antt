@@ -10,7 +10,7 @@ use mathlib.Core.List.{List, map}
 use Prim.Native.Nat.{ℕ, zero, suc, _+_, _*_, _≤_, _<_}
 use native.Mathlib.Omega.{arith}
 use lib.Dec.{eqb}
-use lib.ListN.{length}
+use lib.ListN.{length, length-map}
 use borrow.Author.Tests.{eqb-true, eqb-false}
 use Rattle.linearization.proofs.Tests.{split}
 use Rattle.job.specs.declared.Answer.{Answer}
@@ -28,7 +28,7 @@ use Rattle.rules.specs.Table.{parent, rank, touched}
 use Rattle.query.specs.Query.{Result, answered, granted, steps, sameSet, refusal, queried}
 use Rattle.query.specs.Ready.{Admitted, Says, Serving}
 use Rattle.query.specs.Faithful.{parentsOf, Faithful}
-use Rattle.table.proofs.Words.{length-mapped, decode-words}
+use Rattle.table.proofs.Words.{decode-words}
 use Rattle.query.proofs.Labels.{rootLabel, root-labelled}
 use Rattle.query.proofs.Refusal.{Accepted, accepted, accepted-admitted}
 use Rattle.query.proofs.Steps.{serving-step, serving-goes-on, serving-start}
@@ -129,7 +129,7 @@ module _ (words : List ℕ) (x y budget : ℕ) (good : Accepted words x y) where
     ended-faithful : (4 * length words + 3 ≤ budget → result .queried .answer ≢ 0) → Faithful words x y budget result
     ended-faithful enough =
         record {
-          nodes = sym (length-mapped decode (result .table)) ∙ ap length end-nodes ∙ end .admitted .nodes;
+          nodes = sym (length-map (result .table) decode) ∙ ap length end-nodes ∙ end .admitted .nodes;
           sets = λ i j inside-i inside-j. subst (λ t. forest.Together (parentsOf words) i j ↔ forest.Together (parent t) i j) (sym end-nodes) (same-sets i j inside-i inside-j);
           yes = λ e. label-together (accepted-admitted good .formed) start-labelled x y (good .left) (good .right) (end .yes e);
           no = λ e z. end .no e (together-label (accepted-admitted good .formed) start-labelled x y (good .left) (good .right) z);

@@ -13,13 +13,12 @@ use Prim.Native.Nat.{ℕ, zero, suc, _-_, _≤_, _<_}
 use native.Mathlib.Omega.{arith}
 use native.Mathlib.Decide.{ℕ-discrete}
 use lib.Dec.{eqb, ltb, leb}
-use lib.ListN.{length}
+use lib.ListN.{length, length-map}
 use borrow.Author.Tests.{ltb-false, leb-false}
 use Rattle.word.specs.declared.Node.{Node}
 use Rattle.word.specs.Word.{rankOf, parentOf, decode, before, key}
 use Rattle.word.proofs.Laws.{before-key}
 use Rattle.rules.specs.Table.{parent, rank}
-use Rattle.table.proofs.Words.{length-mapped}
 use Rattle.query.specs.Query.{wordAt, isFaulty, anyFaulty, refusal}
 use Rattle.query.specs.Ready.{Admitted}
 use Rattle.query.proofs.Words.{parent-decoded, rank-decoded}
@@ -139,7 +138,7 @@ module _ {words : List ℕ} {x y : ℕ} (accepted : Accepted words x y) where
   pub accepted-admitted : Admitted (length words) (map decode words)
   accepted-admitted =
       record {
-        nodes = length-mapped decode words;
+        nodes = length-map words decode;
         formed = record {
           limit = omega (arith, accepted .few);
           inside = λ i l. omega (arith, parent-decoded words i l, sane-at i l .inside);

@@ -8,9 +8,8 @@ use mathlib.Core.Path.{_≡_, refl, sym, ap, _∙_, subst}
 use mathlib.Core.Logic.{_≢_}
 use mathlib.Core.Bool.{true, false, cond, true≢false}
 use mathlib.Core.List.{List}
-use Prim.Native.Nat.{ℕ, suc, _<_}
+use Prim.Native.Nat.{ℕ, suc}
 use native.Mathlib.Omega.{arith}
-use native.Mathlib.Decide.{ℕ-discrete}
 use lib.Dec.{eqb}
 use lib.ListN.{set, length-set}
 use borrow.Author.Tests.{eqb-true, eqb-false}
@@ -37,7 +36,7 @@ use Rattle.linearization.proofs.Tests.{split}
 use Rattle.rules.specs.Report.{isFinal}
 use Rattle.rules.specs.Table.{at, parent, rank, seen, touched}
 use Rattle.rules.proofs.Table.{parent-changed, rank-changed}
-use Rattle.rules.proofs.Stages.{Inside, Finding, Above, ReadingParent, Halving, ReadingAgain, Rereading, Knows, side-node, knows-later, finding-begin}
+use Rattle.rules.proofs.Stages.{Inside, Finding, ReadingParent, Halving, ReadingAgain, Rereading, Knows, side-node, own-parent, above-parent, knows-later, finding-begin}
 use Rattle.rules.proofs.Steps.{ends-one, ends-two, finding-moved}
 use Rattle.table.specs.Touch.{Within}
 use Rattle.table.proofs.Within.{access-within}
@@ -76,29 +75,6 @@ module _ {n : ℕ} {t : List Node} {B : ℕ → ℕ} {a b : ℕ} (admitted : Adm
   read-last answer final says =
       record { admitted = admitted; labelled = labelled; inside = inside; knows = tt; rests = sym final; says = says }
 
-  -- the parent of a node above v is above v, too
-  above-parent : {v u : ℕ} → Above n (parent t) (rank t) B v u → Above n (parent t) (rank t) B v (parent t u)
-  above-parent {v} {u} above = go (ℕ-discrete (parent t u) u)
-    where
-      go : Dec (parent t u ≡ u) → Above n (parent t) (rank t) B v (parent t u)
-      go (yes e) = rw e above
-      go (no d) =
-          record {
-            node = admitted .formed .inside u (above .node);
-            lower = above .lower;
-            same = labelled .along u (above .node) ∙ above .same;
-            before = omega (arith, above .before, admitted .formed .rising u (above .node) d);
-          }
-
-  own-parent : (v : ℕ) → v < n → parent t v ≢ v → Above n (parent t) (rank t) B v (parent t v)
-  own-parent v node d =
-      record {
-        node = admitted .formed .inside v node;
-        lower = d;
-        same = labelled .along v node;
-        before = admitted .formed .rising v node d;
-      }
-
   -- ---- the end of a find
 
   -- at two nodes: if x is a root, their sets are two
@@ -134,7 +110,7 @@ module _ {n : ℕ} {t : List Node} {B : ℕ → ℕ} {a b : ℕ} (admitted : Adm
       (λ e. rw e (find-ended k s f (eqb-true (parent t v) v e)))
       (λ e. rw e
       (read-on (staged h (ReadParent k s (rank t v) (parent t v))) refl
-      (record { finding = f; parent = own-parent v (side-node h f s) (eqb-false (parent t v) v e); rank = refl })))
+      (record { finding = f; parent = own-parent (admitted .formed) labelled v (side-node h f s) (eqb-false (parent t v) v e); rank = refl })))
     where
       v : ℕ
       v = nodeAt h s
@@ -147,7 +123,7 @@ module _ {n : ℕ} {t : List Node} {B : ℕ → ℕ} {a b : ℕ} (admitted : Adm
       (record {
         finding = knows .finding;
         parent = knows .parent;
-        grandparent = above-parent (knows .parent);
+        grandparent = above-parent (admitted .formed) labelled (knows .parent);
         rank = knows .rank;
       })
 

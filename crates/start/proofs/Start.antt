@@ -27,7 +27,7 @@ use Rattle.rules.proofs.Invariant.{Invariant}
 use Rattle.rules.proofs.Theorem.{length-heads, start-invariant, fresh-startable}
 use Rattle.stepper.specs.Buffers.{flatRows}
 use Rattle.stepper.specs.Shown.{Standing}
-use Rattle.stepper.proofs.Lists.{getD-mapped}
+use Rattle.mask.proofs.Lists.{getD-mapped}
 use Rattle.start.specs.Start.{firstRequests, isRequest, workFlag}
 
 -- ---- the table

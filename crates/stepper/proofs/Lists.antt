@@ -8,7 +8,6 @@ use native.Mathlib.Omega.{arith}
 use lib.ListN.{length, getD, set}
 use Rattle.rules.specs.declared.Row.{Row}
 use Rattle.rules.specs.Report.{noRow}
-pub use Rattle.table.proofs.Words.{length-mapped, getD-mapped}
 use Rattle.stepper.specs.Buffers.{rowIn, stored, flatRows}
 
 pub length-rows : (rows : List Row) → length (flatRows rows) ≡ 4 * length rows

@@ -8,14 +8,15 @@ use mathlib.Core.Bool.{true, false}
 use mathlib.Core.List.{List, map}
 use Prim.Native.Nat.{ℕ, _<_}
 use native.Mathlib.Omega.{arith}
-use lib.ListN.{length, getD, set}
+use lib.ListN.{length, getD, set, length-map}
 use Rattle.word.specs.declared.Node.{Node}
 use Rattle.word.specs.Word.{decode, encode, same, rankOf, rankLimit}
 use Rattle.process.specs.declared.Access.{Access}
 use Rattle.process.specs.declared.Access.the-variants.{Idle, Load, Cas}
 use Rattle.rules.specs.Table.{noNode, at, seen, touched}
 use Rattle.table.specs.Touch.{Within, Worded, Touchable}
-use Rattle.table.proofs.Words.{length-mapped, set-mapped, at-decoded, encode-words}
+use Rattle.mask.proofs.Lists.{set-mapped}
+use Rattle.table.proofs.Words.{at-decoded, encode-words}
 
 -- both clauses of the code's contract
 abbrev pub Sees : List ℕ → Access → Node → List ℕ → Type 0
@@ -23,7 +24,7 @@ Sees words access found words′ = (found ≡ seen (map decode words) access) ×
 
 module _ (words : List ℕ) (worded : Worded (map decode words)) (i : ℕ) (node : i < length (map decode words)) where
   node-inside : i < length words
-  node-inside = omega (arith, node, length-mapped decode words)
+  node-inside = omega (arith, node, length-map words decode)
 
   node-rank : rankOf (getD words i 0) < rankLimit
   node-rank = omega (arith, ap (λ v. v .rank) (at-decoded words i node-inside), worded .rank i node)

@@ -7,8 +7,6 @@ use mathlib.Core.List.{List, [], _∷_, map}
 use Prim.Native.Nat.{ℕ, suc, _+_, _≤_, _<_}
 use native.Mathlib.Omega.{arith}
 use lib.Count.{ones}
-use lib.Dec.{ltb}
-use lib.ListN.{length}
 use Rattle.job.specs.declared.Request.{Request}
 use Rattle.job.specs.declared.Tally.{Tally}
 use Rattle.process.specs.declared.Head.{Head}

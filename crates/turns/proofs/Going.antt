@@ -3,37 +3,32 @@
 --   Going    the buffers show a state from which the rest of the schedule leads to the end of the whole run
 --
 -- Main laws: going-start, going-next and going-end.
-use mathlib.Core.Path.{_≡_, refl, sym, ap, ap₂, _∙_, subst}
-use mathlib.Core.Bool.{false}
-use mathlib.Core.List.{List, [], _∷_, _++_, map}
+use mathlib.Core.Path.{_≡_, sym, ap, ap₂, _∙_, subst}
+use mathlib.Core.List.{List, [], _∷_}
 use Prim.Native.Nat.{ℕ, suc, _+_, _*_, _≤_, _<_}
 use native.Mathlib.Omega.{arith}
-use lib.ListN.{length, getD, drop, length-append, length-drop, drop-of-length-le}
+use lib.ListN.{length, getD, drop, length-append, length-drop, drop-of-length-le, length-map}
 use lib.Seq.{drop-cons}
 use lib.Count.{ones}
 use Rattle.job.specs.declared.Request.{Request}
 use Rattle.job.specs.declared.Tally.{Tally}
 use Rattle.word.specs.Word.{encode}
 use Rattle.process.specs.declared.Head.{Head}
-use Rattle.linearization.specs.Partition.{apart}
 use Rattle.linearization.specs.Entry.{flat}
 use Rattle.linearization.proofs.Numbers.{length-flat}
 use Rattle.jobfile.specs.Meaning.{meaning}
 use Rattle.jobfile.proofs.Runs.{granted-longest}
-use Rattle.rules.specs.State.{State, hasWork, tallyOf}
+use Rattle.rules.specs.State.{State, tallyOf}
 use Rattle.rules.specs.Step.{step}
 use Rattle.rules.specs.Run.{Happening, run, happened}
 use Rattle.rules.proofs.Grant.{step-invariant}
 use Rattle.rules.proofs.Theorem.{step-heads}
-use Rattle.stepper.specs.declared.Done.{Done}
-use Rattle.stepper.specs.Buffers.{flatRows}
-use Rattle.stepper.specs.Shown.{Buffers, shown, doneOf, requestsIn, Playing, Standing}
-use Rattle.stepper.proofs.Lists.{length-mapped, length-rows}
+use Rattle.stepper.specs.Shown.{Buffers, requestsIn, Playing, Standing}
+use Rattle.stepper.proofs.Lists.{length-rows}
 use Rattle.stepper.proofs.Needs.{invariant-few, playing-inside, playing-admitted}
 use Rattle.turns.specs.declared.Progress.{Progress}
 use Rattle.turns.specs.declared.Ended.{Ended}
-use Rattle.turns.specs.Turns.{runsIn, remaining, countedOf, buffersOf, Turnable, Turned, firstProgress, firstTally, startOf, runOf, End, endAt, endOf, Startable}
-use Rattle.turns.proofs.Runs.{grants-few}
+use Rattle.turns.specs.Turns.{runsIn, remaining, countedOf, buffersOf, Turnable, Turned, firstProgress, firstTally, startOf, runOf, endAt, endOf, Startable}
 use Rattle.turns.proofs.Counters.{working-ones, counted-step, Small, counted-small}
 
 pub record Going (file : List ℕ) (requests : ℕ) (lent : List ℕ) (p : Progress) (tally : Tally) (table report linearization : List ℕ) : Type 0 where
@@ -128,7 +123,7 @@ module _ {file : List ℕ} {requests : ℕ} {lent : List ℕ} {p : Progress} {ta
         (counted : tally′ ≡ countedOf tally (p′ .done) (p′ .mask)) where
       table-after : length table′ ≡ length table
       table-after =
-          ap (λ c. length (c .table)) (turned .buffers) ∙ length-mapped encode (step qs (g .state) h .table)
+          ap (λ c. length (c .table)) (turned .buffers) ∙ length-map (step qs (g .state) h .table) encode
           ∙ step-invariant (playing-inside (g .playing) (g .nodes)) (g .standing .invariant) h present .nodes
 
       standing-after : Standing qs (length table′) 16 (buffersOf p′ table′ report′ linearization′) (p′ .number + 1) (step qs (g .state) h) (happened qs (g .state) h ∷ g .past) lent

@@ -1,21 +1,18 @@
 -- The cursor over the runs of a file: it is at the next grant of the schedule.
 --
 --   At rs c h rest   the cursor c is before a grant for head h, with the grants `rest` behind it
-use mathlib.Core.Path.{_≡_, refl, sym, ap, _∙_, subst}
+use mathlib.Core.Path.{_≡_, refl, sym, ap, _∙_}
 use mathlib.Core.Logic.{_≢_}
-use mathlib.Core.Bool.{cond}
 use mathlib.Core.List.{List, [], _∷_, _++_}
-use Prim.Native.Nat.{ℕ, zero, suc, _+_, _-_, _*_, _≤_, _<_}
+use Prim.Native.Nat.{ℕ, zero, suc, _+_, _-_, _≤_, _<_}
 use native.Mathlib.Omega.{arith}
 use native.Mathlib.Decide.{ℕ-discrete, decLt}
-use lib.Dec.{eqb}
 use lib.ListN.{length, getD, drop, replicate}
 use borrow.Author.Tests.{eq-eqb, ne-eqb}
 use Rattle.jobfile.specs.declared.Run.{Run}
 use Rattle.jobfile.specs.Format.{mostGrants}
 use Rattle.jobfile.specs.Meaning.{meaning, granted}
-use Rattle.jobfile.specs.Written.{longestRuns}
-use Rattle.jobfile.proofs.Runs.{Following, Follows, longest-follow}
+use Rattle.jobfile.proofs.Runs.{Follows, longest-follow}
 use Rattle.jobfile.proofs.Places.{granted-next, granted-end, file-length, file-short, few-grants}
 use Rattle.stepper.specs.Shown.{Playing}
 use Rattle.stepper.proofs.Needs.{playing-admitted}

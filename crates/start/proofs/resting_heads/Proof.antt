@@ -1,12 +1,12 @@
 -- `start::resting_heads`: the heads before h rest before their first requests.
-use mathlib.Core.Path.{_≡_, refl, ap, _∙_}
+use mathlib.Core.Path.{_≡_, refl, _∙_}
 use mathlib.Core.List.{map}
 use borrow.Author.Needs.{needs}
 use native.Mathlib.Omega.{arith}
 use Prim.Native.Nat.{_-_}
 use lib.ListN.{length, getD, length-map}
 use Rattle.rules.specs.State.{resting}
-use Rattle.stepper.proofs.Lists.{getD-mapped}
+use Rattle.mask.proofs.Lists.{getD-mapped}
 use Rattle.start.proofs.Loops.{Filled, filled-none, filled-on, filled-all}
 use Rattle.start.proofs.resting_heads.Statement.{statement}
 use Rattle.start.proofs.resting_heads.Tie as tie
