@@ -2,3 +2,4 @@
 pub mod Prepared
 pub mod Along
 pub mod Again
+pub mod Walks
