@@ -63,7 +63,7 @@ use Rattle.lent.proofs.grouping_play_lent.Code as code
 use Rattle.lent.proofs.grouping_play_lent.Code.Mir as mir-of
 use Held.{Parameters, Loans, lists₀, tally-pointer, Back, Buffers, Owner, Passed, Kept, Lending, Over, lends, comes}
 use Calls.{Prepare, Opened, TurnOn, Add, Closed, Known, Told, Prepares, to-prepare, goes-prepare, Prepared-with, told-prepare, to-opened, goes-opened, told-opened}
-use Frame.{stayed, τ, Here, lifetimes, shares, x, at, values, room, full, Locals, Post, Runs}
+use Frame.{entry, stayed, τ, Here, lifetimes, shares, x, at, values, room, full, Locals, Post, Runs}
 use Loop.{looped}
 
 module _ (w : Setting) (P : Parameters) where
@@ -101,7 +101,7 @@ module _ (w : Setting) (P : Parameters) where
         is-progress = LL.owed (plan-struct .type) (plan-struct .laws) (z .result) _ is-plan .1 .0
 
         start : (h : Tally) → h ≡ openedOf (P .tally .entry) (z .result) → Here P (z .result .counts)
-        start h e = along-start (P .file .entry) (P .table .entry) (P .report .entry) (P .linearization .entry) (P .tally .entry) (z .left .table) (z .left .report) (z .left .linearization) (z .result) h (prepared .bytes) (prepared .exact) e (prepared .same .table) (prepared .same .report) (prepared .same .linearization)
+        start h e = along-start (entry P) (z .left .table) (z .left .report) (z .left .linearization) (z .result) h (prepared .bytes) (prepared .exact) e (prepared .same .table) (prepared .same .report) (prepared .same .linearization)
 
     -- the slices are lent on to `prepare`, and come back
     preparing : Sq W (Buffers w P (lists₀ P) ++ Owner w P (P .tally .entry) ++ Locals w L P (room w L 8) (room w L 7) (room w L 6)) (Runs w P known L mir-of.t-1)

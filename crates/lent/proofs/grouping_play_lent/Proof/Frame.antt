@@ -30,11 +30,12 @@ use denote.Exit.{yes}
 use Rattle.job.specs.declared.Tally.{Tally}
 use Rattle.job.specs.declared.Played.{Played}
 use Rattle.reader.specs.declared.Checked.{Checked}
-use Rattle.lent.proofs.Along.{Along, Ended}
+use Rattle.lent.proofs.Along.{Entry, Along, Ended}
 use Rattle.lent.proofs.Walks.{Setting, Lent, at-name, row, tally-struct, played-struct}
 use Rattle.lent.proofs.grouping_play_lent as f
 use Rattle.lent.proofs.grouping_play_lent.Code.Mir as mir-of
-use Rattle.lent.proofs.grouping_play_lent.Proof.Held.{Parameters, Lists, SameLengths, slice-value, lists₀, tally-pointer, Buffers}
+use Rattle.lent.proofs.Again.{slice-value}
+use Rattle.lent.proofs.grouping_play_lent.Proof.Held.{Parameters, Lists, SameLengths, lists₀, tally-pointer, Buffers}
 use Rattle.lent.proofs.grouping_play_lent.Proof.Calls.{Known}
 
 abbrev pub stayed : Stays (f.ended .signature .params) (f.ended .kept)
@@ -48,9 +49,12 @@ abbrev pub τ : ℕ → Ty
 τ k = tyOf (getD mir-of.locals k (local tyUnit valueLocal))
 
 -- where the loop is, and the lists there
+abbrev pub entry : Parameters → Entry
+entry P = record { file = P .file .entry; table = P .table .entry; report = P .report .entry; linearization = P .linearization .entry; tally = P .tally .entry }
+
 module _ (P : Parameters) (counts : Checked) where
   abbrev pub Here : Type 0
-  Here = Along (P .file .entry) (P .table .entry) (P .report .entry) (P .linearization .entry) (P .tally .entry) counts
+  Here = Along (entry P) counts
 
   abbrev pub listsOf : Here → Lists
   listsOf a = record { table = a .table; report = a .report; linearization = a .linearization }
@@ -120,7 +124,7 @@ module _ (w : Setting) (P : Parameters) where
       ‵ (row played-struct .own r (v ∷ [])) ∷ ‵ (fobs (P .tally .name) (row tally-struct .coded .code (a .tally))) ∷ ‵ (fbor (P .tally .lifetime) (Holding (mem (row tally-struct)) (P .tally .block) (P .tally .offset) (P .tally .name)))
       ∷ ‵ (flft (P .tally .lifetime) (P .tally .share)) ∷ Buffers w P (listsOf P counts a)
 
-  pub exits : (counts : Checked) (a : Here P counts) (r : Played) (v : Val) → Ended (P .file .entry) (P .table .entry) (P .report .entry) (P .linearization .entry) (P .tally .entry) counts a r
+  pub exits : (counts : Checked) (a : Here P counts) (r : Played) (v : Val) → Ended (entry P) counts a r
       → ent 𝓤 (⋆ 𝓤 H A (AtExit counts a r v)) (Post v)
   exits counts a r v e =
       qed W (AtExit counts a r v) ∵

@@ -40,9 +40,10 @@ use Rattle.lent.specs.Lent.{closedOf}
 use Rattle.lent.proofs.Along.{along-turnable, along-roomy, along-number, along-next, along-end}
 use Rattle.lent.proofs.Walks.{Setting, row, value, IsValue, told, typed, sees, makes, opens-value, tally-struct, checked-struct, progress-struct, played-struct}
 use Rattle.lent.proofs.grouping_play_lent.Code.Mir as mir-of
-use Rattle.lent.proofs.grouping_play_lent.Proof.Held.{Parameters, Lists, Loan, Loans, TallyHeld, Back, Buffers, Owner, Passed, Kept, Lending, Over, lends, comes}
+use Rattle.lent.proofs.Again.{loan}
+use Rattle.lent.proofs.grouping_play_lent.Proof.Held.{Parameters, Lists, Loans, TallyHeld, Back, Buffers, Owner, Passed, Kept, Lending, Over, lends, comes}
 use Rattle.lent.proofs.grouping_play_lent.Proof.Calls.{TurnOn, Add, Closed, Known, Told, Turns, to-turn, goes-turn, Turned-with, told-turn, TallyLent, to-add, goes-add, told-add, to-closed, goes-closed, told-closed}
-use Rattle.lent.proofs.grouping_play_lent.Proof.Frame.{τ, Here, listsOf, long, En, room, full, Locals, Post, exits, Runs}
+use Rattle.lent.proofs.grouping_play_lent.Proof.Frame.{entry, τ, Here, listsOf, long, En, room, full, Locals, Post, exits, Runs}
 
 -- a turn's last two statements: the tally is lent on, and `add` is called
 abbrev rest : Body → Body
@@ -59,9 +60,6 @@ rest (call n a p) = skip
 
 abbrev adds : Body
 adds = rest (rest (rest (rest (rest (rest (rest (rest (rest mir-of.turn-1))))))))
-
-abbrev loan : ℕ → GName → Loan
-loan ν δ = record { lifetime = ν; name = δ }
 
 module _ (w : Setting) (P : Parameters) (known : Known w) (L : ℕ → ℕ) (counts : Checked) (is-counts : IsValue checked-struct counts) where
   open Setting w using (𝓤, H, A, W)
@@ -122,7 +120,7 @@ module _ (w : Setting) (P : Parameters) (known : Known w) (L : ℕ → ℕ) (cou
         move ! (32 ∷ 33 ∷ []) $ free1 ! $ move ! (30 ∷ 31 ∷ []) $ free1 ! $ move ! (28 ∷ 29 ∷ []) $ free1 ! $ move ! (26 ∷ 27 ∷ []) $ free1 ! $ move ! (24 ∷ 25 ∷ []) $ free1 ! $
         move ! (22 ∷ 23 ∷ []) $ free1 ! $ move ! (20 ∷ 21 ∷ []) $ free1 ! $ move ! (18 ∷ 19 ∷ []) $ free1 ! $ move ! (16 ∷ 17 ∷ []) $ free1 ! $ move ! (14 ∷ 15 ∷ []) $ free1 ! $
         move ! (12 ∷ 13 ∷ []) $ free1 ! $ free0 ! $
-        by ! (exits w P counts a r v (along-end (P .file .entry) (P .table .entry) (P .report .entry) (P .linearization .entry) (P .tally .entry) counts a over r e)))))))
+        by ! (exits w P counts a r v (along-end (entry P) counts a over r e)))))))
 
     abbrev TallyKept : ℕ → GName → Fml
     TallyKept ν δ = LentRef (row tally-struct) (P .tally .lifetime) (ν ∷ []) (P .tally .share) (P .tally .name) (P .tally .block) (P .tally .offset) δ (a .tally)
@@ -148,16 +146,16 @@ module _ (w : Setting) (P : Parameters) (known : Known w) (L : ℕ → ℕ) (cou
           again ! Nearer At s (next, is-p) nearer))))
         where
           roomy : Roomy (a .tally)
-          roomy = along-roomy (P .file .entry) (P .table .entry) (P .report .entry) (P .linearization .entry) (P .tally .entry) counts a more
+          roomy = along-roomy (entry P) counts a more
 
           h′ : Tally
           h′ = countedOf (a .tally) (z .result .done) (z .result .mask)
 
           next : Here P counts
-          next = along-next (P .file .entry) (P .table .entry) (P .report .entry) (P .linearization .entry) (P .tally .entry) counts a more (z .result) (z .left .table) (z .left .report) (z .left .linearization) h′ (turned .same .table) (turned .same .report) (turned .same .linearization) (turned .does) refl
+          next = along-next (entry P) counts a more (z .result) (z .left .table) (z .left .report) (z .left .linearization) h′ (turned .same .table) (turned .same .report) (turned .same .linearization) (turned .does) refl
 
           nearer : counts .grants - z .result .number < counts .grants - a .progress .number
-          nearer = omega (arith, more, along-number (P .file .entry) (P .table .entry) (P .report .entry) (P .linearization .entry) (P .tally .entry) counts a more (z .result) (z .left .table) (z .left .report) (z .left .linearization) h′ (turned .same .table) (turned .same .report) (turned .same .linearization) (turned .does) refl)
+          nearer = omega (arith, more, along-number (entry P) counts a more (z .result) (z .left .table) (z .left .report) (z .left .linearization) h′ (turned .same .table) (turned .same .report) (turned .same .linearization) (turned .does) refl)
 
       -- the slices are lent on to `turn_on`, and come back
       turning : ltb (a .progress .number) (counts .grants) ≡ true → Sq W (At s) (runs C Λ (En w L) mir-of.turn-1 (anyQ (Turned s)))
@@ -172,7 +170,7 @@ module _ (w : Setting) (P : Parameters) (known : Known w) (L : ℕ → ℕ) (cou
           assigns ! (agg ! (and-then ! (load ! (from ! (stop !)) (look ! 16 refl)) (and-then ! (load ! (from ! (fld ! refl (stop !))) (look-in ! 52 (sub ! 1 refl (whole !)))) (no-more !)))) (from ! (stop !)) (init ! 14 refl (tt, (tt, (record { fits = P .linearization-room .0 }, tt)))) $
           cut (Buffers w P b) (later (some (λ (n : Loans). raw (⋆ 𝓤 H A (Lending w P n b)))) ∷ []) _ (lends w P b (long P counts a)) $ await ! tt $ pick ! (λ n.
           cut (raw (⋆ 𝓤 H A (Lending w P n b)) ∷ []) (Lending w P n b) _ (id⊢ 𝓤 _) $
-          cut (Passed w P n b) (raw (TurnOn w .pre (to-turn w P counts (a .progress) b n)) ∷ []) _ (goes-turn w P counts (a .progress) b is-counts (s .1) (along-turnable (P .file .entry) (P .table .entry) (P .report .entry) (P .linearization .entry) (P .tally .entry) counts a more) n) $
+          cut (Passed w P n b) (raw (TurnOn w .pre (to-turn w P counts (a .progress) b n)) ∷ []) _ (goes-turn w P counts (a .progress) b is-counts (s .1) (along-turnable (entry P) counts a more) n) $
           calls-at ! fm (TurnOn w) (known .turn-on) (to-turn w P counts (a .progress) b n)
           (and-then ! (load ! (from ! (stop !)) (look ! 55 refl)) (and-then ! (load ! (from ! (stop !)) (look ! 43 refl)) (and-then ! (load ! (from ! (stop !)) (look ! 41 refl)) (and-then ! (load ! (from ! (stop !)) (look ! 19 refl)) (and-then ! (load ! (from ! (stop !)) (look ! 15 refl)) (and-then ! (load ! (from ! (stop !)) (look ! 11 refl)) (no-more !))))))) (λ v.
           use1 W (later (some (λ (z : Told Progress). given (Turns P counts (a .progress) b z) (raw (⋆ 𝓤 H A (Turned-with w P counts (a .progress) b n v z)))))) (told-turn w P counts (a .progress) b n v) $ await ! tt $ pick ! (λ z. learn ! (λ turned.
