@@ -106,11 +106,11 @@ module _ (P : Parameters) where
   abbrev pub shares : Share × (Share × (Share × (Share × Unit {0})))
   shares = (P .file .share, (fullShare, (fullShare, (fullShare, tt))))
 
-  abbrev Does-prepare : Told Plan → Type 0
-  Does-prepare z = (_≡_ {A = Prepared} (record { table = z .left .table; report = z .left .report; linearization = z .left .linearization; plan = z .result }) (preparedOf (P .file .entry) (P .table .entry) (P .report .entry) (P .linearization .entry))) × Bytes (P .file .entry)
+  abbrev pub Exact : Told Plan → Type 0
+  Exact z = _≡_ {A = Prepared} (record { table = z .left .table; report = z .left .report; linearization = z .left .linearization; plan = z .result }) (preparedOf (P .file .entry) (P .table .entry) (P .report .entry) (P .linearization .entry))
 
   pub record Prepares (z : Told Plan) : Type 0 where
-    pub exact : _≡_ {A = Prepared} (record { table = z .left .table; report = z .left .report; linearization = z .left .linearization; plan = z .result }) (preparedOf (P .file .entry) (P .table .entry) (P .report .entry) (P .linearization .entry))
+    pub exact : Exact z
     pub bytes : Bytes (P .file .entry)
     pub same : SameLengths (z .left) (lists₀ P)
 
@@ -144,8 +144,8 @@ module _ (w : Setting) (P : Parameters) where
   told-prepare n v =
       qed W (raw (Prepare w .post (to-prepare n) v) ∷ []) ∵ updating ! $
       use1 W (later (some (λ (r : Plan). (Tokens w P n ⊛ ‵ (row plan-struct .own r (v ∷ []))) ⊛ raw (ensured 𝓤 H A prepare.ended (prepare.clauses 𝓤 H A at-mem run) (lifetimes P n) (file-passed P, slices-passed P n (lists₀ P)) tt r)))) (id⊢ 𝓤 _) $ await ! tt $ pick ! (λ r. split ! $ move ! (1 ∷ []) $
-      use1 W (some (λ (zs : Unit {0} × ThreeLists). ‵ (lasts prepare.ended (lifetimes P n) (file-passed P, slices-passed P n (lists₀ P)) zs) ⊛ raw (fact 𝓤 (Does-prepare P (told r (zs .1)))))) (id⊢ 𝓤 _) $ pick ! (λ zs. split ! $ move ! (1 ∷ []) $
-      heard ! (Does-prepare P (told r (zs .1))) (λ e. fsplit ! $ drop ! $ move ! (1 ∷ 0 ∷ []) $
+      use1 W (some (λ (zs : Unit {0} × ThreeLists). ‵ (lasts prepare.ended (lifetimes P n) (file-passed P, slices-passed P n (lists₀ P)) zs) ⊛ raw (fact 𝓤 (Exact P (told r (zs .1)) × Bytes (P .file .entry))))) (id⊢ 𝓤 _) $ pick ! (λ zs. split ! $ move ! (1 ∷ []) $
+      heard ! (Exact P (told r (zs .1)) × Bytes (P .file .entry)) (λ e. fsplit ! $ drop ! $ move ! (1 ∷ 0 ∷ []) $
       -- [the tokens and the result; the last lists]
       cut ((Tokens w P n ⊛ ‵ (row plan-struct .own r (v ∷ []))) ∷ ‵ (Lasts n (lists₀ P) (told r (zs .1) .left)) ∷ []) (given (SameLengths (told r (zs .1) .left) (lists₀ P)) (raw (⋆ 𝓤 H A (Prepared-with n v (told r (zs .1))))) ∷ []) _ (over w P (row plan-struct .own r (v ∷ [])) n (lists₀ P) (told r (zs .1) .left)) $ learn ! (λ same.
       at-once ! $ show ! (λ (z : Told Plan). guard 𝓤 (Prepares P z) (⋆ 𝓤 H A (Prepared-with n v z))) (told r (zs .1)) $ check ! (record { exact = e .0; bytes = e .1; same = same }) $ done !))))
