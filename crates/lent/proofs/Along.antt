@@ -1,16 +1,17 @@
 -- The invariant of the loop over the grants, on lent buffers and a lent tally.
 --
+--   Entry       the file, the buffers and the tally as they were lent
 --   Unchanged   refused: nothing was written, and there is no grant to play
 --   Lending     accepted: the parts that the job needs stand as the rules' run so far, the rest is as lent
 --   Along       where the loop is: the one or the other, and every buffer is as long as it was
 --
 -- Main laws: along-start, along-next and along-end.
-use mathlib.Core.Path.{_≡_, refl, sym, ap, ap₂, _∙_, subst, subst₂}
+use mathlib.Core.Path.{_≡_, refl, sym, ap, _∙_, subst, subst₂}
 use mathlib.Core.Logic.{_≢_}
 use mathlib.Core.List.{List, _++_, map}
 use Prim.Native.Nat.{ℕ, _+_, _*_, _≤_, _<_}
 use native.Mathlib.Omega.{arith}
-use native.Mathlib.Decide.{ℕ-discrete, decLt}
+use native.Mathlib.Decide.{ℕ-discrete}
 use lib.Count.{ones}
 use lib.ListN.{length, take, drop, replicate, take-append-drop, length-replicate, length-map}
 use lib.Seq.{take-at, drop-at, length-take-le}
@@ -64,7 +65,16 @@ turned-on {file} {counts} {p} {p′} {linearization} {linearization′} {S} {len
 
 -- ---- the invariant
 
-module _ (file table₀ report₀ linearization₀ : List ℕ) (tally₀ : Tally) (counts : Checked) where
+pub record Entry : Type 0 where
+  pub file : List ℕ
+  pub table : List ℕ
+  pub report : List ℕ
+  pub linearization : List ℕ
+  pub tally : Tally
+
+module _ (E : Entry) (counts : Checked) where
+  open Entry E using (file, table as table₀, report as report₀, linearization as linearization₀, tally as tally₀)
+
   abbrev n : ℕ
   n = counts .nodes
 
@@ -179,33 +189,21 @@ module _ (file table₀ report₀ linearization₀ : List ℕ) (tally₀ : Tally
         }
 
     module _ (l : Lending (a .progress) (a .tally) (a .table) (a .report) (a .linearization)) (over : counts .grants ≤ a .progress .number) where
-      ended-cut : _≡_ {A = Left} (record {
-        table = a .table;
-        report = a .report;
-        linearization = a .linearization;
-        result = record { number = 0; nodes = counts .nodes; heads = counts .heads; requests = counts .requests; grants = counts .grants; entries = a .progress .entries; tally = a .tally };
-      })
-          (cutOf (meaning file .job) table₀ report₀ linearization₀)
+      abbrev answer : Played
+      answer = record { number = 0; nodes = counts .nodes; heads = counts .heads; requests = counts .requests; grants = counts .grants; entries = a .progress .entries; tally = a .tally }
+
+      table-cut : a .table ≡ take n (a .table) ++ drop n table₀
+      table-cut = sym (take-append-drop n (a .table)) ∙ ap (λ d. take n (a .table) ++ d) (l .table-rest)
+
+      report-cut : a .report ≡ take m (a .report) ++ drop m report₀
+      report-cut = sym (take-append-drop m (a .report)) ∙ ap (λ d. take m (a .report) ++ d) (l .report-rest)
+
+      ended-cut : _≡_ {A = Left} (record { table = a .table; report = a .report; linearization = a .linearization; result = answer }) (cutOf (meaning file .job) table₀ report₀ linearization₀)
       ended-cut =
-          let whole = whole-left (l .checks) linearization₀ (take n (a .table)) (take m (a .report)) (a .linearization) _
-          (going-end (l .going) (omega (arith, over, ap (λ k. k .grants) (l .checks .counts))) (record { entries = a .progress .entries; tally = a .tally }) refl) in
-          let lists : (t r : List ℕ) → t ≡ take n (a .table) ++ drop n table₀ → r ≡ take m (a .report) ++ drop m report₀ → _≡_ {A = Left} (record {
-            table = t;
-            report = r;
-            linearization = a .linearization;
-            result = record { number = 0; nodes = counts .nodes; heads = counts .heads; requests = counts .requests; grants = counts .grants; entries = a .progress .entries; tally = a .tally };
-          })
-          (cutOf (meaning file .job) table₀ report₀ linearization₀) =
-          λ t r et er. (λ i. record {
-            table = et i;
-            report = er i;
-            linearization = a .linearization;
-            result = record { number = 0; nodes = counts .nodes; heads = counts .heads; requests = counts .requests; grants = counts .grants; entries = a .progress .entries; tally = a .tally };
-          })
-          ∙ cut-left (meaning file .job) n m table₀ report₀ linearization₀ _ (ap (λ k. k .nodes) (l .checks .counts)) (ap (λ k. 4 * k .requests) (l .checks .counts)) whole in
-          lists (a .table) (a .report)
-          (sym (take-append-drop n (a .table)) ∙ ap (λ d. take n (a .table) ++ d) (l .table-rest))
-          (sym (take-append-drop m (a .report)) ∙ ap (λ d. take m (a .report) ++ d) (l .report-rest))
+          let going = going-end (l .going) (omega (arith, over, ap (λ k. k .grants) (l .checks .counts))) (record { entries = a .progress .entries; tally = a .tally }) refl in
+          let whole = whole-left (l .checks) linearization₀ (take n (a .table)) (take m (a .report)) (a .linearization) _ going in
+          (λ i. record { table = table-cut i; report = report-cut i; linearization = a .linearization; result = answer })
+          ∙ cut-left (meaning file .job) n m table₀ report₀ linearization₀ _ (ap (λ k. k .nodes) (l .checks .counts)) (ap (λ k. 4 * k .requests) (l .checks .counts)) whole
 
       pub lending-end : counts .number ≡ 0 → Ended a (closedOf counts (a .progress) (a .tally))
       unfolding playedOf tallyLeft
@@ -226,24 +224,26 @@ module _ (file table₀ report₀ linearization₀ : List ℕ) (tally₀ : Tally
 
 -- ---- the start
 
-module _ (file table₀ report₀ linearization₀ : List ℕ) (tally₀ : Tally) (table report linearization : List ℕ) (plan : Plan) (tally : Tally) (bytes : Bytes file)
-    (prepared : _≡_ {A = Prepared} (record { table = table; report = report; linearization = linearization; plan = plan }) (preparedOf file table₀ report₀ linearization₀))
-    (is-tally : tally ≡ openedOf tally₀ plan) where
-  abbrev none : ℕ
-  none = refusal file (length table₀) (length report₀) (length linearization₀)
+module _ (E : Entry) (table report linearization : List ℕ) (plan : Plan) (tally : Tally) (bytes : Bytes (E .file))
+    (prepared : _≡_ {A = Prepared} (record { table = table; report = report; linearization = linearization; plan = plan }) (preparedOf (E .file) (E .table) (E .report) (E .linearization)))
+    (is-tally : tally ≡ openedOf (E .tally) plan) where
+  open Entry E using (file, table as table₀, report as report₀, linearization as linearization₀, tally as tally₀)
+
+  abbrev number : ℕ
+  number = refusal file (length table₀) (length report₀) (length linearization₀)
 
   -- ---- refused
 
-  module _ (d : none ≢ 0) where
+  module _ (d : number ≢ 0) where
     was-refused : _≡_ {A = Prepared} (record { table = table; report = report; linearization = linearization; plan = plan })
-        (record { table = table₀; report = report₀; linearization = linearization₀; plan = refusedPlan none })
+        (record { table = table₀; report = report₀; linearization = linearization₀; plan = refusedPlan number })
     unfolding preparedOf
-    was-refused = prepared ∙ rw (ne-eqb none 0 d) refl
+    was-refused = prepared ∙ rw (ne-eqb number 0 d) refl
 
-    number-refused : plan .counts .number ≡ none
+    number-refused : plan .counts .number ≡ number
     number-refused = ap (λ x. x .plan .counts .number) was-refused
 
-    unchanged-start : Unchanged file table₀ report₀ linearization₀ tally₀ (plan .counts) tally table report linearization
+    unchanged-start : Unchanged E (plan .counts) tally table report linearization
     unchanged-start =
         record {
           refused = d;
@@ -257,14 +257,14 @@ module _ (file table₀ report₀ linearization₀ : List ℕ) (tally₀ : Tally
 
   -- ---- accepted
 
-  module _ (e : none ≡ 0) (table-long : length table ≡ length table₀) (report-long : length report ≡ length report₀) where
+  module _ (e : number ≡ 0) (table-long : length table ≡ length table₀) (report-long : length report ≡ length report₀) where
     abbrev j : Job
     j = meaning file .job
 
     was-accepted : _≡_ {A = Prepared} (record { table = table; report = report; linearization = linearization; plan = plan })
         (record { table = cutLaidOf file table₀ report₀ .table; report = cutLaidOf file table₀ report₀ .report; linearization = linearization₀; plan = acceptedPlan file })
     unfolding preparedOf
-    was-accepted = prepared ∙ rw (eq-eqb none 0 e) refl
+    was-accepted = prepared ∙ rw (eq-eqb number 0 e) refl
 
     counts-are : plan .counts ≡ countsOf (meaning file)
     counts-are = ap (λ x. x .plan .counts) was-accepted
@@ -316,7 +316,7 @@ module _ (file table₀ report₀ linearization₀ : List ℕ) (tally₀ : Tally
         (ap (take (4 * plan .counts .requests)) report-is ∙ take-at (replicate (4 * plan .counts .requests) 0) (drop (4 * plan .counts .requests) report₀) (4 * plan .counts .requests) (length-replicate (4 * plan .counts .requests) 0)))
         (plan .progress) tally progress-is tally-is
 
-    lending-start : Lending file table₀ report₀ linearization₀ tally₀ (plan .counts) (plan .progress) tally table report linearization
+    lending-start : Lending E (plan .counts) (plan .progress) tally table report linearization
     lending-start =
         record {
           accepted = e;
@@ -333,17 +333,17 @@ module _ (file table₀ report₀ linearization₀ : List ℕ) (tally₀ : Tally
 
   -- ---- either way
 
-  pub refused-by : Dec (none ≡ 0) → length table ≡ length table₀ → length report ≡ length report₀ → plan .counts .number ≢ 0
-      → Unchanged file table₀ report₀ linearization₀ tally₀ (plan .counts) tally table report linearization
-  refused-by (yes e) tl rl d = absurd (d (ap (λ c. c .number) (counts-are e tl rl) ∙ roomy e tl rl .checks .accepted))
-  refused-by (no d) tl rl _ = unchanged-start d
+  pub refused-by : Dec (number ≡ 0) → length table ≡ length table₀ → length report ≡ length report₀ → plan .counts .number ≢ 0
+      → Unchanged E (plan .counts) tally table report linearization
+  refused-by (yes e) table-long report-long d = absurd (d (ap (λ c. c .number) (counts-are e table-long report-long) ∙ roomy e table-long report-long .checks .accepted))
+  refused-by (no d) table-long report-long _ = unchanged-start d
 
-  pub accepted-by : Dec (none ≡ 0) → length table ≡ length table₀ → length report ≡ length report₀ → plan .counts .number ≡ 0
-      → Lending file table₀ report₀ linearization₀ tally₀ (plan .counts) (plan .progress) tally table report linearization
-  accepted-by (yes e) tl rl _ = lending-start e tl rl
-  accepted-by (no d) tl rl z = absurd (d (sym (number-refused d) ∙ z))
+  pub accepted-by : Dec (number ≡ 0) → length table ≡ length table₀ → length report ≡ length report₀ → plan .counts .number ≡ 0
+      → Lending E (plan .counts) (plan .progress) tally table report linearization
+  accepted-by (yes e) table-long report-long _ = lending-start e table-long report-long
+  accepted-by (no d) table-long report-long z = absurd (d (sym (number-refused d) ∙ z))
 
-  abbrev pub along-start : length table ≡ length table₀ → length report ≡ length report₀ → length linearization ≡ length linearization₀ → Along file table₀ report₀ linearization₀ tally₀ (plan .counts)
+  abbrev pub along-start : length table ≡ length table₀ → length report ≡ length report₀ → length linearization ≡ length linearization₀ → Along E (plan .counts)
   along-start table-long report-long linearization-long =
       record {
         progress = plan .progress;
@@ -354,6 +354,6 @@ module _ (file table₀ report₀ linearization₀ : List ℕ) (tally₀ : Tally
         table-long = table-long;
         report-long = report-long;
         linearization-long = linearization-long;
-        refused = refused-by (ℕ-discrete none 0) table-long report-long;
-        accepted = accepted-by (ℕ-discrete none 0) table-long report-long;
+        refused = refused-by (ℕ-discrete number 0) table-long report-long;
+        accepted = accepted-by (ℕ-discrete number 0) table-long report-long;
       }
