@@ -1,5 +1,4 @@
 -- `lent::opened`: the first tally where the job is accepted, else the tally as lent.
-use mathlib.Core.Path.{_∙_, sym}
 use borrow.Author.Tests.{eq-eqb, ne-eqb}
 use borrow.Author.Needs.{needs}
 use Rattle.lent.proofs.opened.Statement.{statement}
