@@ -54,8 +54,8 @@ pub fn first_requests(file: &[u8], requests: u32) -> [u16; 16]
     firsts
 }
 
-// Every head resting before its first request. The loop does nothing but store whole heads: the compiler then keeps the
-// array in registers' pieces, and a grant copies it twice as fast (docs/DECISIONS.md, "Heads by value").
+// Every head resting before its first request. The loop only stores whole heads, so that the compiler cuts the array into
+// pieces of a register's size and a grant copies it fast (docs/DECISIONS.md, "Heads by value, and speed").
 pub fn resting_heads(firsts: [u16; 16]) -> [Head; 16]
     ensures { λ r. ⌜ r ≡ map resting firsts ⌝ }
 {

@@ -1,11 +1,12 @@
 // One grant on the lent buffers: the head's access to the table, and what it leaves in report and linearization.
 mod buffers;
+mod heads;
 pub mod requests;
 
 use crate::buffers::charge_row;
 use crate::buffers::enter;
-use crate::requests::ready_head;
-use crate::requests::settled_head;
+use crate::heads::ready_head;
+use crate::heads::settled_head;
 use process::Head;
 ghost use mathlib.Core.Path.{_≡_};
 ghost use mathlib.Core.Bool.{true, cond};

@@ -1,9 +1,9 @@
--- `stepper::requests::ready_head`: a resting head begins its next request.
+-- `stepper::heads::ready_head`: a resting head begins its next request.
 use mathlib.Core.Path.{sym, _∙_}
 use Rattle.rules.specs.State.{noRequest}
 use borrow.Author.Needs.{needs}
-use Rattle.stepper.proofs.requests.ready_head.Statement.{statement}
-use Rattle.stepper.proofs.requests.ready_head.Tie as tie
+use Rattle.stepper.proofs.heads.ready_head.Statement.{statement}
+use Rattle.stepper.proofs.heads.ready_head.Tie as tie
 
 is-resting-requires : tie.Need-is-resting-requires
 is-resting-requires c κs = search needs

@@ -1,12 +1,12 @@
--- `stepper::requests::settled_head`: a finished request's head rests before its next one.
+-- `stepper::heads::settled_head`: a finished request's head rests before its next one.
 use Prim.Native.Nat.{_+_}
 use Rattle.stepper.specs.Shown.{requestsIn}
 use Rattle.stepper.proofs.Needs.{next-small, settled-final}
 use mathlib.Core.Path.{sym, _∙_}
 use native.Mathlib.Omega.{arith}
 use borrow.Author.Needs.{needs}
-use Rattle.stepper.proofs.requests.settled_head.Statement.{statement}
-use Rattle.stepper.proofs.requests.settled_head.Tie as tie
+use Rattle.stepper.proofs.heads.settled_head.Statement.{statement}
+use Rattle.stepper.proofs.heads.settled_head.Tie as tie
 
 is-final-requires : tie.Need-is-final-requires
 is-final-requires c κs = search needs
