@@ -40,7 +40,11 @@ same-length : tie.Need-same-length
 same-length c = search needs
 
 returns : tie.Need-returns
-returns c = put-output (now (c .before .before .before .before .before .before .before .before .before .before .before .before .before .before .before .before .args .file)) _ (c .before .before .before .before .before .before .before .before .before .before .play .ensures .0) (c .before .before .put-text .ensures)
+returns c =
+    let after-put-text = c .before .before in
+    let after-play = after-put-text .before .before .before .before .before .before .before .before in
+    let start = after-play .before .before .before .before .before .before in
+    put-output (now (start .args .file)) _ (after-play .play .ensures .0) (after-put-text .put-text .ensures)
 
 pub print-job-spec : {M : Type 1} → statement M
 print-job-spec =

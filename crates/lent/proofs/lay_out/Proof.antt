@@ -40,10 +40,15 @@ same-length-2 c = search needs
 
 returns : tie.Need-returns
 returns c =
+    let masked = c .before in
+    let rested = masked .before in
+    let found = rested .before in
+    let cleared = found .before .before .before in
+    let tabled = cleared .before .before .before .before in
     let k = c .before .before .before .before .before .before .before .before .before .before .before .before .before .before .before in
-    laid (k .pre .0) (c .before .before .before .first-requests .result) (c .before .before .resting-heads .result) (c .before .first-mask .result) (length (k .args .table .now)) (length (k .args .report .now)) _ _ (c .plan-of .result)
-    (c .before .before .before .first-requests .ensures) (c .before .before .resting-heads .ensures) (c .before .first-mask .ensures) (k .pre .1)
-    (c .before .before .before .before .before .before .before .before .before .before .fresh-table .ensures) (c .before .before .before .before .before .before .clear-report .ensures) (c .plan-of .ensures)
+    laid (k .pre .0) (found .first-requests .result) (rested .resting-heads .result) (masked .first-mask .result) (length (k .args .table .now)) (length (k .args .report .now)) _ _ (c .plan-of .result)
+    (found .first-requests .ensures) (rested .resting-heads .ensures) (masked .first-mask .ensures) (k .pre .1)
+    (tabled .fresh-table .ensures) (cleared .clear-report .ensures) (c .plan-of .ensures)
 
 pub lay-out-spec : {M : Type 1} → statement M
 lay-out-spec =

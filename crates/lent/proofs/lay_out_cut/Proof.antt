@@ -41,9 +41,10 @@ same-length-2 c = search needs
 
 returns : tie.Need-returns
 returns c =
+    let after-lay-out = c .before .before .before .before in
     let k = c .before .before .before .before .before .before .before .before .before .before .before .before in
     cut-laid (k .args .file .now) (k .args .counts .nodes) (4 * k .args .counts .requests) _ (k .args .table .now) (k .args .report .now) _ (ap (λ n. n .nodes) (k .pre .checks .counts)) (ap (λ n. 4 * n .requests) (k .pre .checks .counts))
-    (length-take-le (4 * k .args .counts .requests) (k .args .report .now) (omega (arith, k .pre .rows, ap (λ n. n .requests) (k .pre .checks .counts)))) (c .before .before .before .before .lay-out .ensures)
+    (length-take-le (4 * k .args .counts .requests) (k .args .report .now) (omega (arith, k .pre .rows, ap (λ n. n .requests) (k .pre .checks .counts)))) (after-lay-out .lay-out .ensures)
 
 pub lay-out-cut-spec : {M : Type 1} → statement M
 lay-out-cut-spec =

@@ -25,8 +25,11 @@ returns c =
 
 lay-out-cut-requires : tie.Need-lay-out-cut-requires
 lay-out-cut-requires c κs =
-    let a = c .before .before .before .before .before .before .before .before .before .args in
-    admission-roomy (a .file .now) (length (a .table .now)) (length (a .report .now)) (length (a .linearization .now)) _ (c .before .before .before .before .admission .ensures) (c .before .before .if1 .left)
+    let tested = c .before .before in
+    let judged = tested .before .before in
+    let start = judged .before .before .before .before .before in
+    let a = start .args in
+    admission-roomy (a .file .now) (length (a .table .now)) (length (a .report .now)) (length (a .linearization .now)) _ (judged .admission .ensures) (tested .if1 .left)
 
 same-length : tie.Need-same-length
 same-length c = search needs
@@ -36,11 +39,16 @@ same-length-2 c = search needs
 
 returns-2 : tie.Need-returns-2
 returns-2 c =
-    let a = c .before .before .before .before .before .before .before .before .before .before .before .before .before .before .args in (
+    let laid = c .before .before .before .before in
+    let tested = laid .before .before .before in
+    let judged = tested .before .before in
+    let known = judged .before .before .before .before in
+    let start = known .before in
+    let a = start .args in (
       prepared-accepted (a .file .now) (a .table .now) (a .report .now) (a .linearization .now) _
-          (sym (admission-number (a .file .now) (length (a .table .now)) (length (a .report .now)) (length (a .linearization .now)) _ (c .before .before .before .before .before .before .before .before .before .admission .ensures)) ∙ c .before .before .before .before .before .before .before .if1 .left)
-          (c .before .before .before .before .lay-out-cut .ensures),
-      λ i. omega (arith, c .before .before .before .before .before .before .before .before .before .before .before .before .before .shared-slice-known .given i),
+          (sym (admission-number (a .file .now) (length (a .table .now)) (length (a .report .now)) (length (a .linearization .now)) _ (judged .admission .ensures)) ∙ tested .if1 .left)
+          (laid .lay-out-cut .ensures),
+      λ i. omega (arith, known .shared-slice-known .given i),
     )
 
 pub prepare-spec : {M : Type 1} → statement M

@@ -15,15 +15,17 @@ put-rows-requires c κs =
 
 put-rows-requires-2 : tie.Need-put-rows-requires-2
 put-rows-requires-2 c κs =
-    let a = c .before .before .before .before .before .before .before .before .before .args in
+    let start = c .before .before .before .before .before .before .before .before .before in
+    let a = start .args in
     let whole = sections-length (a .played) (now (a .table)) (now (a .report)) (now (a .linearization)) in
-    (c .before .before .before .before .before .before .before .before .before .pre .0 .requests, omega (arith, c .before .before .before .before .before .before .before .before .before .pre .1, whole))
+    (start .pre .0 .requests, omega (arith, start .pre .1, whole))
 
 put-rows-requires-3 : tie.Need-put-rows-requires-3
 put-rows-requires-3 c κs =
-    let a = c .before .before .before .before .before .before .before .before .before .before .before .before .before .args in
+    let start = c .before .before .before .before .before .before .before .before .before .before .before .before .before in
+    let a = start .args in
     let whole = sections-length (a .played) (now (a .table)) (now (a .report)) (now (a .linearization)) in
-    (c .before .before .before .before .before .before .before .before .before .before .before .before .before .pre .0 .entries, omega (arith, c .before .before .before .before .before .before .before .before .before .before .before .before .before .pre .1, whole))
+    (start .pre .0 .entries, omega (arith, start .pre .1, whole))
 
 same-length : tie.Need-same-length
 same-length c = search needs

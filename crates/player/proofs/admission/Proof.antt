@@ -59,18 +59,29 @@ refuse-requires-4 c κs = search needs
 
 returns-4 : tie.Need-returns-4
 returns-4 c =
-    let a = c .before .before .before .before .before .before .before .before .before .before .before .args in
-    let k = c .before .before .before .before .before .before .before .before .before .check .ensures in
-    c .refuse4 .ensures ∙ admission-short (a .file .now) (a .table) (a .report) (a .linearization) (sym (ap (λ n. n .number) k) ∙ c .before .before .before .before .before .before .before .if1 .left)
-    (short-linearization (meaning (a .file .now) .job) _ _ _ (omega (arith, c .before .before .before .before .before .if2 .left, ap (λ n. n .nodes) k)) (omega (arith, c .before .before .before .if3 .left, ap (λ n. n .requests) k))
-    (omega (arith, c .before .if4 .taken, ap (λ n. n .requests) k)))
+    let after-if4 = c .before in
+    let after-if3 = after-if4 .before .before in
+    let after-if2 = after-if3 .before .before in
+    let tested = after-if2 .before .before in
+    let checked = tested .before .before in
+    let start = checked .before .before in
+    let a = start .args in
+    let k = checked .check .ensures in
+    c .refuse4 .ensures ∙ admission-short (a .file .now) (a .table) (a .report) (a .linearization) (sym (ap (λ n. n .number) k) ∙ tested .if1 .left)
+    (short-linearization (meaning (a .file .now) .job) _ _ _ (omega (arith, after-if2 .if2 .left, ap (λ n. n .nodes) k)) (omega (arith, after-if3 .if3 .left, ap (λ n. n .requests) k))
+    (omega (arith, after-if4 .if4 .taken, ap (λ n. n .requests) k)))
 
 returns-5 : tie.Need-returns-5
 returns-5 c =
-    let a = c .before .before .before .before .before .before .before .before .before .before .args in
-    let k = c .before .before .before .before .before .before .before .before .check .ensures in
-    k ∙ admission-long (a .file .now) (a .table) (a .report) (a .linearization) (sym (ap (λ n. n .number) k) ∙ c .before .before .before .before .before .before .if1 .left)
-    (long-enough (meaning (a .file .now) .job) _ _ _ (omega (arith, c .before .before .before .before .if2 .left, ap (λ n. n .nodes) k)) (omega (arith, c .before .before .if3 .left, ap (λ n. n .requests) k))
+    let after-if3 = c .before .before in
+    let after-if2 = after-if3 .before .before in
+    let tested = after-if2 .before .before in
+    let checked = tested .before .before in
+    let start = checked .before .before in
+    let a = start .args in
+    let k = checked .check .ensures in
+    k ∙ admission-long (a .file .now) (a .table) (a .report) (a .linearization) (sym (ap (λ n. n .number) k) ∙ tested .if1 .left)
+    (long-enough (meaning (a .file .now) .job) _ _ _ (omega (arith, after-if2 .if2 .left, ap (λ n. n .nodes) k)) (omega (arith, after-if3 .if3 .left, ap (λ n. n .requests) k))
     (omega (arith, c .if4 .left, ap (λ n. n .requests) k)))
 
 pub admission-spec : {M : Type 1} → statement M

@@ -18,17 +18,23 @@ refused-requires c κs = search needs
 
 returns : tie.Need-returns
 returns c =
-    let a = c .before .before .before .before .before .before .before .before .args in
+    let tested = c .before in
+    let judged = tested .before .before in
+    let start = judged .before .before .before .before .before in
+    let a = start .args in
     let e = c .refused .ensures in (
       refused-left (a .file .now) (a .table .now) (a .report .now) (a .linearization .now) (c .refused .result) _ e
-          (admission-number (a .file .now) (length (a .table .now)) (length (a .report .now)) (length (a .linearization .now)) _ (c .before .before .before .admission .ensures)) (c .before .if1 .taken),
-      λ z. absurd (c .before .if1 .taken (sym (ap (λ p. p .number) e) ∙ z)),
+          (admission-number (a .file .now) (length (a .table .now)) (length (a .report .now)) (length (a .linearization .now)) _ (judged .admission .ensures)) (tested .if1 .taken),
+      λ z. absurd (tested .if1 .taken (sym (ap (λ p. p .number) e) ∙ z)),
     )
 
 play-cut-requires : tie.Need-play-cut-requires
 play-cut-requires c κs =
-    let a = c .before .before .before .before .before .before .before .before .before .before .args in
-    admission-roomy (a .file .now) (length (a .table .now)) (length (a .report .now)) (length (a .linearization .now)) _ (c .before .before .before .before .before .admission .ensures) (c .before .before .before .if1 .left)
+    let tested = c .before .before .before in
+    let judged = tested .before .before in
+    let start = judged .before .before .before .before .before in
+    let a = start .args in
+    admission-roomy (a .file .now) (length (a .table .now)) (length (a .report .now)) (length (a .linearization .now)) _ (judged .admission .ensures) (tested .if1 .left)
 
 same-length : tie.Need-same-length
 same-length c = search needs
@@ -41,11 +47,16 @@ same-length-3 c = search needs
 
 returns-2 : tie.Need-returns-2
 returns-2 c =
-    let a = c .before .before .before .before .before .before .before .before .before .before .before .before .before .before .before .before .before .args in
-    let e = c .before .before .before .before .before .before .play-cut .ensures in
+    let played = c .before .before .before .before .before .before in
+    let tested = played .before .before .before .before in
+    let judged = tested .before .before in
+    let known = judged .before .before .before .before in
+    let start = known .before in
+    let a = start .args in
+    let e = played .play-cut .ensures in
     let none =
-    sym (admission-number (a .file .now) (length (a .table .now)) (length (a .report .now)) (length (a .linearization .now)) _ (c .before .before .before .before .before .before .before .before .before .before .before .before .admission .ensures)) ∙ c .before .before .before .before .before .before .before .before .before .before .if1 .left in
-    let bytes : Bytes (a .file .now) = λ i. omega (arith, c .before .before .before .before .before .before .before .before .before .before .before .before .before .before .before .before .shared-slice-known .given i) in (
+    sym (admission-number (a .file .now) (length (a .table .now)) (length (a .report .now)) (length (a .linearization .now)) _ (judged .admission .ensures)) ∙ tested .if1 .left in
+    let bytes : Bytes (a .file .now) = λ i. omega (arith, known .shared-slice-known .given i) in (
       e ∙ accepted-left (a .file .now) (a .table .now) (a .report .now) (a .linearization .now) none,
       λ z. linearized-here (a .file .now) (admitted-meaning (a .file .now) bytes (accepted-file (a .file .now) _ _ _ none)) (a .table .now) (a .report .now) (a .linearization .now) _ e,
     )

@@ -44,8 +44,9 @@ same-length-3 c = search needs
 
 returns : tie.Need-returns
 returns c =
+    let played = c .before .before .before .before .before .before in
     let k = c .before .before .before .before .before .before .before .before .before .before .before .before .before .before .before .before in
-    cut-left (meaning (k .args .file .now) .job) (k .args .checked .nodes) (4 * k .args .checked .requests) (k .args .table .now) (k .args .report .now) (k .args .linearization .now) _ (ap (λ n. n .nodes) (k .pre .checks .counts)) (ap (λ n. 4 * n .requests) (k .pre .checks .counts)) (c .before .before .before .before .before .before .play-whole .ensures)
+    cut-left (meaning (k .args .file .now) .job) (k .args .checked .nodes) (4 * k .args .checked .requests) (k .args .table .now) (k .args .report .now) (k .args .linearization .now) _ (ap (λ n. n .nodes) (k .pre .checks .counts)) (ap (λ n. 4 * n .requests) (k .pre .checks .counts)) (played .play-whole .ensures)
 
 pub play-cut-spec : {M : Type 1} → statement M
 play-cut-spec =

@@ -31,12 +31,18 @@ first-mask-requires c κs = search needs
 
 play-grants-requires : tie.Need-play-grants-requires
 play-grants-requires c κs =
+    let masked = c .before .before .before in
+    let rested = masked .before in
+    let found = rested .before in
+    let cleared = found .before .before .before in
+    let tabled = cleared .before .before .before .before in
+    let known = tabled .before .before .before .before .before in
     let k = c .before .before .before .before .before .before .before .before .before .before .before .before .before .before .before .before .before .before in
-    let bytes : Bytes (k .args .file .now) = λ i. omega (arith, c .before .before .before .before .before .before .before .before .before .before .before .before .before .before .before .before .before .shared-slice-known .given i) in
-    let firsts = c .before .before .before .before .before .first-requests .ensures in
-    whole-startable (k .args .linearization .now) (k .pre) bytes (c .before .before .before .before .resting-heads .result) (c .before .before .before .first-mask .result) _ _
-    (first-heads _ _ _ firsts (c .before .before .before .before .resting-heads .ensures)) (first-flags _ _ _ firsts (ap (λ n. n .requests) (k .pre .checks .counts)) (c .before .before .before .first-mask .ensures))
-    (c .before .before .before .before .before .before .before .before .before .before .before .before .fresh-table .ensures) (c .before .before .before .before .before .before .before .before .clear-report .ensures)
+    let bytes : Bytes (k .args .file .now) = λ i. omega (arith, known .shared-slice-known .given i) in
+    let firsts = found .first-requests .ensures in
+    whole-startable (k .args .linearization .now) (k .pre) bytes (rested .resting-heads .result) (masked .first-mask .result) _ _
+    (first-heads _ _ _ firsts (rested .resting-heads .ensures)) (first-flags _ _ _ firsts (ap (λ n. n .requests) (k .pre .checks .counts)) (masked .first-mask .ensures))
+    (tabled .fresh-table .ensures) (cleared .clear-report .ensures)
 
 same-length : tie.Need-same-length
 same-length c = search needs
@@ -49,8 +55,9 @@ same-length-3 c = search needs
 
 returns : tie.Need-returns
 returns c =
+    let played = c .before .before .before .before .before .before .before in
     let k = c .before .before .before .before .before .before .before .before .before .before .before .before .before .before .before .before .before .before .before .before .before .before .before .before .before .before in
-    whole-left (k .pre .checks) (k .args .linearization .now) _ _ _ (c .before .before .before .before .before .before .before .play-grants .result) (c .before .before .before .before .before .before .before .play-grants .ensures)
+    whole-left (k .pre .checks) (k .args .linearization .now) _ _ _ (played .play-grants .result) (played .play-grants .ensures)
 
 pub play-whole-spec : {M : Type 1} → statement M
 play-whole-spec =

@@ -25,26 +25,42 @@ loop-holds : tie.Need-loop-holds Inv-loop μ-loop
 loop-holds c = going-start (c .before .before .before .before .before .before .pre) _ _ (c .before .first-progress .ensures) (c .first-tally .ensures)
 
 turn-requires : tie.Need-turn-requires Inv-loop μ-loop
-turn-requires c κs = going-turnable (c .before .before .before .before .before .loop .inv) (omega (arith, c .before .before .before .if1 .taken, c .before .before .before .before .before .before .before .before .before .before .before .before .pre .grants))
+turn-requires c κs =
+    let tested = c .before .before .before in
+    let looped = tested .before .before in
+    let start = looped .before .before .before .before .before .before .before in
+    going-turnable (looped .loop .inv) (omega (arith, tested .if1 .taken, start .pre .grants))
 
 counted-requires : tie.Need-counted-requires Inv-loop μ-loop
-counted-requires c κs = let g = c .before .before .before .before .before .before .before .before .before .before .before .before .before .loop .inv in small-roomy (omega (arith, g .within, grants-few (g .playing))) (g .small)
+counted-requires c κs =
+    let looped = c .before .before .before .before .before .before .before .before .before .before .before .before .before in
+    let g = looped .loop .inv in small-roomy (omega (arith, g .within, grants-few (g .playing))) (g .small)
 
 loop-less : tie.Need-loop-less Inv-loop μ-loop
 loop-less c =
-    let g = c .before .before .before .before .before .before .before .before .before .before .before .before .before .before .loop .inv in
-    omega (arith, c .before .before .before .before .before .before .before .before .before .before .before .before .if1 .taken, c .before .before .before .before .before .before .before .before .turn .ensures (g .state) (g .past) _ (g .standing) .number)
+    let turned = c .before .before .before .before .before .before .before .before in
+    let tested = turned .before .before .before .before in
+    let looped = tested .before .before in
+    let g = looped .loop .inv in
+    omega (arith, tested .if1 .taken, turned .turn .ensures (g .state) (g .past) _ (g .standing) .number)
 
 loop-again : tie.Need-loop-again Inv-loop μ-loop
 loop-again c =
-    let g = c .before .before .before .before .before .before .before .before .before .before .before .before .before .before .loop .inv in
-    going-next g (omega (arith, c .before .before .before .before .before .before .before .before .before .before .before .before .if1 .taken, c .before .before .before .before .before .before .before .before .before .before .before .before .before .before .before .before .before .before .before .before .before .pre .grants)) (c .before .before .before .before .before .before .before .before .turn .result) (c .counted .result) _ _ _ (c .before .before .before .before .before .before .before .before .turn .ensures (g .state) (g .past) _ (g .standing)) (c .counted .ensures)
+    let turned = c .before .before .before .before .before .before .before .before in
+    let tested = turned .before .before .before .before in
+    let looped = tested .before .before in
+    let start = looped .before .before .before .before .before .before .before in
+    let g = looped .loop .inv in
+    going-next g (omega (arith, tested .if1 .taken, start .pre .grants)) (turned .turn .result) (c .counted .result) _ _ _ (turned .turn .ensures (g .state) (g .past) _ (g .standing)) (c .counted .ensures)
 
 same-length : tie.Need-same-length Inv-loop μ-loop
 same-length c = let g = c .before .before .loop .inv in g .nodes ∙ sym (c .before .before .before .before .before .before .before .before .before .pre .nodes)
 
 same-length-2 : tie.Need-same-length-2 Inv-loop μ-loop
-same-length-2 c = let g = c .before .before .loop .inv in standing-report (g .standing) ∙ sym (standing-report (c .before .before .before .before .before .before .before .before .before .pre .standing))
+same-length-2 c =
+    let looped = c .before .before in
+    let start = looped .before .before .before .before .before .before .before in
+    let g = looped .loop .inv in standing-report (g .standing) ∙ sym (standing-report (start .pre .standing))
 
 same-length-3 : tie.Need-same-length-3 Inv-loop μ-loop
 same-length-3 c = let g = c .before .before .loop .inv in standing-linearization (g .standing)

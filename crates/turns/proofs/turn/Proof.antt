@@ -13,10 +13,16 @@ add-number : tie.Need-add-number
 add-number c = omega (arith, turn-number (c .before .before .before .before .before .before .pre))
 
 grant-requires : tie.Need-grant-requires
-grant-requires c κs = turn-ready (c .before .before .before .before .before .before .before .before .before .before .pre) (c .before .before .before .before .before .open-run .result) (c .before .before .before .before .before .open-run .ensures)
+grant-requires c κs =
+    let opened = c .before .before .before .before .before in
+    let start = opened .before .before .before .before .before in
+    turn-ready (start .pre) (opened .open-run .result) (opened .open-run .ensures)
 
 taken-requires : tie.Need-taken-requires
-taken-requires c κs = turn-left (c .before .before .before .before .before .before .before .before .before .before .before .before .before .before .before .before .before .before .before .pre) (c .before .before .before .before .before .before .before .before .before .before .before .before .before .before .open-run .result) (c .before .before .before .before .before .before .before .before .before .before .before .before .before .before .open-run .ensures)
+taken-requires c κs =
+    let opened = c .before .before .before .before .before .before .before .before .before .before .before .before .before .before in
+    let start = opened .before .before .before .before .before in
+    turn-left (start .pre) (opened .open-run .result) (opened .open-run .ensures)
 
 same-length : tie.Need-same-length
 same-length c = search needs
@@ -29,8 +35,11 @@ same-length-3 c = search needs
 
 returns : tie.Need-returns
 returns c =
-    λ S past lent st. let g = c .before .before .before .before .before .before .before .before .before .grant .ensures S past lent st in
-    turn-turned (c .before .before .before .before .before .before .before .before .before .before .before .before .before .before .before .before .before .before .before .before .pre) (c .before .before .before .before .before .before .before .before .before .before .before .before .before .before .before .open-run .result) (c .before .before .before .before .before .before .before .before .before .before .before .before .before .before .before .open-run .ensures) _ _ S lent refl (c .taken .ensures) (g .0) (g .1)
+    let granted = c .before .before .before .before .before .before .before .before .before in
+    let opened = granted .before .before .before .before .before .before in
+    let start = opened .before .before .before .before .before in
+    λ S past lent st. let g = granted .grant .ensures S past lent st in
+    turn-turned (start .pre) (opened .open-run .result) (opened .open-run .ensures) _ _ S lent refl (c .taken .ensures) (g .0) (g .1)
 
 pub turn-spec : {M : Type 1} → statement M
 turn-spec =

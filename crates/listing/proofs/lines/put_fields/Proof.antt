@@ -38,8 +38,10 @@ shared-slice-read-put-decimal c = search needs
 
 put-decimal-requires : tie.Need-put-decimal-requires Inv-loop μ-loop
 put-decimal-requires c κs =
-    let l = c .before .before .before .before .before .before .before .loop in
-    omega (arith, fields-room (now (c .before .before .before .before .before .before .before .before .before .before .args .numbers)) (l .i) (l .inv) (omega arith) (c .before .before .before .before .before .before .before .before .before .before .pre))
+    let looped = c .before .before .before .before .before .before .before in
+    let start = looped .before .before .before in
+    let l = looped .loop in
+    omega (arith, fields-room (now (start .args .numbers)) (l .i) (l .inv) (omega arith) (start .pre))
 
 add-i : tie.Need-add-i Inv-loop μ-loop
 add-i c = search needs

@@ -15,7 +15,9 @@ put-fields-requires : tie.Need-put-fields-requires
 put-fields-requires c κs = let a = c .before .before .before .before .before .before .before .before .args in omega (arith, line-length (now (a .name)) (now (a .numbers)))
 
 put-byte-requires : tie.Need-put-byte-requires
-put-byte-requires c κs = let a = c .before .before .before .before .before .before .before .before .before .before .before .before .args in omega (arith, line-length (now (a .name)) (now (a .numbers)))
+put-byte-requires c κs =
+    let start = c .before .before .before .before .before .before .before .before .before .before .before .before in
+    let a = start .args in omega (arith, line-length (now (a .name)) (now (a .numbers)))
 
 same-length : tie.Need-same-length
 same-length c = search needs

@@ -28,7 +28,11 @@ same-length : tie.Need-same-length
 same-length c = search needs
 
 returns : tie.Need-returns
-returns c = simp (← c .before .before .before .before .before .before .before .parent .ensures, ← c .before .before .before .before .before .before .rank .ensures) (c .before .before .put-line .ensures)
+returns c =
+    let after-put-line = c .before .before in
+    let after-rank = after-put-line .before .before .before .before in
+    let after-parent = after-rank .before in
+    simp (← after-parent .parent .ensures, ← after-rank .rank .ensures) (after-put-line .put-line .ensures)
 
 pub put-word-spec : {M : Type 1} → statement M
 put-word-spec =

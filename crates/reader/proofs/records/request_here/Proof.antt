@@ -34,8 +34,13 @@ word-at-requires-2 c κs = search needs
 
 returns : tie.Need-returns
 returns c =
-    let a = c .before .before .before .before .before .before .args in
-    request-read (now (a .file)) (a .at) _ _ (c .before .before .before .byte-at2 .result) _ _ (c .before .before .before .before .byte-at .ensures) (c .before .before .kind-of .ensures) (c .before .before .before .byte-at2 .ensures) (c .before .word-at .ensures) (c .word-at2 .ensures)
+    let after-word-at = c .before in
+    let after-kind-of = after-word-at .before in
+    let after-byte-at2 = after-kind-of .before in
+    let after-byte-at = after-byte-at2 .before in
+    let start = after-byte-at .before .before in
+    let a = start .args in
+    request-read (now (a .file)) (a .at) _ _ (after-byte-at2 .byte-at2 .result) _ _ (after-byte-at .byte-at .ensures) (after-kind-of .kind-of .ensures) (after-byte-at2 .byte-at2 .ensures) (after-word-at .word-at .ensures) (c .word-at2 .ensures)
 
 pub request-here-spec : {M : Type 1} → statement M
 request-here-spec =

@@ -30,27 +30,43 @@ returns-2 c =
 
 returns-3 : tie.Need-returns-3
 returns-3 c =
-    let a = c .before .before .before .before .before .before .before .args in
+    let after-if2 = c .before .before in
+    let after-run-here = after-if2 .before .before in
+    let tested = after-run-here .before in
+    let start = tested .before .before in
+    let a = start .args in
     let t = drop (a .at) (now (a .file)) in
-    rw (run-numbers (a .heads) (a .before) (c .before .before .before .before .run-here .result) t (c .before .before .before .before .run-here .ensures) (rw length-drop (c .before .before .before .before .before .if1 .left)))
-    (simp (lt-leb _ _ (c .before .before .if2 .left), eq-eqb _ _ (c .if3 .taken)))
+    rw (run-numbers (a .heads) (a .before) (after-run-here .run-here .result) t (after-run-here .run-here .ensures) (rw length-drop (tested .if1 .left)))
+    (simp (lt-leb _ _ (after-if2 .if2 .left), eq-eqb _ _ (c .if3 .taken)))
 
 does-extend-requires : tie.Need-does-extend-requires
 does-extend-requires c κs = search needs
 
 returns-4 : tie.Need-returns-4
 returns-4 c =
-    let a = c .before .before .before .before .before .before .before .before .before .args in
+    let after-does-extend = c .before in
+    let after-if3 = after-does-extend .before in
+    let after-if2 = after-if3 .before .before in
+    let after-run-here = after-if2 .before .before in
+    let tested = after-run-here .before in
+    let start = tested .before .before in
+    let a = start .args in
     let t = drop (a .at) (now (a .file)) in
-    rw (run-numbers (a .heads) (a .before) (c .before .before .before .before .before .before .run-here .result) t (c .before .before .before .before .before .before .run-here .ensures) (rw length-drop (c .before .before .before .before .before .before .before .if1 .left)))
-    (simp (lt-leb _ _ (c .before .before .before .before .if2 .left), ne-eqb _ _ (c .before .before .if3 .left), ← c .before .does-extend .ensures, c .if4 .taken))
+    rw (run-numbers (a .heads) (a .before) (after-run-here .run-here .result) t (after-run-here .run-here .ensures) (rw length-drop (tested .if1 .left)))
+    (simp (lt-leb _ _ (after-if2 .if2 .left), ne-eqb _ _ (after-if3 .if3 .left), ← after-does-extend .does-extend .ensures, c .if4 .taken))
 
 returns-5 : tie.Need-returns-5
 returns-5 c =
-    let a = c .before .before .before .before .before .before .before .before .before .args in
+    let after-does-extend = c .before in
+    let after-if3 = after-does-extend .before in
+    let after-if2 = after-if3 .before .before in
+    let after-run-here = after-if2 .before .before in
+    let tested = after-run-here .before in
+    let start = tested .before .before in
+    let a = start .args in
     let t = drop (a .at) (now (a .file)) in
-    rw (run-numbers (a .heads) (a .before) (c .before .before .before .before .before .before .run-here .result) t (c .before .before .before .before .before .before .run-here .ensures) (rw length-drop (c .before .before .before .before .before .before .before .if1 .left)))
-    (simp (lt-leb _ _ (c .before .before .before .before .if2 .left), ne-eqb _ _ (c .before .before .if3 .left), ← c .before .does-extend .ensures, c .if4 .left))
+    rw (run-numbers (a .heads) (a .before) (after-run-here .run-here .result) t (after-run-here .run-here .ensures) (rw length-drop (tested .if1 .left)))
+    (simp (lt-leb _ _ (after-if2 .if2 .left), ne-eqb _ _ (after-if3 .if3 .left), ← after-does-extend .does-extend .ensures, c .if4 .left))
 
 pub run-refusal-spec : {M : Type 1} → statement M
 run-refusal-spec =

@@ -39,18 +39,37 @@ returns-3 c = simp (length-drop, le-ltb _ _ (c .before .before .before .if1 .lef
 
 returns-4 : tie.Need-returns-4
 unfolding closeRefusal balanceRefusal
-returns-4 c = simp (length-drop, le-ltb _ _ (c .before .before .before .before .if1 .left), eq-eqb _ _ (sym (c .before .before .before .word-at .ensures) ∙ c .before .before .if2 .left), le-ltb _ _ (c .before .if3 .left), lt-ltb _ _ (c .if4 .taken))
+returns-4 c =
+    let after-if3 = c .before in
+    let after-if2 = after-if3 .before in
+    let after-word-at = after-if2 .before in
+    let tested = after-word-at .before in
+    simp (length-drop, le-ltb _ _ (tested .if1 .left), eq-eqb _ _ (sym (after-word-at .word-at .ensures) ∙ after-if2 .if2 .left), le-ltb _ _ (after-if3 .if3 .left), lt-ltb _ _ (c .if4 .taken))
 
 sum-words-requires : tie.Need-sum-words-requires
 sum-words-requires c κs = search needs
 
 returns-5 : tie.Need-returns-5
 unfolding closeRefusal balanceRefusal
-returns-5 c = simp (length-drop, le-ltb _ _ (c .before .before .before .before .before .before .if1 .left), eq-eqb _ _ (sym (c .before .before .before .before .before .word-at .ensures) ∙ c .before .before .before .before .if2 .left), le-ltb _ _ (c .before .before .before .if3 .left), le-ltb _ _ (c .before .before .if4 .left), ← c .before .sum-words .ensures, ne-eqb _ _ (c .if5 .taken))
+returns-5 c =
+    let after-sum-words = c .before in
+    let after-if4 = after-sum-words .before in
+    let after-if3 = after-if4 .before in
+    let after-if2 = after-if3 .before in
+    let after-word-at = after-if2 .before in
+    let tested = after-word-at .before in
+    simp (length-drop, le-ltb _ _ (tested .if1 .left), eq-eqb _ _ (sym (after-word-at .word-at .ensures) ∙ after-if2 .if2 .left), le-ltb _ _ (after-if3 .if3 .left), le-ltb _ _ (after-if4 .if4 .left), ← after-sum-words .sum-words .ensures, ne-eqb _ _ (c .if5 .taken))
 
 returns-6 : tie.Need-returns-6
 unfolding closeRefusal balanceRefusal
-returns-6 c = simp (length-drop, le-ltb _ _ (c .before .before .before .before .before .before .if1 .left), eq-eqb _ _ (sym (c .before .before .before .before .before .word-at .ensures) ∙ c .before .before .before .before .if2 .left), le-ltb _ _ (c .before .before .before .if3 .left), le-ltb _ _ (c .before .before .if4 .left), ← c .before .sum-words .ensures, c .if5 .left)
+returns-6 c =
+    let after-sum-words = c .before in
+    let after-if4 = after-sum-words .before in
+    let after-if3 = after-if4 .before in
+    let after-if2 = after-if3 .before in
+    let after-word-at = after-if2 .before in
+    let tested = after-word-at .before in
+    simp (length-drop, le-ltb _ _ (tested .if1 .left), eq-eqb _ _ (sym (after-word-at .word-at .ensures) ∙ after-if2 .if2 .left), le-ltb _ _ (after-if3 .if3 .left), le-ltb _ _ (after-if4 .if4 .left), ← after-sum-words .sum-words .ensures, c .if5 .left)
 
 pub close-refusal-spec : {M : Type 1} → statement M
 close-refusal-spec =

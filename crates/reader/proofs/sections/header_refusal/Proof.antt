@@ -38,7 +38,14 @@ sizes-refusal-requires c κs = search needs
 
 returns-4 : tie.Need-returns-4
 unfolding headerRefusal
-returns-4 c = simp (le-ltb _ _ (c .before .before .before .before .before .before .if1 .left), eq-eqb _ _ (sym (c .before .before .before .before .before .word-at .ensures) ∙ c .before .before .before .before .if2 .left), le-ltb _ _ (c .before .before .before .if3 .left), c .sizes-refusal .ensures, c .before .before .word-at2 .ensures, c .before .word-at3 .ensures)
+returns-4 c =
+    let after-word-at3 = c .before in
+    let after-word-at2 = after-word-at3 .before in
+    let after-if3 = after-word-at2 .before in
+    let after-if2 = after-if3 .before in
+    let after-word-at = after-if2 .before in
+    let tested = after-word-at .before in
+    simp (le-ltb _ _ (tested .if1 .left), eq-eqb _ _ (sym (after-word-at .word-at .ensures) ∙ after-if2 .if2 .left), le-ltb _ _ (after-if3 .if3 .left), c .sizes-refusal .ensures, after-word-at2 .word-at2 .ensures, after-word-at3 .word-at3 .ensures)
 
 pub header-refusal-spec : {M : Type 1} → statement M
 header-refusal-spec =

@@ -29,8 +29,11 @@ fields-refusal-requires c κs = search needs
 
 returns : tie.Need-returns Inv-loop μ-loop
 returns c =
-    let a = c .before .before .before .before .before .before .args in
-    passing-stops (a .nodes) (a .heads) (now (a .requests)) (c .before .before .before .before .loop .at) (c .before .before .before .before .loop .inv) (c .before .fields-refusal .result) (omega arith) (cc) (c .if1 .taken)
+    let after-fields-refusal = c .before in
+    let looped = after-fields-refusal .before .before .before in
+    let start = looped .before .before in
+    let a = start .args in
+    passing-stops (a .nodes) (a .heads) (now (a .requests)) (looped .loop .at) (looped .loop .inv) (after-fields-refusal .fields-refusal .result) (omega arith) (cc) (c .if1 .taken)
 
 add-at : tie.Need-add-at Inv-loop μ-loop
 add-at c = search needs
@@ -40,8 +43,11 @@ loop-less c = search needs
 
 loop-again : tie.Need-loop-again Inv-loop μ-loop
 loop-again c =
-    let a = c .before .before .before .before .before .before .args in
-    passing-on (a .nodes) (a .heads) (now (a .requests)) (c .before .before .before .before .loop .at) (c .before .before .before .before .loop .inv) (c .before .fields-refusal .result) (omega arith) (cc) (omega arith)
+    let after-fields-refusal = c .before in
+    let looped = after-fields-refusal .before .before .before in
+    let start = looped .before .before in
+    let a = start .args in
+    passing-on (a .nodes) (a .heads) (now (a .requests)) (looped .loop .at) (looped .loop .inv) (after-fields-refusal .fields-refusal .result) (omega arith) (cc) (omega arith)
 
 returns-2 : tie.Need-returns-2 Inv-loop μ-loop
 returns-2 c =

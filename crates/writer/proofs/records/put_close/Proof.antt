@@ -33,9 +33,14 @@ same-length c = search needs
 
 returns : tie.Need-returns
 returns c =
-    let a = c .before .before .before .before .before .before .before .before .before .before .before .before .args in
-    close-stored (now (a .out)) _ _ (a .at) (c .before .before .before .before .before .sum-words .result) (c .before .before .before .wrapping-sub-u16 .result) (omega arith) (omega arith)
-    (c .before .before .before .before .before .before .before .before .before .put-word .ensures) (c .before .before .before .before .before .sum-words .ensures) (c .before .before .before .wrapping-sub-u16 .ensures) (c .before .before .put-word2 .ensures)
+    let after-put-word2 = c .before .before in
+    let after-wrapping-sub-u16 = after-put-word2 .before in
+    let after-sum-words = after-wrapping-sub-u16 .before .before in
+    let after-put-word = after-sum-words .before .before .before .before in
+    let start = after-put-word .before .before .before in
+    let a = start .args in
+    close-stored (now (a .out)) _ _ (a .at) (after-sum-words .sum-words .result) (after-wrapping-sub-u16 .wrapping-sub-u16 .result) (omega arith) (omega arith)
+    (after-put-word .put-word .ensures) (after-sum-words .sum-words .ensures) (after-wrapping-sub-u16 .wrapping-sub-u16 .ensures) (after-put-word2 .put-word2 .ensures)
 
 pub put-close-spec : {M : Type 1} → statement M
 put-close-spec =

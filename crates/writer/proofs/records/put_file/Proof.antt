@@ -57,10 +57,15 @@ same-length c = search needs
 
 returns : tie.Need-returns
 returns c =
-    let a = c .before .before .before .before .before .before .before .before .before .before .before .before .before .before .before .before .before .before .before .args in
+    let after-put-close = c .before .before in
+    let after-put-runs = after-put-close .before .before .before .before in
+    let after-put-requests = after-put-runs .before .before .before .before in
+    let after-put-header = after-put-requests .before .before .before .before in
+    let start = after-put-header .before .before .before .before .before in
+    let a = start .args in
     let d = given (a .nodes) (a .heads) (now (a .requests)) (now (a .grants)) in
-    file-stored d (now (a .out)) _ _ _ _ (c .before .before .before .before .before .before .put-runs .result) (ready d (length (now (a .out))) (c .before .before .before .before .before .before .before .before .before .before .before .before .before .before .before .before .before .before .before .pre) .enough)
-    (c .before .before .before .before .before .before .before .before .before .before .before .before .before .before .put-header .ensures) (c .before .before .before .before .before .before .before .before .before .before .put-requests .ensures) (c .before .before .before .before .before .before .put-runs .ensures .1) (c .before .before .before .before .before .before .put-runs .ensures .0) (c .before .before .put-close .ensures)
+    file-stored d (now (a .out)) _ _ _ _ (after-put-runs .put-runs .result) (ready d (length (now (a .out))) (start .pre) .enough)
+    (after-put-header .put-header .ensures) (after-put-requests .put-requests .ensures) (after-put-runs .put-runs .ensures .1) (after-put-runs .put-runs .ensures .0) (after-put-close .put-close .ensures)
 
 pub put-file-spec : {M : Type 1} → statement M
 put-file-spec =

@@ -18,7 +18,9 @@ cast-put-bytes : tie.Need-cast-put-bytes
 cast-put-bytes c = omega (arith, fit mostNodes mostHeads (c .before .before .before .before .before .before .before .args .fields) (c .before .before .before .before .before .before .before .pre .1))
 
 cast-put-bytes-2 : tie.Need-cast-put-bytes-2
-cast-put-bytes-2 c = omega (arith, fit mostNodes mostHeads (c .before .before .before .before .before .before .before .before .args .fields) (c .before .before .before .before .before .before .before .before .pre .1))
+cast-put-bytes-2 c =
+    let start = c .before .before .before .before .before .before .before .before in
+    omega (arith, fit mostNodes mostHeads (start .args .fields) (start .pre .1))
 
 put-bytes-requires : tie.Need-put-bytes-requires
 put-bytes-requires c κs = search needs
@@ -27,7 +29,9 @@ add-put-word : tie.Need-add-put-word
 add-put-word c = search needs
 
 cast-put-word : tie.Need-cast-put-word
-cast-put-word c = omega (arith, fit mostNodes mostHeads (c .before .before .before .before .before .before .before .before .before .before .before .before .before .args .fields) (c .before .before .before .before .before .before .before .before .before .before .before .before .before .pre .1))
+cast-put-word c =
+    let start = c .before .before .before .before .before .before .before .before .before .before .before .before .before in
+    omega (arith, fit mostNodes mostHeads (start .args .fields) (start .pre .1))
 
 put-word-requires-2 : tie.Need-put-word-requires-2
 put-word-requires-2 c κs = search needs
@@ -36,7 +40,9 @@ add-put-word-2 : tie.Need-add-put-word-2
 add-put-word-2 c = search needs
 
 cast-put-word-2 : tie.Need-cast-put-word-2
-cast-put-word-2 c = omega (arith, fit mostNodes mostHeads (c .before .before .before .before .before .before .before .before .before .before .before .before .before .before .before .before .before .before .args .fields) (c .before .before .before .before .before .before .before .before .before .before .before .before .before .before .before .before .before .before .pre .1))
+cast-put-word-2 c =
+    let start = c .before .before .before .before .before .before .before .before .before .before .before .before .before .before .before .before .before .before in
+    omega (arith, fit mostNodes mostHeads (start .args .fields) (start .pre .1))
 
 put-word-requires-3 : tie.Need-put-word-requires-3
 put-word-requires-3 c κs = search needs
@@ -46,9 +52,14 @@ same-length c = search needs
 
 returns : tie.Need-returns
 returns c =
-    let a = c .before .before .before .before .before .before .before .before .before .before .before .before .before .before .before .before .before .before .before .before .before .args in
-    request-stored (now (a .out)) _ _ _ _ (a .at) (a .fields) (c .before .before .before .before .before .before .before .before .before .before .before .before .before .before .before .before .before .before .before .before .before .pre .1)
-    (c .before .before .before .before .before .before .before .before .before .before .before .before .before .before .before .before .before .before .put-word .ensures) (c .before .before .before .before .before .before .before .before .before .before .before .before .put-bytes .ensures) (c .before .before .before .before .before .before .before .put-word2 .ensures) (c .before .before .put-word3 .ensures)
+    let after-put-word3 = c .before .before in
+    let after-put-word2 = after-put-word3 .before .before .before .before .before in
+    let after-put-bytes = after-put-word2 .before .before .before .before .before in
+    let after-put-word = after-put-bytes .before .before .before .before .before .before in
+    let start = after-put-word .before .before .before in
+    let a = start .args in
+    request-stored (now (a .out)) _ _ _ _ (a .at) (a .fields) (start .pre .1)
+    (after-put-word .put-word .ensures) (after-put-bytes .put-bytes .ensures) (after-put-word2 .put-word2 .ensures) (after-put-word3 .put-word3 .ensures)
 
 pub put-request-spec : {M : Type 1} → statement M
 put-request-spec =

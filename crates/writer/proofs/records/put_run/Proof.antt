@@ -23,8 +23,11 @@ same-length c = search needs
 
 returns : tie.Need-returns
 returns c =
-    let a = c .before .before .before .before .before .before .before .before .before .args in
-    stored-on (now (a .out)) _ _ (wordBytes runMark) (a .run .head ∷ a .run .count ∷ []) (a .at) (a .at + 2) (omega arith) (c .before .before .before .before .before .before .put-word .ensures) (c .before .before .put-bytes .ensures)
+    let after-put-bytes = c .before .before in
+    let after-put-word = after-put-bytes .before .before .before .before in
+    let start = after-put-word .before .before .before in
+    let a = start .args in
+    stored-on (now (a .out)) _ _ (wordBytes runMark) (a .run .head ∷ a .run .count ∷ []) (a .at) (a .at + 2) (omega arith) (after-put-word .put-word .ensures) (after-put-bytes .put-bytes .ensures)
 
 pub put-run-spec : {M : Type 1} → statement M
 put-run-spec =

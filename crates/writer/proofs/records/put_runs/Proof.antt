@@ -40,10 +40,13 @@ add-i c =
 
 add-at : tie.Need-add-at Inv-loop μ-loop
 add-at c =
-    let a = c .before .before .before .before .before .before .before .before .before .before .args in
-    let l = c .before .before .before .before .before .before .before .loop in
-    let run = c .before .before .before .before .before .run-at in
-    omega (arith, run-room (now (a .out)) (a .start) (now (a .grants)) (l .i) (l .at) (l .out) (l .inv) (run .result) (run .ensures) (c .before .before .before .before .before .before .before .before .before .before .pre))
+    let after-run-at = c .before .before .before .before .before in
+    let looped = after-run-at .before .before in
+    let start = looped .before .before .before in
+    let a = start .args in
+    let l = looped .loop in
+    let run = after-run-at .run-at in
+    omega (arith, run-room (now (a .out)) (a .start) (now (a .grants)) (l .i) (l .at) (l .out) (l .inv) (run .result) (run .ensures) (start .pre))
 
 loop-less : tie.Need-loop-less Inv-loop μ-loop
 loop-less c = omega (arith, ap length (c .before .before .before .before .before .run-at .ensures))
