@@ -8,7 +8,7 @@
 --   Playing           an accepted file, with the number of its requests
 --   Standing          the buffers show a state that a run has reached
 --   Ready             they do, for the next grant to head h
---   Grants            what a grant makes of the buffers
+--   Stepped, Grants   what a grant makes of the buffers: from one state, and from every state that they show
 use mathlib.Core.Path.{_≡_}
 use mathlib.Core.Bool.{true, false}
 use mathlib.Core.List.{List, _++_, map}
@@ -84,9 +84,12 @@ pub record Ready (file : List ℕ) (requests h number : ℕ) (b : Buffers) : Typ
   pub lent : List ℕ
   pub standing : Standing (requestsIn file) (length (b .table)) 16 b number state past lent
 
--- From every state that the buffers b show, the grant to head h, of that number, leaves buffers that show the rules' step,
--- and `done` is what the grant was.
+-- From the state S a grant to head h leaves buffers that show the rules' step, and it was what the rules say.
+pub record Stepped (file : List ℕ) (h : ℕ) (b′ : Buffers) (was : Done) (S : State) (lent : List ℕ) : Type 0 where
+  pub buffers : b′ ≡ shown (requestsIn file) (step (requestsIn file) S h) lent
+  pub done : was ≡ doneOf (happened (requestsIn file) S h)
+
+-- So it is from every state that the buffers b show at the grant of that number.
 abbrev pub Grants : List ℕ → ℕ → ℕ → Buffers → Buffers → Done → Type 0
-Grants file h number b b′ done =
-    (S : State) (past : List Happening) (lent : List ℕ) → Standing (requestsIn file) (length (b .table)) 16 b number S past lent
-    → (b′ ≡ shown (requestsIn file) (step (requestsIn file) S h) lent) × (done ≡ doneOf (happened (requestsIn file) S h))
+Grants file h number b b′ was =
+    (S : State) (past : List Happening) (lent : List ℕ) → Standing (requestsIn file) (length (b .table)) 16 b number S past lent → Stepped file h b′ was S lent

@@ -27,7 +27,7 @@ returns c = λ S past lent st. c .before .before .before .before .before .before
 returns-2 : tie.Need-returns-2
 returns-2 c =
     λ S past lent st. let p = c .before .before .before .before .before .before .pre in let t = sym (c .before .is-set .ensures) ∙ c .if1 .left in
-    (idle-shown (p .playing) (p .nodes) (p .head) st t, idle-done (p .playing) (p .nodes) (p .head) st t)
+    record { buffers = idle-shown (p .playing) (p .nodes) (p .head) st t; done = idle-done (p .playing) (p .nodes) (p .head) st t }
 
 pub grant-spec : {M : Type 1} → statement M
 grant-spec =

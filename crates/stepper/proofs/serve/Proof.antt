@@ -109,7 +109,7 @@ returns c =
     let done = serve-done (ready .playing) (ready .nodes) (ready .head) standing (start .pre .1) (found .ready-head .result) (found .ready-head .ensures) (chosen .next-access .result) (chosen .next-access .ensures)
     (touched .touch .result) (touched .touch .ensures .0) (moved .advance .result) (moved .advance .ensures)
     _ refl in
-    (shown, done)
+    record { buffers = shown; done = done }
 
 pub serve-spec : {M : Type 1} → statement M
 serve-spec =
