@@ -19,13 +19,12 @@ use Rattle.job.specs.declared.Tally.{Tally}
 use Rattle.job.specs.declared.Played.{Played}
 use Rattle.word.specs.Word.{encode}
 use Rattle.process.specs.declared.Head.{Head}
-use Rattle.process.specs.declared.Stage.the-variants.{Resting}
-use Rattle.jobfile.specs.Meaning.{meaning}
+use Rattle.jobfile.specs.Meaning.{refused, meaning}
 use Rattle.mask.specs.Mask.{maskOf}
 use Rattle.reader.specs.declared.Checked.{Checked}
 use Rattle.reader.specs.Reader.{countsOf}
 use Rattle.rules.specs.Table.{fresh}
-use Rattle.rules.specs.State.{State, headsFrom, tallyOf}
+use Rattle.rules.specs.State.{State, resting, headsFrom, tallyOf}
 use Rattle.stepper.specs.Shown.{requestsIn}
 use Rattle.start.specs.Start.{workFlag}
 use Rattle.turns.specs.declared.Progress.{Progress}
@@ -41,8 +40,7 @@ planOf counts heads mask = record { counts = counts; progress = firstProgress he
 -- Each refusal gives its number and zero for every count; there is no grant to play.
 abbrev pub refusedPlan : ℕ → Plan
 refusedPlan n =
-    planOf (record { number = n; nodes = 0; heads = 0; requests = 0; grants = 0; runs = 0 })
-    (replicate 16 (record { stage = Resting; x = 0; y = 0; request = 0 })) 0
+    planOf (countsOf (refused n)) (replicate 16 (resting 0)) 0
 
 -- Every head rests before its first request.
 abbrev pub acceptedPlan : List ℕ → Plan

@@ -4,7 +4,6 @@ use job::Tally;
 use player::admission;
 use player::refused;
 use process::Head;
-use process::Stage;
 use reader::Checked;
 use start::clear_report;
 use start::first_mask;
@@ -51,21 +50,8 @@ fn plan_of(counts: Checked, heads: [Head; 16], mask: u32) -> Plan
 fn turned_down(number: u32) -> Plan
     ensures { λ r. ⌜ r ≡ refusedPlan number ⌝ }
 {
-    let counts = Checked {
-        number,
-        nodes: 0,
-        heads: 0,
-        requests: 0,
-        grants: 0,
-        runs: 0,
-    };
-    let head = Head {
-        stage: Stage::Resting,
-        x: 0,
-        y: 0,
-        request: 0,
-    };
-    let heads = [head; 16];
+    let counts = reader::refuse(number);
+    let heads = resting_heads([0u16; 16]);
     plan_of(counts, heads, 0)
 }
 
