@@ -26,7 +26,7 @@ pub data Happening : Type 0 where
 -- What the grant was, by whom it serves.
 abbrev pub happenedBy : State → Turn → Happening
 happenedBy S idled = idle
-happenedBy S (serves head) = serving (head .request) (advanced S head .event)
+happenedBy S (serves head) = serving (head .task .request) (advanced S head .event)
 
 -- What a grant to head h is.
 unfoldable pub happened : List Request → State → ℕ → Happening
