@@ -60,18 +60,18 @@ fn serve(
 {
     let at = h as usize;
     let head = ready_head(file, requests, heads[at]);
-    let seen = table::touch(table, process::next_access(head));
-    let moved = process::advance(head, seen, number);
+    let moved = table::stepped(table, head, number);
     let event = moved.event;
     let answer = event.answer;
-    charge_row(report, head.request, number, answer);
-    let listed = enter(linearization, entries, event.point, head.request as u32);
     let next = settled_head(file, requests, h, moved);
     heads[at] = next;
+    let request = head.task.request;
+    charge_row(report, request, number, answer);
+    let listed = enter(linearization, entries, event.point, request as u32);
     Granted {
         heads,
         entries: listed,
-        mask: work_left(mask, h, next.request, requests),
+        mask: work_left(mask, h, next.task.request, requests),
         done: Done {
             idle: false,
             failed: event.failed,

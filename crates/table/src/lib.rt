@@ -1,18 +1,28 @@
-// The shared table of words: the one access of a grant, a read or a compare-and-swap.
-use process::Access;
+// The shared table of words: one grant of a head on it, the access and what follows it together.
+use process::Advanced;
+use process::Head;
+use process::Stage;
+use process::Step;
+use process::Walked;
+use process::finding::followed;
+use process::finding::going;
+use process::finding::node_at;
+use process::finding::reread;
+use process::joining::linking;
+use process::joining::raising;
+use process::joining::ranked;
 use word::Node;
 ghost use mathlib.Core.Path.{_≡_};
 ghost use mathlib.Core.List.{map};
-ghost use Rattle.word.specs.Word.{decode, encode};
-ghost use Rattle.process.specs.declared.Access.the-variants.{Cas};
-ghost use Rattle.rules.specs.Table.{seen, touched};
-ghost use Rattle.table.specs.Touch.{Touchable};
+
+// A read: the node that stands there.
+fn load(table: &[u32], node: u16) -> Node
+{
+    word::decoded(table[node as usize])
+}
 
 // A compare-and-swap: it writes only if the word equals the expected one, and tells the node that stood there.
 fn swap(table: &mut [u32], node: u16, expected: Node, new: Node) -> Node
-    requires { ⌜ Touchable (map decode (now table)) (Cas node expected new) ⌝ }
-    ensures sees { λ r. ⌜ r ≡ seen (map decode (now (table .entry))) (Cas node expected new) ⌝ }
-    ensures leaves { λ _. ⌜ now (table .exit) ≡ map encode (touched (map decode (now (table .entry))) (Cas node expected new)) ⌝ }
 {
     let at = node as usize;
     let found = word::decoded(table[at]);
@@ -22,15 +32,73 @@ fn swap(table: &mut [u32], node: u16, expected: Node, new: Node) -> Node
     found
 }
 
-// The one access of a grant: the node that it saw. In a grant no other function reads or writes the table.
-pub fn touch(table: &mut [u32], access: Access) -> Node
-    requires { ⌜ Touchable (map decode (now table)) access ⌝ }
-    ensures sees { λ r. ⌜ r ≡ seen (map decode (now (table .entry))) access ⌝ }
-    ensures leaves { λ _. ⌜ now (table .exit) ≡ map encode (touched (map decode (now (table .entry))) access) ⌝ }
+// One step of a find on a node: its access, and where it leads.
+pub fn walk(table: &mut [u32], node: u16, step: Step) -> Walked
 {
-    match access {
-        Access::Idle => Node { rank: 0, parent: 0 },
-        Access::Load(node) => word::decoded(table[node as usize]),
-        Access::Cas(node, expected, new) => swap(table, node, expected, new),
+    match step {
+        Step::ReadNode => {
+            let seen = load(table, node);
+            if seen.parent == node {
+                return Walked::Ended;
+            }
+            Walked::On(Step::ReadParent(seen.rank, seen.parent))
+        }
+        Step::ReadParent(rank, t) => {
+            let seen = load(table, t);
+            Walked::On(Step::Halve(rank, t, seen.parent))
+        }
+        Step::Halve(rank, t, u) => {
+            let expected = Node { rank, parent: t };
+            let seen = swap(table, node, expected, Node { rank, parent: u });
+            if word::is_same(seen, expected) {
+                return Walked::On(Step::ReadAgain(t));
+            }
+            Walked::Failed(Step::ReadAgain(t))
+        }
+        Step::ReadAgain(t) => {
+            let seen = load(table, t);
+            Walked::Up(seen.parent)
+        }
+    }
+}
+
+// One grant of a head: the one access of its stage, and where it leads.
+pub fn stepped(table: &mut [u32], head: Head, now: u32) -> Advanced
+{
+    let stage = head.stage;
+    let task = head.task;
+    let x = task.x;
+    let y = task.y;
+    match stage {
+        Stage::Resting => going(task, Stage::Resting),
+        Stage::Find(errand, step) => {
+            let walked = walk(table, node_at(task, errand), step);
+            followed(task, errand, now, walked)
+        }
+        Stage::RereadX(point) => reread(task, point, load(table, x)),
+        Stage::ReadRankX => {
+            let seen = load(table, x);
+            going(task, Stage::ReadRankY(seen.rank))
+        }
+        Stage::ReadRankY(rank) => {
+            let seen = load(table, y);
+            ranked(task, rank, seen.rank)
+        }
+        Stage::Link(rank, equal) => {
+            let seen = swap(table, x, Node { rank, parent: x }, Node { rank, parent: y });
+            linking(task, rank, equal, seen, now)
+        }
+        Stage::Raise(rank) => {
+            let seen = swap(
+                table,
+                y,
+                Node { rank, parent: y },
+                Node {
+                    rank: rank + 1,
+                    parent: y,
+                },
+            );
+            raising(task, rank, seen)
+        }
     }
 }

@@ -6,50 +6,51 @@ use std::time::{Duration, Instant};
 use peer::gen::{self, Random};
 use peer::job::{Job, Request};
 use peer::player::{Outcome, Player, AMPLE, PEER};
-use peer::proved::CORE;
+use peer::proved::{CORE, LENT};
 
 const ROUNDS: usize = 200;
 /// A round repeats its call for at least this long.
 const ROUND: Duration = Duration::from_micros(50);
-/// Jobs to a row of the first table.
+/// Jobs to a row of the first table, played in turn: one that is repeated is soon known by heart.
 const JOBS: u64 = 8;
 
-/// Nanoseconds of a call, by the core and by the peer.
-#[derive(Clone, Copy, Default)]
+/// Nanoseconds of a call, by two players.
+#[derive(Clone, Copy)]
 struct Times {
-    core: f64,
-    peer: f64,
+    first: f64,
+    second: f64,
 }
 
 impl Times {
     /// The least of all rounds, core and peer in turn.
-    fn of(mut call: impl FnMut(&Player)) -> Times {
-        let calls = calls_to_a_round(|| call(&PEER));
+    fn of(call: impl FnMut(&Player)) -> Times {
+        Times::between(&CORE, &PEER, call)
+    }
+
+    /// The least of all rounds, the two players in turn.
+    fn between(first: &Player, second: &Player, mut call: impl FnMut(&Player)) -> Times {
+        let calls = calls_to_a_round(|| call(second));
         let mut round = |player: &Player| {
             let start = Instant::now();
             (0..calls).for_each(|_| call(player));
             start.elapsed().as_nanos() as f64 / f64::from(calls)
         };
-        let mut least = Times { core: f64::INFINITY, peer: f64::INFINITY };
+        let mut least = Times { first: f64::INFINITY, second: f64::INFINITY };
         for _ in 0..ROUNDS {
-            least.core = least.core.min(round(&CORE));
-            least.peer = least.peer.min(round(&PEER));
+            least.first = least.first.min(round(first));
+            least.second = least.second.min(round(second));
         }
         least
     }
 
-    fn plus(self, other: Times) -> Times {
-        Times { core: self.core + other.core, peer: self.peer + other.peer }
-    }
-
     fn less(self, other: Times) -> Times {
-        Times { core: self.core - other.core, peer: self.peer - other.peer }
+        Times { first: self.first - other.first, second: self.second - other.second }
     }
 
     /// Three columns: each in so many parts, and their ratio.
     fn columns(self, parts: f64) -> String {
-        let Times { core, peer } = self;
-        format!("{:>9.2} {:>9.2} {:>6.2}", core / parts, peer / parts, core / peer)
+        let Times { first, second } = self;
+        format!("{:>9.2} {:>9.2} {:>6.2}", first / parts, second / parts, first / second)
     }
 }
 
@@ -62,19 +63,31 @@ fn calls_to_a_round(mut call: impl FnMut()) -> u32 {
     calls
 }
 
-fn play(file: &[u8]) -> Times {
-    assert_eq!(Outcome::of(CORE.play, file, AMPLE), Outcome::of(PEER.play, file, AMPLE));
+/// One call plays the files in turn.
+fn play_by(first: &Player, second: &Player, files: &[Vec<u8>]) -> Times {
+    for file in files {
+        assert_eq!(Outcome::of(first.play, file, AMPLE), Outcome::of(second.play, file, AMPLE));
+    }
     let Outcome { mut table, mut report, mut lineup, .. } = Outcome::untouched(0, AMPLE);
-    Times::of(|player| {
-        black_box((player.play)(black_box(file), &mut table, &mut report, &mut lineup));
+    Times::between(first, second, |player| {
+        for file in files {
+            black_box((player.play)(black_box(file), &mut table, &mut report, &mut lineup));
+        }
     })
 }
 
+fn play(files: &[Vec<u8>]) -> Times {
+    play_by(&CORE, &PEER, files)
+}
+
 /// Only the reading: a file whose balance alone is wrong is read to its end, and refused.
-fn read(file: &[u8]) -> Times {
-    let mut wrong = file.to_vec();
-    *wrong.last_mut().expect("a file has a close") ^= 1;
-    play(&wrong)
+fn read(files: &[Vec<u8>]) -> Times {
+    let wrong = |file: &Vec<u8>| {
+        let mut wrong = file.clone();
+        *wrong.last_mut().expect("a file has a close") ^= 1;
+        wrong
+    };
+    play(&files.iter().map(wrong).collect::<Vec<_>>())
 }
 
 fn write(job: &Job) -> Times {
@@ -90,8 +103,13 @@ fn file(job: &Job) -> Vec<u8> {
     job.file().expect("the job is accepted")
 }
 
+/// The job without its idle grants, which changes no other.
+fn busy(job: Job) -> Job {
+    let (_, trace) = Outcome::traced(&file(&job), AMPLE);
+    Job { grants: trace.iter().map(|access| access.head).collect(), ..job }
+}
+
 /// Sixteen heads get 7,000 grants one by one, in turn, or as many bursts of one to eight, at random.
-/// The idle grants are taken out, which changes no other.
 fn busy_job(seed: u64, nodes: u32, requests: u32, unions: u32, bursts: bool) -> Job {
     let mut random = Random::new(seed);
     let requests = gen::mixed_requests(&mut random, nodes, 16, requests, unions);
@@ -101,34 +119,71 @@ fn busy_job(seed: u64, nodes: u32, requests: u32, unions: u32, bursts: bool) -> 
             false => ((n % 16) as u8, 1),
         })
         .collect();
-    let job = Job::new(nodes, 16, &requests, &runs);
-    let (_, trace) = Outcome::traced(&file(&job), AMPLE);
-    Job { grants: trace.iter().map(|access| access.head).collect(), ..job }
+    busy(Job::new(nodes, 16, &requests, &runs))
 }
 
-fn busy_grants() {
-    println!("\nns a grant, 4096 nodes, 16 heads, 512 requests, {JOBS} jobs a row");
-    println!("{:<40} {:>26}   {:>26}", "", "whole call", "without reading the file");
-    let titles = "     core      peer  ratio";
-    println!("{:<40} {titles}   {titles}", "");
+/// Two heads link so many nodes to a chain: each union links before the one before it tries to raise
+/// the rank of the node between them. Then come further requests and runs.
+fn chain_job(nodes: u32, requests: &[Request], runs: &[(u8, usize)]) -> Job {
+    let unions = (1..nodes).map(|node| Request::union((node % 2) as u8, node - 1, node));
+    let links = (1..nodes).map(|node| ((node % 2) as u8, if node < 3 { 5 } else { 6 }));
+    let requests: Vec<Request> = unions.chain(requests.iter().copied()).collect();
+    let runs: Vec<(u8, usize)> = links.chain(runs.iter().copied()).collect();
+    busy(Job::new(nodes, 16, &requests, &runs))
+}
+
+/// Sixteen finds climb one chain, a grant each in turn.
+fn chain_in_step(seed: u64) -> Job {
+    let nodes = 400 - seed as u32;
+    let requests: Vec<Request> =
+        (0..16).map(|head| Request::same_set(head, u32::from(head), nodes - 1)).collect();
+    let runs: Vec<(u8, usize)> = (0..6_900).map(|n| ((n % 16) as u8, 1)).collect();
+    chain_job(nodes, &requests, &runs)
+}
+
+/// One head finds its way along a chain, from one node after the other.
+fn deep_finds(seed: u64) -> Job {
+    let nodes = 480 - seed as u32;
+    let requests: Vec<Request> =
+        (0..32).map(|node| Request::same_set(0, node, nodes - 1)).collect();
+    chain_job(nodes, &requests, &[(0, 20_000)])
+}
+
+type Row = (String, Vec<Job>);
+
+/// The rows of the table of grants.
+fn rows() -> Vec<Row> {
+    let mut rows = Vec::new();
     for (name, bursts) in [("one by one", false), ("bursts of 1 to 8", true)] {
         for unions in [10, 50, 90] {
-            let (mut whole, mut reading, mut grants) = (Times::default(), Times::default(), 0.0);
-            for seed in 0..JOBS {
-                let job = busy_job(seed, 4096, 512, unions, bursts);
-                whole = whole.plus(play(&file(&job)));
-                reading = reading.plus(read(&file(&job)));
-                grants += job.grants.len() as f64;
-            }
-            let name = format!("busy, {name}, {unions} % unions");
-            let playing = whole.less(reading).columns(grants);
-            println!("{name:<40} {}   {playing}", whole.columns(grants));
+            let jobs = (0..JOBS).map(|seed| busy_job(seed, 4096, 512, unions, bursts)).collect();
+            rows.push((format!("busy, {name}, {unions} % unions"), jobs));
         }
     }
-    let idle = file(&Job::new(4096, 16, &[], &[(0, 2_088_195)]));
-    let (whole, reading) = (play(&idle), read(&idle));
-    let playing = whole.less(reading).columns(2_088_195.0);
-    println!("{:<40} {}   {playing}", "idle, the most in a file", whole.columns(2_088_195.0));
+    rows.push(("idle, the most in a file".into(), vec![idle_job()]));
+    rows.push(("16 heads in step along a chain".into(), (0..JOBS).map(chain_in_step).collect()));
+    rows.push(("one head's deep finds".into(), (0..JOBS).map(deep_finds).collect()));
+    rows
+}
+
+fn idle_job() -> Job {
+    Job::new(4096, 16, &[], &[(0, 2_088_195)])
+}
+
+fn grants() {
+    println!("\nns a grant, 16 heads, {JOBS} jobs a row in turn, idle grants in one row alone");
+    println!("{:<40} {:>26}   {:>26}   {:>26}", "", "whole call", "without reading", "lent");
+    let titles = "     core      peer  ratio";
+    println!("{:<40} {titles}   {titles}        lent      core  ratio", "");
+    for (name, jobs) in rows() {
+        let files: Vec<Vec<u8>> = jobs.iter().map(file).collect();
+        let grants: usize = jobs.iter().map(|job| job.grants.len()).sum();
+        let columns = |times: Times| times.columns(grants as f64);
+        let whole = play(&files);
+        let playing = whole.less(read(&files));
+        let lent = play_by(&LENT, &CORE, &files);
+        println!("{name:<40} {}   {}   {}", columns(whole), columns(playing), columns(lent));
+    }
 }
 
 fn bytes() {
@@ -137,7 +192,7 @@ fn bytes() {
     let requests = Job::new(4096, 16, &[Request::union(15, 4095, 0); 512], &[]);
     let singles: Vec<(u8, usize)> = (0..8_189).map(|n| ((n % 16) as u8, 1)).collect();
     let singles = Job::new(4096, 16, &[], &singles);
-    let longest = Job::new(4096, 16, &[], &[(0, 2_088_195)]);
+    let longest = idle_job();
     let jobs = [
         ("512 requests", &requests),
         ("8189 runs of one grant", &singles),
@@ -145,7 +200,8 @@ fn bytes() {
     ];
     for (name, job) in jobs {
         let file = file(job);
-        println!("{:<40} {}", format!("read, {name}"), read(&file).columns(file.len() as f64));
+        let bytes = file.len() as f64;
+        println!("{:<40} {}", format!("read, {name}"), read(&[file]).columns(bytes));
     }
     for (name, job) in jobs {
         let bytes = file(job).len() as f64;
@@ -170,8 +226,8 @@ fn growth() {
     println!("\ngrowth, 16 heads, one by one, 50 % unions, no idle grants");
     println!("{:<40}   core us   peer us  ratio   core ns a grant", "");
     let row = |name: String, job: &Job| {
-        let times = play(&file(job));
-        let each = times.core / job.grants.len() as f64;
+        let times = play(&[file(job)]);
+        let each = times.first / job.grants.len() as f64;
         println!("{name:<40} {}   {each:>9.2}", times.columns(1_000.0));
     };
     for nodes in [16, 64, 256, 1024, 4096] {
@@ -193,8 +249,8 @@ fn main() {
     println!(
         "Least of {ROUNDS} rounds, core and peer in turn. A round repeats one call for {ROUND:?},"
     );
-    println!("so that caches and branch predictors know it. Ratio: core to peer.");
-    busy_grants();
+    println!("so that caches and branch predictors know it. Ratio: the first to the second.");
+    grants();
     bytes();
     enquiry();
     growth();

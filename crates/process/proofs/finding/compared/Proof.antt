@@ -1,0 +1,21 @@
+-- `finding::compared`: the two finds ended at one node, or at two.
+use borrow.Author.Tests.{eq-eqb, ne-eqb}
+use borrow.Author.Needs.{needs}
+use Rattle.process.proofs.finding.compared.Statement.{statement}
+use Rattle.process.proofs.finding.compared.Tie as tie
+
+together-answer-requires : tie.Need-together-answer-requires
+together-answer-requires c κs = search needs
+
+returns : tie.Need-returns
+returns c = simp (eq-eqb _ _ (c .before .if1 .taken), c .together-answer .ensures)
+
+apart-stage-requires : tie.Need-apart-stage-requires
+apart-stage-requires c κs = search needs
+
+returns-2 : tie.Need-returns-2
+returns-2 c = simp (ne-eqb _ _ (c .before .if1 .left), c .apart-stage .ensures)
+
+pub compared-spec : {M : Type 1} → statement M
+compared-spec =
+    tie.close (tie.spec together-answer-requires returns apart-stage-requires returns-2)
