@@ -1,6 +1,7 @@
 // One process: the record of a head, a find by halving as a machine of its own, and what a request makes of its finds.
 pub mod finding;
 pub mod joining;
+pub mod walking;
 
 use job::Answer;
 use job::Kind;

@@ -1,4 +1,4 @@
-// The shared table of words: one grant of a head on it, the access and what follows it together.
+// The shared table of words: one grant of a head on it, the one access and where it leads together.
 use process::Advanced;
 use process::Head;
 use process::Stage;
@@ -11,18 +11,33 @@ use process::finding::reread;
 use process::joining::linking;
 use process::joining::raising;
 use process::joining::ranked;
+use process::walking::halved;
+use process::walking::read_node;
 use word::Node;
 ghost use mathlib.Core.Path.{_≡_};
 ghost use mathlib.Core.List.{map};
+ghost use Rattle.word.specs.Word.{decode, encode};
+ghost use Rattle.process.specs.declared.Access.the-variants.{Load, Cas};
+ghost use Rattle.process.specs.Process.{Raisable};
+ghost use Rattle.process.specs.Find.{findAccess, walked};
+ghost use Rattle.process.specs.Access.{accessOf};
+ghost use Rattle.process.specs.Advance.{advanceOf};
+ghost use Rattle.rules.specs.Table.{seen, touched};
+ghost use Rattle.table.specs.Touch.{Touchable};
 
 // A read: the node that stands there.
 fn load(table: &[u32], node: u16) -> Node
+    requires { ⌜ Touchable (map decode (now table)) (Load node) ⌝ }
+    ensures { λ r. ⌜ r ≡ seen (map decode (now (table .entry))) (Load node) ⌝ }
 {
     word::decoded(table[node as usize])
 }
 
 // A compare-and-swap: it writes only if the word equals the expected one, and tells the node that stood there.
 fn swap(table: &mut [u32], node: u16, expected: Node, new: Node) -> Node
+    requires { ⌜ Touchable (map decode (now table)) (Cas node expected new) ⌝ }
+    ensures sees { λ r. ⌜ r ≡ seen (map decode (now (table .entry))) (Cas node expected new) ⌝ }
+    ensures leaves { λ _. ⌜ now (table .exit) ≡ map encode (touched (map decode (now (table .entry))) (Cas node expected new)) ⌝ }
 {
     let at = node as usize;
     let found = word::decoded(table[at]);
@@ -32,28 +47,21 @@ fn swap(table: &mut [u32], node: u16, expected: Node, new: Node) -> Node
     found
 }
 
-// One step of a find on a node: its access, and where it leads.
+// One step of a find on a node: its access, and where that leads.
 pub fn walk(table: &mut [u32], node: u16, step: Step) -> Walked
+    requires { ⌜ Touchable (map decode (now table)) (findAccess node step) ⌝ }
+    ensures leads { λ r. ⌜ r ≡ walked node (seen (map decode (now (table .entry))) (findAccess node step)) step ⌝ }
+    ensures leaves { λ _. ⌜ now (table .exit) ≡ map encode (touched (map decode (now (table .entry))) (findAccess node step)) ⌝ }
 {
     match step {
-        Step::ReadNode => {
-            let seen = load(table, node);
-            if seen.parent == node {
-                return Walked::Ended;
-            }
-            Walked::On(Step::ReadParent(seen.rank, seen.parent))
-        }
+        Step::ReadNode => read_node(node, load(table, node)),
         Step::ReadParent(rank, t) => {
             let seen = load(table, t);
             Walked::On(Step::Halve(rank, t, seen.parent))
         }
         Step::Halve(rank, t, u) => {
-            let expected = Node { rank, parent: t };
-            let seen = swap(table, node, expected, Node { rank, parent: u });
-            if word::is_same(seen, expected) {
-                return Walked::On(Step::ReadAgain(t));
-            }
-            Walked::Failed(Step::ReadAgain(t))
+            let seen = swap(table, node, Node { rank, parent: t }, Node { rank, parent: u });
+            halved(node, seen, rank, t, u)
         }
         Step::ReadAgain(t) => {
             let seen = load(table, t);
@@ -62,8 +70,13 @@ pub fn walk(table: &mut [u32], node: u16, step: Step) -> Walked
     }
 }
 
-// One grant of a head: the one access of its stage, and where it leads.
+// One grant of a head: the one access of its stage, and where that leads. In a grant no other function reads or writes
+// the table.
 pub fn stepped(table: &mut [u32], head: Head, now: u32) -> Advanced
+    requires { ⌜ Touchable (map decode (now table)) (accessOf head) ⌝ }
+    requires { ⌜ Raisable (head .stage) ⌝ }
+    ensures leads { λ r. ⌜ r ≡ advanceOf head (seen (map decode (now (table .entry))) (accessOf head)) now ⌝ }
+    ensures leaves { λ _. ⌜ now (table .exit) ≡ map encode (touched (map decode (now (table .entry))) (accessOf head)) ⌝ }
 {
     let stage = head.stage;
     let task = head.task;
