@@ -173,7 +173,10 @@ pub fn followed(task: Task, errand: Errand, now: u32, walked: Walked) -> Advance
     match walked {
         Walked::On(step) => going(task, Stage::Find(errand, step)),
         Walked::Failed(step) => retrying(task, Stage::Find(errand, step)),
-        Walked::Up(node) => going(moved_to(task, errand, node), Stage::Find(errand, Step::ReadNode)),
+        Walked::Up(node) => going(
+            moved_to(task, errand, node),
+            Stage::Find(errand, Step::ReadNode),
+        ),
         Walked::Ended => ended(task, errand, now),
     }
 }

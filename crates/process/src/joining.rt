@@ -75,7 +75,13 @@ fn link_written(task: Task, rank: u8, equal: bool, now: u32) -> Advanced
 pub fn raising(task: Task, rank: u8, seen: Node) -> Advanced
     ensures { λ r. ⌜ r ≡ raise task rank seen ⌝ }
 {
-    let wrote = word::is_same(seen, Node { rank, parent: task.y });
+    let wrote = word::is_same(
+        seen,
+        Node {
+            rank,
+            parent: task.y,
+        },
+    );
     Advanced {
         head: Head {
             stage: Stage::Resting,

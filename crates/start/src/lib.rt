@@ -57,8 +57,7 @@ pub fn first_requests(file: &[u8], requests: u32) -> [u16; 16]
 }
 
 // Every head's task before its first request.
-pub fn first_tasks(firsts: [u16; 16]) -> [Task; 16]
-{
+pub fn first_tasks(firsts: [u16; 16]) -> [Task; 16] {
     let first = Task {
         x: 0,
         y: 0,

@@ -60,7 +60,12 @@ pub fn walk(table: &mut [u32], node: u16, step: Step) -> Walked
             Walked::On(Step::Halve(rank, t, seen.parent))
         }
         Step::Halve(rank, t, u) => {
-            let seen = swap(table, node, Node { rank, parent: t }, Node { rank, parent: u });
+            let seen = swap(
+                table,
+                node,
+                Node { rank, parent: t },
+                Node { rank, parent: u },
+            );
             halved(node, seen, rank, t, u)
         }
         Step::ReadAgain(t) => {
@@ -72,10 +77,10 @@ pub fn walk(table: &mut [u32], node: u16, step: Step) -> Walked
 
 // One grant of a head: the one access of its stage, and where that leads. In a grant no other function reads or writes
 // the table.
-pub fn stepped(table: &mut [u32], head: Head, now: u32) -> Advanced
+pub fn stepped(table: &mut [u32], head: Head, number: u32) -> Advanced
     requires { ⌜ Touchable (map decode (now table)) (accessOf head) ⌝ }
     requires { ⌜ Raisable (head .stage) ⌝ }
-    ensures leads { λ r. ⌜ r ≡ advanceOf head (seen (map decode (now (table .entry))) (accessOf head)) now ⌝ }
+    ensures leads { λ r. ⌜ r ≡ advanceOf head (seen (map decode (now (table .entry))) (accessOf head)) number ⌝ }
     ensures leaves { λ _. ⌜ now (table .exit) ≡ map encode (touched (map decode (now (table .entry))) (accessOf head)) ⌝ }
 {
     let stage = head.stage;
@@ -86,7 +91,7 @@ pub fn stepped(table: &mut [u32], head: Head, now: u32) -> Advanced
         Stage::Resting => going(task, Stage::Resting),
         Stage::Find(errand, step) => {
             let walked = walk(table, node_at(task, errand), step);
-            followed(task, errand, now, walked)
+            followed(task, errand, number, walked)
         }
         Stage::RereadX(point) => reread(task, point, load(table, x)),
         Stage::ReadRankX => {
@@ -99,7 +104,7 @@ pub fn stepped(table: &mut [u32], head: Head, now: u32) -> Advanced
         }
         Stage::Link(rank, equal) => {
             let seen = swap(table, x, Node { rank, parent: x }, Node { rank, parent: y });
-            linking(task, rank, equal, seen, now)
+            linking(task, rank, equal, seen, number)
         }
         Stage::Raise(rank) => {
             let seen = swap(

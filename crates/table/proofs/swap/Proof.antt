@@ -2,7 +2,7 @@
 use denote.Ref.{now}
 use mathlib.Core.Path.{sym, _∙_}
 use borrow.Author.Needs.{needs}
-use Rattle.table.proofs.Accesses.{swap-inside, swap-rank, swap-wrote, swap-failed}
+use Rattle.table.proofs.Accesses.{node-inside, node-rank, swap-wrote, swap-failed}
 use Rattle.table.proofs.swap.Statement.{statement}
 use Rattle.table.proofs.swap.Tie as tie
 
@@ -12,12 +12,12 @@ mul-decoded c = search needs
 slice-read-decoded : tie.Need-slice-read-decoded
 slice-read-decoded c =
     let a = c .before .before .args in
-    swap-inside (now (a .table)) (a .node) (a .expected) (a .new) (c .before .before .pre)
+    node-inside (now (a .table)) (c .before .before .pre .worded) (a .node) (c .before .before .pre .node)
 
 decoded-requires : tie.Need-decoded-requires
 decoded-requires c κs =
     let a = c .before .before .args in
-    swap-rank (now (a .table)) (a .node) (a .expected) (a .new) (c .before .before .pre)
+    node-rank (now (a .table)) (c .before .before .pre .worded) (a .node) (c .before .before .pre .node)
 
 is-same-requires : tie.Need-is-same-requires
 is-same-requires c κs = search needs
@@ -32,7 +32,7 @@ slice-write-table : tie.Need-slice-write-table
 slice-write-table c =
     let start = c .before .before .before .before .before .before in
     let a = start .args in
-    swap-inside (now (a .table)) (a .node) (a .expected) (a .new) (start .pre)
+    node-inside (now (a .table)) (start .pre .worded) (a .node) (start .pre .node)
 
 same-length : tie.Need-same-length
 same-length c = search needs
