@@ -32,8 +32,9 @@ use Rattle.rules.specs.Report.{noRow}
 use Rattle.rules.specs.State.{State, requestAt}
 use Rattle.rules.specs.Step.{headAt}
 use Rattle.rules.specs.Run.{Happening}
-use Rattle.rules.specs.History.{lastWhere, endsFindOf, rowOf, linkOf, pointOf}
+use Rattle.rules.specs.History.{lastWhere, isOf, endsFindOf, rowOf, linkOf, pointOf}
 use Rattle.rules.specs.Linearized.{operationAt, promised}
+use Rattle.rules.specs.Laws.{Anchored}
 use Rattle.rules.proofs.History.{usedFor}
 use Rattle.rules.proofs.Stages.{isRaising, pendingOf, Knows}
 
@@ -50,8 +51,9 @@ pub record Candidate (q : ℕ) (past : List Happening) (point : ℕ) : Type 0 wh
   -- the point is not before the request's first grant
   pub begun : rowOf q past .first ≢ 0
   pub since : rowOf q past .first ≤ point
-  -- it is the grant that ended the request's last find from y
+  -- it is the grant that ended the request's last find from y, and its last grant so far
   pub last : lastWhere (endsFindOf q) past ≡ point
+  pub newest : lastWhere (isOf q) past ≡ point
   pub used : usedFor past point ≡ suc q
 
 pub record Timed (q : ℕ) (past : List Happening) (st : Stage) : Type 0 where
@@ -63,6 +65,7 @@ pub record Over (q : ℕ) (past : List Happening) (times : ℕ) : Type 0 where
   pub finished : rowOf q past .answer ≢ 0
   pub begun : rowOf q past .first ≢ 0
   pub ended : rowOf q past .last ≤ length past
+  pub anchored : Anchored q (rowOf q past) past
   pub listed : times ≡ 1
 
 pub record Current (q : ℕ) (past : List Happening) (times : ℕ) : Type 0 where

@@ -7,6 +7,7 @@ pub mod Stages
 pub mod Outcomes
 pub mod Writes
 pub mod Steps
+pub mod Agreement
 pub mod FindSteps
 pub mod UnionSteps
 pub mod StepOutcome

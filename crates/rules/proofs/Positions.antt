@@ -23,11 +23,15 @@ use Rattle.rules.specs.Step.{headAt, plus}
 use Rattle.rules.specs.Run.{Happening}
 use Rattle.rules.specs.History.{rowOf}
 use Rattle.rules.specs.Linearized.{rowAt}
-use Rattle.rules.specs.Laws.{some, isUnfinished, headsLeft}
+use Rattle.rules.specs.Laws.{some, isUnfinished, headsLeft, Anchored}
 use Rattle.rules.proofs.Invariant.{Phase, Invariant}
 use Rattle.rules.proofs.Invariant.Phase.{over, current, waiting}
 
 -- ---- one request
+
+-- one that is not finished has no answer of a same-set
+unanswered : {q : ℕ} {past : List Happening} → rowOf q past .answer ≡ 0 → Anchored q (rowOf q past) past
+unanswered none = record { yes = λ e. absurd (omega arith); no = λ e. absurd (omega arith) }
 
 module _ {head : Head} {q : ℕ} {past : List Happening} {times : ℕ} where
   -- one that has begun is not beyond its head's position
@@ -47,6 +51,12 @@ module _ {head : Head} {q : ℕ} {past : List Happening} {times : ℕ} where
   phase-left (over l o) left = absurd (omega arith)
   phase-left (current e b c) left = c .unfinished
   phase-left (waiting l r w) left = w .unfinished
+
+  -- a point of a same-set is told by its row
+  pub phase-anchored : Phase head q past times → Anchored q (rowOf q past) past
+  phase-anchored (over l o) = o .anchored
+  phase-anchored (current e b c) = unanswered (c .unfinished)
+  phase-anchored (waiting l r w) = unanswered (w .unfinished)
 
 -- ---- counting
 

@@ -36,7 +36,8 @@ use Rattle.rules.specs.Table.{parent, rank, seen}
 use Rattle.rules.specs.Report.{noRow, isFinal, charge}
 use Rattle.rules.specs.State.{State, requestAt, seek, resting}
 use Rattle.rules.specs.Step.{headAt, advanced, settled, served}
-use Rattle.rules.specs.Run.{Happening}
+use Rattle.rules.specs.Action.{Agrees}
+use Rattle.rules.specs.Run.{Happening, actionOf}
 use Rattle.rules.specs.Run.Happening.{serving}
 use Rattle.rules.specs.History.{rowOf, linkOf}
 use Rattle.rules.specs.Linearized.{operationAt}
@@ -46,6 +47,7 @@ use Rattle.rules.proofs.Requests.{seek-from, seek-own, seek-least}
 use Rattle.rules.proofs.Stages.{isRaising, Inside, Knows, pending-until, knows-later}
 use Rattle.rules.proofs.Outcomes.{Kept}
 use Rattle.rules.proofs.Steps.{advance-keeps}
+use Rattle.rules.proofs.Agreement.{stage-agrees}
 use Rattle.rules.proofs.Positions.{phase-of}
 use Rattle.rules.proofs.Others.{timed-other, over-other, waiting-other, phase-other}
 use Rattle.rules.proofs.Invariant.{labels, ApartAt, claim, Timed, Over, Current, Busy, Phase, Placed, Invariant}
@@ -65,10 +67,17 @@ pub record Serving (qs : List Request) (n : ℕ) (B : Labels) (S : State) (past 
 
 -- the grant, and the history with it
 abbrev pub serving-of : State → Head → Happening
-serving-of S head = serving (head .request) (advanced S head .event)
+serving-of S head = serving (head .request) (actionOf S head)
 
 abbrev pub more : State → Head → List Happening → List Happening
 more S head past = serving-of S head ∷ past
+
+pub served-agrees : {qs : List Request} {n : ℕ} {B : Labels} {S : State} {past : List Happening} {h : ℕ} {head : Head}
+    → Serving qs n B S past h head → Agrees (actionOf S head)
+unfolding accessOf advanceOf
+served-agrees {qs} {n} {B} {S = S} {head = head} srv =
+    stage-agrees (S .now) (S .table) head n (labels qs B S) (ApartAt qs B (S .entries) (head .request)) (requestAt qs (head .request))
+    (head .stage) (srv .knows)
 
 -- the head before its next request
 abbrev next-head : List Request → ℕ → Advanced → Head
@@ -135,11 +144,11 @@ module _ {qs : List Request} {n : ℕ} {B : Labels} {roots₀ : ℕ} {S : State}
         → Phase head′ p (more S head past) (occurrences p (S′ .entries))
     phase-stays busy now p (yes e) old = current (e ∙ sym position-stays) busy (rw e now)
     phase-stays busy now p (no d) (over l o) =
-        over (omega (arith, serving .position, position-stays)) (over-other p past (serving-of S head) (other-served p q (advanced S head .event) d) (effect .others p d) o)
+        over (omega (arith, serving .position, position-stays)) (over-other p past (serving-of S head) (other-served p q (actionOf S head) d) (effect .others p d) o)
     phase-stays busy now p (no d) (current e b c) = absurd (d (e ∙ serving .position))
     phase-stays busy now p (no d) (waiting l r w) =
         waiting (omega (arith, serving .position, position-stays)) (λ e. absurd (d (e ∙ position-stays)))
-        (waiting-other p past (serving-of S head) (other-served p q (advanced S head .event) d) (effect .others p d) w)
+        (waiting-other p past (serving-of S head) (other-served p q (actionOf S head) d) (effect .others p d) w)
 
   -- it has finished it
   module _ (final : isFinal (advanced S head .event .answer) ≡ true) (rests : advanced S head .head .stage ≡ Resting) where
@@ -158,11 +167,11 @@ module _ {qs : List Request} {n : ℕ} {B : Labels} {roots₀ : ℕ} {S : State}
     phase-moves done p l own (yes e) old = over (omega (arith, position-moves, seek-from qs h (suc q))) (rw e done)
     phase-moves done p l own (no d) (over before o) =
         over (omega (arith, serving .position, position-moves, seek-from qs h (suc q)))
-        (over-other p past (serving-of S head) (other-served p q (advanced S head .event) d) (effect .others p d) o)
+        (over-other p past (serving-of S head) (other-served p q (actionOf S head) d) (effect .others p d) o)
     phase-moves done p l own (no d) (current e b c) = absurd (d (e ∙ serving .position))
     phase-moves done p l own (no d) (waiting from r w) =
         waiting (omega (arith, position-moves, seek-least qs h (suc q) p (omega (arith, serving .position)) l own)) (λ e. resting-now)
-        (waiting-other p past (serving-of S head) (other-served p q (advanced S head .event) d) (effect .others p d) w)
+        (waiting-other p past (serving-of S head) (other-served p q (actionOf S head) d) (effect .others p d) w)
 
   seated : After qs n B S′ (more S head past) q (advanced S head) → Seated
   seated (continues unfinished busy knows timed now) =
@@ -207,7 +216,7 @@ module _ {qs : List Request} {n : ℕ} {B : Labels} {roots₀ : ℕ} {S : State}
     timed-kept b =
         let until = pending-until n (parent (S .table)) (rank (S .table)) (labels qs B S) (ApartAt qs B (S .entries) (headAt S k .request)) (S .now)
         (requestAt qs (headAt S k .request)) (headAt S k) (headAt S k .stage) (inv .knows k b) in
-        timed-other (serving-of S head) (other-served (headAt S k .request) q (advanced S head .event) (request-other b)) (omega (arith, until, inv .clock)) (inv .timed k b)
+        timed-other (serving-of S head) (other-served (headAt S k .request) q (actionOf S head) (request-other b)) (omega (arith, until, inv .clock)) (inv .timed k b)
 
   head-served : headAt S′ h ≡ head′
   head-served = getD-set-same (S .heads) h head′ (resting 0) present
@@ -219,10 +228,10 @@ module _ {qs : List Request} {n : ℕ} {B : Labels} {roots₀ : ℕ} {S : State}
       let there : getD (S′ .report) p noRow ≡ charge (getD (S .report) q noRow) (suc (S .now)) (advanced S head .event .answer) =
       ap (λ k. getD (S′ .report) k noRow) e ∙ getD-set-same (S .report) q (charge (getD (S .report) q noRow) (suc (S .now)) (advanced S head .event .answer)) noRow (omega (arith, serving .within, inv .reports)) in
       there ∙ ap₂ (λ r g. charge r (suc g) (advanced S head .event .answer)) (inv .rows q (serving .within)) (inv .clock)
-      ∙ row-served q (advanced S head .event) past ∙ ap (λ k. rowOf k (more S head past)) (sym e)
+      ∙ row-served q (actionOf S head) past ∙ ap (λ k. rowOf k (more S head past)) (sym e)
   rows-served p l (no d) =
       getD-set-other (S .report) q p (charge (getD (S .report) q noRow) (suc (S .now)) (advanced S head .event .answer)) noRow d
-      ∙ inv .rows p l ∙ sym (row-other p (serving-of S head) past (other-served p q (advanced S head .event) d))
+      ∙ inv .rows p l ∙ sym (row-other p (serving-of S head) past (other-served p q (actionOf S head) d))
 
   -- ---- every head
 
@@ -255,7 +264,7 @@ module _ {qs : List Request} {n : ℕ} {B : Labels} {roots₀ : ℕ} {S : State}
   phase-each p l (no d) =
       let apart : p ≢ q = λ e. d (ap (λ k. requestAt qs k .head) e ∙ serving .own) in
       subst (λ a. Phase a p (more S head past) (occurrences p (S′ .entries))) (sym (head-other (requestAt qs p .head) d))
-      (phase-other p past (serving-of S head) (other-served p q (advanced S head .event) apart) (effect .others p apart) (inv .phases p l))
+      (phase-other p past (serving-of S head) (other-served p q (actionOf S head) apart) (effect .others p apart) (inv .phases p l))
 
   -- ---- the whole state
 

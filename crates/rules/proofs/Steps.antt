@@ -27,7 +27,7 @@ use Rattle.rules.proofs.Stages.{Finding}
 
 -- ---- a head keeps its request
 
-cond-both : {A : Type 0} (P : A → Type 0) (b : Bool) {x y : A} → P x → P y → P (cond b x y)
+pub cond-both : {A : Type 0} (P : A → Type 0) (b : Bool) {x y : A} → P x → P y → P (cond b x y)
 cond-both P true p q = p
 cond-both P false p q = q
 
