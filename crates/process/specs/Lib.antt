@@ -1,4 +1,5 @@
--- One process: its beginning, the access that each stage makes, and where each access leads.
+-- One process: the record of a head, a find, and a request's accesses and where each leads.
 pub mod Process
+pub mod Find
 pub mod Access
 pub mod Advance

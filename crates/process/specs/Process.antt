@@ -1,62 +1,111 @@
--- Document 01, "One grant, one word": the record of a head and the start of its loop.
+-- Document 01, "One grant, one word": the record of a head, what is asked of its stage, and the start of its request.
 --
---   restingAt t    the stage t is that of a head at rest
---   isResting h    the head h serves no request
---   ofSide s x y   x or y, by the side s
---   nodeAt h s     the current node of side s
---   staged h t     the head h at stage t
---   movedTo h s v  the head h with v as the node of side s
---   restart k      the loop's start for a request of kind k
---   begin q n      the head as it begins request q, number n
-use mathlib.Core.Bool.{Bool, true, false}
-use Prim.Native.Nat.{ℕ}
+--   Traits, traitsOf t   what is asked of a stage, and the answers of each
+--   Raisable t           the rank to which stage t would raise a root fits its byte
+--   isResting h          the head h serves no request
+--   kindOf e             the kind of the request that sends a find on errand e
+--   servesX e            the find serves the first of the request's two places
+--   nextErrand e         the find that follows
+--   nodeAt k e           the place that the find on errand e has come to
+--   movedTo k e v        the task k with v as that place
+--   restart k            the start of a request of kind k
+--   noWait               the number of no request, in a task
+--   begin q n            the head as it begins request q, number n
+--   queued h n           the head h with n as its request
+use mathlib.Core.Bool.{Bool, true, false, cond}
+use Prim.Native.Nat.{ℕ, _+_, _<_}
 use Rattle.job.specs.declared.Kind.{Kind}
+use Rattle.job.specs.declared.Kind.the-variants.{Union, SameSet}
 use Rattle.job.specs.declared.Request.{Request}
-use Rattle.process.specs.declared.Side.{Side}
-use Rattle.process.specs.declared.Side.the-variants.{X, Y}
+use Rattle.process.specs.declared.Step.the-variants.{ReadNode}
+use Rattle.process.specs.declared.Errand.{Errand}
+use Rattle.process.specs.declared.Errand.the-variants.{UnionX, UnionY, SameX, SameY}
 use Rattle.process.specs.declared.Stage.{Stage}
-use Rattle.process.specs.declared.Stage.the-variants.{Resting, ReadNode, ReadParent, Halve, ReadAgain, RereadX, ReadRankX, ReadRankY, Link, Raise}
+use Rattle.process.specs.declared.Stage.the-variants.{Resting, Find, RereadX, ReadRankX, ReadRankY, Link, Raise}
+use Rattle.process.specs.declared.Task.{Task}
 use Rattle.process.specs.declared.Head.{Head}
 
+-- ---- what is asked of every stage
+
+pub record Traits : Type 0 where
+  -- the head serves no request
+  pub resting : Bool
+  -- its request has linked
+  pub linked : Bool
+  -- the point that a same-set gets if its answer is no, or 0
+  pub pending : ℕ
+  -- the rank to which its access would raise a root, or 0
+  pub raised : ℕ
+
+-- The four answers in a row.
+abbrev pub traits : Bool → Bool → ℕ → ℕ → Traits
+traits resting linked pending raised = record { resting = resting; linked = linked; pending = pending; raised = raised }
+
 -- What a head is doing is a choice of cases: resting, or some stage of a request.
-abbrev pub restingAt : Stage → Bool
-restingAt Resting = true
-restingAt (ReadNode k s) = false
-restingAt (ReadParent k s r t) = false
-restingAt (Halve k s r t u) = false
-restingAt (ReadAgain k s t) = false
-restingAt (RereadX p) = false
-restingAt ReadRankX = false
-restingAt (ReadRankY r) = false
-restingAt (Link r e) = false
-restingAt (Raise r) = false
+abbrev pub traitsOf : Stage → Traits
+traitsOf Resting = traits true false 0 0
+traitsOf (Find e s) = traits false false 0 0
+traitsOf (RereadX p) = traits false false p 0
+traitsOf ReadRankX = traits false false 0 0
+traitsOf (ReadRankY r) = traits false false 0 0
+traitsOf (Link r e) = traits false false 0 0
+traitsOf (Raise r) = traits false true 0 (r + 1)
+
+-- A rank that is stored is one byte.
+abbrev pub Raisable : Stage → Type 0
+Raisable t = traitsOf t .raised < 256
 
 -- A head that rests serves no request.
 abbrev pub isResting : Head → Bool
-isResting h = restingAt (h .stage)
+isResting h = traitsOf (h .stage) .resting
 
--- A find serves one of the request's two places.
-abbrev pub ofSide : Side → ℕ → ℕ → ℕ
-ofSide X x y = x
-ofSide Y x y = y
+-- ---- what an errand decides
 
--- The place that the find of that side has come to.
-abbrev pub nodeAt : Head → Side → ℕ
-nodeAt h s = ofSide s (h .x) (h .y)
+-- A find is made for a union or a same-set,
+abbrev pub kindOf : Errand → Kind
+kindOf UnionX = Union
+kindOf UnionY = Union
+kindOf SameX = SameSet
+kindOf SameY = SameSet
 
--- The head with its stage changed, and nothing else.
-abbrev pub staged : Head → Stage → Head
-staged h t = record { stage = t; x = h .x; y = h .y; request = h .request }
+-- and serves the first or the second of its two places.
+abbrev pub servesX : Errand → Bool
+servesX UnionX = true
+servesX UnionY = false
+servesX SameX = true
+servesX SameY = false
 
--- The head with the place of one side changed, and nothing else.
-abbrev pub movedTo : Head → Side → ℕ → Head
-movedTo h X v = record { stage = h .stage; x = v; y = h .y; request = h .request }
-movedTo h Y v = record { stage = h .stage; x = h .x; y = v; request = h .request }
+-- Find from x, then from y; and from x again.
+abbrev pub nextErrand : Errand → Errand
+nextErrand UnionX = UnionY
+nextErrand UnionY = UnionX
+nextErrand SameX = SameY
+nextErrand SameY = SameX
+
+-- The place that the find has come to.
+abbrev pub nodeAt : Task → Errand → ℕ
+nodeAt k e = cond (servesX e) (k .x) (k .y)
+
+-- The task with that place changed, and nothing else.
+abbrev pub movedTo : Task → Errand → ℕ → Task
+movedTo k e v =
+    record { x = cond (servesX e) v (k .x); y = cond (servesX e) (k .y) v; request = k .request; waits = k .waits }
+
+-- ---- a request's start, and the head's next one
 
 -- Same-set and union both start, and try again, with the find from x.
 abbrev pub restart : Kind → Stage
-restart k = ReadNode k X
+restart Union = Find UnionX ReadNode
+restart SameSet = Find SameX ReadNode
+
+-- A head waits for no request: 0 is none, as for points and grants, so a request waited for would be told one higher.
+abbrev pub noWait : ℕ
+noWait = 0
 
 -- A head's next request begins at its next grant: x and y are the request's two places.
 abbrev pub begin : Request → ℕ → Head
-begin q n = record { stage = restart (q .kind); x = q .x; y = q .y; request = n }
+begin q n = record { stage = restart (q .kind); task = record { x = q .x; y = q .y; request = n; waits = noWait } }
+
+-- The head with its request changed, and nothing else.
+abbrev pub queued : Head → ℕ → Head
+queued h n = record { stage = h .stage; task = record { x = h .task .x; y = h .task .y; request = n; waits = h .task .waits } }

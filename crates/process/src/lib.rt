@@ -1,30 +1,40 @@
-// One process as a pure state machine: which word a head touches next, and what it does with the word that it saw.
-mod finding;
-mod joining;
-
+// One process: the record of a head, a find by halving as a machine of its own, and what a request makes of its finds.
 use job::Answer;
 use job::Kind;
 use job::Request;
 use word::Node;
 ghost use mathlib.Core.Path.{_≡_};
-ghost use Rattle.process.specs.Process.{begin, isResting, nodeAt};
-ghost use Rattle.process.specs.Access.{accessOf, Raisable};
-ghost use Rattle.process.specs.Advance.{advanceOf};
+ghost use Rattle.process.specs.Process.{begin, isResting, restart};
 
-// The node that a find serves: the first or the second of its request.
-pub enum Side {
-    X,
-    Y,
+// A find by halving, on a node that it is given: the word that it touches next. The numbers are the rank and the parent t
+// of the word first read, and t's parent u.
+pub enum Step {
+    ReadNode,
+    ReadParent(u8, u16),
+    Halve(u8, u16, u16),
+    ReadAgain(u16),
 }
 
-// What a head is doing (document 01: a choice of cases inside its record). The numbers of a find stage are the
-// rank and the parent t of the word first read, and t's parent u. The cases fill eight bytes.
+// Where a word seen leads a find: on to its next step, on after a swap that failed, up to another node, or to its end.
+pub enum Walked {
+    On(Step),
+    Failed(Step),
+    Up(u16),
+    Ended,
+}
+
+// What a find is made for: a union or a same-set, and the first or the second of its nodes.
+pub enum Errand {
+    UnionX,
+    UnionY,
+    SameX,
+    SameY,
+}
+
+// What a head is doing (document 01: a choice of cases inside its record). The cases fill eight bytes.
 pub enum Stage {
     Resting,
-    ReadNode(Kind, Side),
-    ReadParent(Kind, Side, u8, u16),
-    Halve(Kind, Side, u8, u16, u16),
-    ReadAgain(Kind, Side, u16),
+    Find(Errand, Step),
     RereadX(u32),
     ReadRankX,
     ReadRankY(u8),
@@ -32,12 +42,19 @@ pub enum Stage {
     Raise(u8),
 }
 
-// A head's record: its stage, its current x and y, and the request that it serves, or its next one while it rests.
-pub struct Head {
-    pub stage: Stage,
+// What a head is doing it for: its current x and y, the request that it serves, or its next one while it rests, and the
+// request that it waits for (none today). Its eight bytes and the stage's keep the heads in registers during a play.
+pub struct Task {
     pub x: u16,
     pub y: u16,
     pub request: u16,
+    pub waits: u16,
+}
+
+// A head's record.
+pub struct Head {
+    pub stage: Stage,
+    pub task: Task,
 }
 
 // The one word that a head touches at a grant: a read, or a swap from an expected word to a new one.
@@ -62,16 +79,32 @@ pub struct Advanced {
     pub event: Event,
 }
 
+// The value of a head's `waits` that names no request.
+pub const NO_WAIT: u16 = 0;
+
+// A request starts, and tries again, with the find from x.
+fn restarted(kind: Kind) -> Stage
+    ensures { λ r. ⌜ r ≡ restart kind ⌝ }
+{
+    match kind {
+        Kind::Union => Stage::Find(Errand::UnionX, Step::ReadNode),
+        Kind::SameSet => Stage::Find(Errand::SameX, Step::ReadNode),
+    }
+}
+
 // The head as it begins a request: the find from x is about to read.
 pub fn begun(request: Request, number: u16) -> Head
     ensures { λ r. ⌜ r ≡ begin request number ⌝ }
 {
     let kind = request.kind;
     Head {
-        stage: Stage::ReadNode(kind, Side::X),
-        x: request.x,
-        y: request.y,
-        request: number,
+        stage: restarted(kind),
+        task: Task {
+            x: request.x,
+            y: request.y,
+            request: number,
+            waits: NO_WAIT,
+        },
     }
 }
 
@@ -82,87 +115,11 @@ pub fn is_resting(head: Head) -> bool
     let stage = head.stage;
     match stage {
         Stage::Resting => true,
-        Stage::ReadNode(_, _) => false,
-        Stage::ReadParent(_, _, _, _) => false,
-        Stage::Halve(_, _, _, _, _) => false,
-        Stage::ReadAgain(_, _, _) => false,
+        Stage::Find(_, _) => false,
         Stage::RereadX(_) => false,
         Stage::ReadRankX => false,
         Stage::ReadRankY(_) => false,
         Stage::Link(_, _) => false,
         Stage::Raise(_) => false,
-    }
-}
-
-// The current node of a side.
-fn node_of(head: Head, side: Side) -> u16
-    ensures { λ r. ⌜ r ≡ nodeAt head side ⌝ }
-{
-    match side {
-        Side::X => head.x,
-        Side::Y => head.y,
-    }
-}
-
-// The access that a head's stage makes.
-pub fn next_access(head: Head) -> Access
-    requires { ⌜ Raisable (head .stage) ⌝ }
-    ensures { λ r. ⌜ r ≡ accessOf head ⌝ }
-{
-    let stage = head.stage;
-    let x = head.x;
-    let y = head.y;
-    match stage {
-        Stage::Resting => Access::Idle,
-        Stage::ReadNode(_, side) => Access::Load(node_of(head, side)),
-        Stage::ReadParent(_, _, _, t) => Access::Load(t),
-        Stage::Halve(_, side, rank, t, u) => {
-            Access::Cas(
-                node_of(head, side),
-                Node { rank, parent: t },
-                Node { rank, parent: u },
-            )
-        }
-        Stage::ReadAgain(_, _, t) => Access::Load(t),
-        Stage::RereadX(_) => Access::Load(x),
-        Stage::ReadRankX => Access::Load(x),
-        Stage::ReadRankY(_) => Access::Load(y),
-        Stage::Link(rank, _) => Access::Cas(x, Node { rank, parent: x }, Node { rank, parent: y }),
-        Stage::Raise(rank) => Access::Cas(
-            y,
-            Node { rank, parent: y },
-            Node {
-                rank: rank + 1,
-                parent: y,
-            },
-        ),
-    }
-}
-
-// The head after its access, with the word that it saw, at grant number now; and what that grant did.
-pub fn advance(head: Head, seen: Node, now: u32) -> Advanced
-    ensures { λ r. ⌜ r ≡ advanceOf head seen now ⌝ }
-{
-    let stage = head.stage;
-    match stage {
-        Stage::Resting => finding::going(head, Stage::Resting),
-        Stage::ReadNode(kind, side) => finding::read_node(head, kind, side, seen, now),
-        Stage::ReadParent(kind, side, rank, t) => {
-            finding::going(head, Stage::Halve(kind, side, rank, t, seen.parent))
-        }
-        Stage::Halve(kind, side, rank, t, _) => {
-            finding::tried(
-                head,
-                Stage::ReadAgain(kind, side, t),
-                seen,
-                Node { rank, parent: t },
-            )
-        }
-        Stage::ReadAgain(kind, side, _) => finding::moved_up(head, kind, side, seen.parent),
-        Stage::RereadX(point) => finding::reread(head, point, seen),
-        Stage::ReadRankX => finding::going(head, Stage::ReadRankY(seen.rank)),
-        Stage::ReadRankY(rank) => joining::ranked(head, rank, seen.rank),
-        Stage::Link(rank, equal) => joining::linking(head, rank, equal, seen, now),
-        Stage::Raise(rank) => joining::raising(head, rank, seen),
     }
 }

@@ -34,7 +34,7 @@ pub data Happening : Type 0 where
 -- What the grant was, by whom it serves.
 abbrev pub happenedBy : State → Turn → Happening
 happenedBy S idled = idle
-happenedBy S (serves head) = serving (head .request) (actionOf S head)
+happenedBy S (serves head) = serving (head .task .request) (actionOf S head)
 
 -- What a grant to head h is.
 unfoldable pub happened : List Request → State → ℕ → Happening

@@ -22,6 +22,7 @@ use Rattle.job.specs.declared.Tally.{Tally}
 use Rattle.word.specs.declared.Node.{Node}
 use Rattle.process.specs.declared.Stage.the-variants.{Resting}
 use Rattle.process.specs.declared.Head.{Head}
+use Rattle.process.specs.Process.{noWait}
 use Rattle.linearization.specs.Entry.{Entry}
 use Rattle.rules.specs.declared.Row.{Row}
 use Rattle.rules.specs.Report.{noRow}
@@ -57,7 +58,7 @@ pub record State : Type 0 where
 
 -- A head at rest before request q.
 abbrev pub resting : ℕ → Head
-resting q = record { stage = Resting; x = 0; y = 0; request = q }
+resting q = record { stage = Resting; task = record { x = 0; y = 0; request = q; waits = noWait } }
 
 -- m heads from number h on, each resting before its first request.
 abbrev pub headsFrom : List Request → ℕ → ℕ → List Head
@@ -80,7 +81,7 @@ start qs m t =
 
 -- A head's request is its current one, or while it rests its next one; it has none left when that is the count.
 abbrev pub hasWork : List Request → Head → Bool
-hasWork qs head = ltb (head .request) (length qs)
+hasWork qs head = ltb (head .task .request) (length qs)
 
 -- The number of heads with work left.
 abbrev pub working : List Request → List Head → ℕ

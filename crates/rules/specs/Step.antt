@@ -22,7 +22,7 @@ use Rattle.job.specs.declared.Request.{Request}
 use Rattle.process.specs.declared.Head.{Head}
 use Rattle.process.specs.declared.Event.{Event}
 use Rattle.process.specs.declared.Advanced.{Advanced}
-use Rattle.process.specs.Process.{begin, isResting}
+use Rattle.process.specs.Process.{begin, isResting, queued}
 use Rattle.process.specs.Access.{accessOf}
 use Rattle.process.specs.Advance.{advanceOf}
 use Rattle.linearization.specs.Entry.{Entry, insert}
@@ -37,7 +37,7 @@ pub data Turn : Type 0 where
 
 -- A head's next request begins at its next grant.
 abbrev pub ready : List Request → Head → Head
-ready qs head = cond (isResting head) (begin (requestAt qs (head .request)) (head .request)) head
+ready qs head = cond (isResting head) (begin (requestAt qs (head .task .request)) (head .task .request)) head
 
 -- A grant to a head without requests left is idle.
 abbrev pub turnOf : List Request → Head → Turn
@@ -57,10 +57,7 @@ advanced S head = advanceOf head (seen (S .table) (accessOf head)) (suc (S .now)
 
 -- A head that has finished its request rests before its next one.
 abbrev pub settled : List Request → ℕ → Advanced → Head
-settled qs h a =
-    cond (isFinal (a .event .answer))
-    (record { stage = a .head .stage; x = a .head .x; y = a .head .y; request = seek qs h (suc (a .head .request)) })
-    (a .head)
+settled qs h a = cond (isFinal (a .event .answer)) (queued (a .head) (seek qs h (suc (a .head .task .request)))) (a .head)
 
 -- The entry goes in at its point, once that is known; later entries move up one place.
 abbrev pub entered : List Entry → ℕ → Event → List Entry
@@ -76,8 +73,10 @@ served qs S h head =
     record {
       table = touched (S .table) (accessOf head);
       heads = set (S .heads) h (settled qs h (advanced S head));
-      report = set (S .report) (head .request) (charge (getD (S .report) (head .request) noRow) (suc (S .now)) (advanced S head .event .answer));
-      entries = entered (S .entries) (head .request) (advanced S head .event);
+      report =
+          set (S .report) (head .task .request)
+          (charge (getD (S .report) (head .task .request) noRow) (suc (S .now)) (advanced S head .event .answer));
+      entries = entered (S .entries) (head .task .request) (advanced S head .event);
       idle = S .idle;
       failed = plus (advanced S head .event .failed) (S .failed);
       links = plus (advanced S head .event .linked) (S .links);
