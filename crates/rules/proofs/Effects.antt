@@ -24,7 +24,7 @@ use Rattle.job.specs.Job.{answerNumber}
 use Rattle.word.specs.declared.Node.{Node}
 use Rattle.process.specs.declared.Head.{Head}
 use Rattle.process.specs.declared.Advanced.{Advanced}
-use Rattle.process.specs.Process.{restingAt}
+use Rattle.process.specs.Process.{traitsOf}
 use Rattle.process.specs.Access.{accessOf}
 use Rattle.process.specs.Advance.{together}
 use Rattle.forest.specs.Forest.{rootCount}
@@ -42,7 +42,7 @@ use Rattle.rules.specs.Run.{Happening, actionOf}
 use Rattle.rules.specs.History.{linkOf, pointOf}
 use Rattle.rules.specs.Linearized.{operationAt, promised}
 use Rattle.rules.proofs.History.{other-served, row-other, served-answer, link-served, link-unserved, find-served, point-unlinked, point-same-set, point-union, usedFor}
-use Rattle.rules.proofs.Stages.{isRaising, pendingOf, Raising, Knows}
+use Rattle.rules.proofs.Stages.{Raising, Knows}
 use Rattle.rules.proofs.Outcomes.{Kept, Unlinked, Going, Closing, Linked, Joining, Ending, Denying, Outcome}
 use Rattle.rules.proofs.Outcomes.Linked.{finished, raises}
 use Rattle.rules.proofs.Outcomes.Outcome.{going, closing, joining, ending, denying}
@@ -64,7 +64,7 @@ together-final SameSet = refl
 module _ (qs : List Request) (n : ℕ) (B : Labels) (roots₀ : ℕ) (S : State) (past : List Happening) (h : ℕ) (head : Head)
     (inv : Invariant qs n B roots₀ S past) (srv : Serving qs n B S past h head) where
   abbrev q : ℕ
-  q = head .request
+  q = head .task .request
 
   abbrev a : Advanced
   a = advanced S head
@@ -136,7 +136,7 @@ module _ (qs : List Request) (n : ℕ) (B : Labels) (roots₀ : ℕ) (S : State)
       (λ e m. claim-other (e .request) (occurrences-absent q none m))
 
   -- before its link a request is not listed
-  module _ (unraised : isRaising (head .stage) ≡ false) where
+  module _ (unraised : traitsOf (head .stage) .linked ≡ false) where
     not-linked : linkOf q past ≡ 0
     not-linked = srv .timed .unlinked unraised
 
@@ -190,7 +190,7 @@ module _ (qs : List Request) (n : ℕ) (B : Labels) (roots₀ : ℕ) (S : State)
   entered-settled point l =
       ap (labelsTo (operationAt qs) point B) entered-last ∙ labelsTo-snoc (operationAt qs) point B (S .entries) own (omega arith)
 
-  entered-replayed : isRaising (head .stage) ≡ false → suc (length past) ≡ pointOf (requestAt qs q .kind) q past′
+  entered-replayed : traitsOf (head .stage) .linked ≡ false → suc (length past) ≡ pointOf (requestAt qs q .kind) q past′
       → reply B₁ (operationAt qs q) ≡ claim past′ q → Replayed (operationAt qs) (Placed qs past′) (claim past′) B 0 entered
   entered-replayed unraised point answered =
       let placed = subst (λ k. Placed qs past′ (entry (suc k) q)) (sym (inv .clock)) (placed-now q act past (srv .within) point) in
@@ -253,10 +253,10 @@ module _ (qs : List Request) (n : ℕ) (B : Labels) (roots₀ : ℕ) (S : State)
         finishes (ap isFinal answer) rests
         (finished-over q act past (ap isFinal answer) (anchored-joined q act past answer) (listed-once (j .unraised) (suc (S .now))))
     joining-after (raises k answer stage r) =
-        continues answer (ap restingAt stage)
-        (subst (Knows n (parent t′) (rank t′) (after (operationAt qs) B entered) (ApartAt qs B entered q) (suc (S .now)) (requestAt qs q) (a .head)) (sym stage)
-        (subst (λ C. Raising n (rank t′) C (requestAt qs q) (a .head .y) k) (sym joining-labels) r))
-        (timed-raising q act past (ap isRaising stage) (ap pendingOf stage) linked-now)
+        continues answer (ap (λ st. traitsOf st .resting) stage)
+        (subst (Knows n (parent t′) (rank t′) (after (operationAt qs) B entered) (ApartAt qs B entered q) (suc (S .now)) (requestAt qs q) (a .head .task)) (sym stage)
+        (subst (λ C. Raising n (rank t′) C (requestAt qs q) (a .head .task .y) k) (sym joining-labels) r))
+        (timed-raising q act past (ap (λ st. traitsOf st .linked) stage) (ap (λ st. traitsOf st .pending) stage) linked-now)
         (unfinished-current q act past answer
         (listed-once (j .unraised) (suc (S .now)) ∙ sym (rw (ne-eqb (linkOf q past′) 0 linked-now))))
 
@@ -309,7 +309,7 @@ module _ (qs : List Request) (n : ℕ) (B : Labels) (roots₀ : ℕ) (S : State)
 
   module _ (d : Denying n (S .now) (S .table) t′ B₁ (ApartAt qs B (S .entries) q) (requestAt qs q) (head .stage) a) where
     abbrev point : ℕ
-    point = pendingOf (head .stage)
+    point = traitsOf (head .stage) .pending
 
     candidate : Candidate q past point
     candidate = srv .timed .candidate (λ z. omega (arith, d .positive))
@@ -354,4 +354,4 @@ module _ (qs : List Request) (n : ℕ) (B : Labels) (roots₀ : ℕ) (S : State)
   outcome-effect (closing c) = placed-at (suc (S .now)) (c .point) (omega arith) (closing-effect c)
   outcome-effect (joining j) = placed-at (suc (S .now)) (j .point) (omega arith) (joining-effect j)
   outcome-effect (ending d) = unplaced (d .unplaced) (ending-effect d)
-  outcome-effect (denying d) = placed-at (pendingOf (head .stage)) (d .point) (d .positive) (denying-effect d)
+  outcome-effect (denying d) = placed-at (traitsOf (head .stage) .pending) (d .point) (d .positive) (denying-effect d)

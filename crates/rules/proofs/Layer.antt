@@ -41,7 +41,7 @@ use Rattle.rules.proofs.Positions.{phase-begun}
 pub record Layer (qs : List Request) (n : ℕ) (B : Labels) (roots₀ : ℕ) (P : State → List Happening → Type 0) : Type 0 where
   pub idles : {S : State} {past : List Happening} → Invariant qs n B roots₀ S past → P S past → P (passed S) (idle ∷ past)
   pub serves : {S : State} {past : List Happening} {h : ℕ} {head : Head} → Invariant qs n B roots₀ S past → Serving qs n B S past h head
-      → Effect qs n B roots₀ S (served qs S h head) (more S head past) (head .request) (advanced S head)
+      → Effect qs n B roots₀ S (served qs S h head) (more S head past) (head .task .request) (advanced S head)
       → P S past → P (served qs S h head) (more S head past)
 
 module _ {qs : List Request} {n : ℕ} {B : Labels} {roots₀ : ℕ} (inside : (q : ℕ) → q < length qs → Inside n (requestAt qs q))
@@ -52,7 +52,7 @@ module _ {qs : List Request} {n : ℕ} {B : Labels} {roots₀ : ℕ} (inside : (
     step-layer holds =
         split (hasWork qs (headAt S h))
         (λ t.
-        let serving = serving-ready inside inv h present (ltb-true (headAt S h .request) (length qs) t) in
+        let serving = serving-ready inside inv h present (ltb-true (headAt S h .task .request) (length qs) t) in
         rw t (layer .serves inv serving (served-effect inside inv h present serving) holds))
         (λ t. rw t (layer .idles inv holds))
 
@@ -139,26 +139,26 @@ module _ {qs : List Request} {n : ℕ} {B : Labels} {roots₀ : ℕ} where
       (p q : ℕ) (earlier : p < q) (within : q < length qs) (one : requestAt qs p .head ≡ requestAt qs q .head)
       (holds : Before (rowOf p past) (rowOf q past)) where
     -- while the earlier one is being served, the later one waits
-    not-begun : p ≡ head .request → rowOf q past .first ≢ 0 → ⊥
+    not-begun : p ≡ head .task .request → rowOf q past .first ≢ 0 → ⊥
     not-begun is begun =
         let there : requestAt qs q .head ≡ h = sym one ∙ ap (λ k. requestAt qs k .head) is ∙ srv .own in
-        omega (arith, phase-begun (inv .phases q within) begun, ap (λ k. headAt S k .request) there, srv .position)
+        omega (arith, phase-begun (inv .phases q within) begun, ap (λ k. headAt S k .task .request) there, srv .position)
 
-    before-step : Dec (p ≡ head .request) → Dec (q ≡ head .request) → Before (rowOf p (more S head past)) (rowOf q (more S head past))
+    before-step : Dec (p ≡ head .task .request) → Dec (q ≡ head .task .request) → Before (rowOf p (more S head past)) (rowOf q (more S head past))
     before-step (yes is) _ =
-        let row = row-other q (serving-of S head) past (other-served q (head .request) (actionOf S head) (λ e. omega arith)) in
+        let row = row-other q (serving-of S head) past (other-served q (head .task .request) (actionOf S head) (λ e. omega arith)) in
         λ begun. absurd (not-begun is (λ z. begun (ap (λ r. r .first) row ∙ z)))
     before-step (no d) (yes is) =
         subst (λ k. Before (rowOf p past) (rowOf k past) → Before (rowOf p (more S head past)) (rowOf k (more S head past))) (sym is)
-        (before-served p (head .request) (actionOf S head) past (other-served p (head .request) (actionOf S head) d)) holds
-    before-step (no d) (no c) = before-other p q (serving-of S head) past (other-served p (head .request) (actionOf S head) d) (other-served q (head .request) (actionOf S head) c) holds
+        (before-served p (head .task .request) (actionOf S head) past (other-served p (head .task .request) (actionOf S head) d)) holds
+    before-step (no d) (no c) = before-other p q (serving-of S head) past (other-served p (head .task .request) (actionOf S head) d) (other-served q (head .task .request) (actionOf S head) c) holds
 
   pub in-turn-layer : Layer qs n B roots₀ (λ S past. InTurn qs past)
   in-turn-layer =
       record {
         idles = λ {S} {past} inv turn p q l w one. before-other p q idle past refl refl (turn p q l w one);
         serves = λ {S} {past} {h} {head} inv srv effect turn p q l w one.
-            before-step inv srv p q l w one (turn p q l w one) (ℕ-discrete p (head .request)) (ℕ-discrete q (head .request));
+            before-step inv srv p q l w one (turn p q l w one) (ℕ-discrete p (head .task .request)) (ℕ-discrete q (head .task .request));
       }
 
   -- ---- what every grant leaves alone

@@ -3,6 +3,7 @@ pub mod Cases
 pub mod History
 pub mod Table
 pub mod Requests
+pub mod Finds
 pub mod Stages
 pub mod Outcomes
 pub mod Writes

@@ -11,6 +11,7 @@ use lib.ListN.{length}
 use Rattle.job.specs.declared.Kind.the-variants.{SameSet}
 use Rattle.job.specs.declared.Request.{Request}
 use Rattle.process.specs.declared.Stage.{Stage}
+use Rattle.process.specs.Process.{traitsOf}
 use Rattle.process.specs.declared.Head.{Head}
 use Rattle.linearization.specs.Entry.{Entry}
 use Rattle.rules.specs.State.{requestAt}
@@ -18,11 +19,10 @@ use Rattle.rules.specs.Run.{Happening}
 use Rattle.rules.specs.History.{isOf, rowOf}
 use Rattle.rules.specs.Laws.{Anchored}
 use Rattle.rules.proofs.History.{Other, last-kept, but-one-kept, row-other, link-other, find-other, point-other, used-kept}
-use Rattle.rules.proofs.Stages.{pendingOf}
 use Rattle.rules.proofs.Invariant.{Candidate, Timed, Over, Current, Waiting, Phase, Placed}
 use Rattle.rules.proofs.Invariant.Phase.{over, current, waiting}
 
-pub timed-other : {q : ℕ} {past : List Happening} {st : Stage} (a : Happening) → Other q a → pendingOf st ≤ length past → Timed q past st → Timed q (a ∷ past) st
+pub timed-other : {q : ℕ} {past : List Happening} {st : Stage} (a : Happening) → Other q a → traitsOf st .pending ≤ length past → Timed q past st → Timed q (a ∷ past) st
 timed-other {q} {past} {st} a o until timed =
     record {
       unlinked = λ e. link-other q a past o ∙ timed .unlinked e;
@@ -33,14 +33,14 @@ timed-other {q} {past} {st} a o until timed =
     first : rowOf q (a ∷ past) .first ≡ rowOf q past .first
     first = ap (λ r. r .first) (row-other q a past o)
 
-    candidate : Candidate q past (pendingOf st) → Candidate q (a ∷ past) (pendingOf st)
+    candidate : Candidate q past (traitsOf st .pending) → Candidate q (a ∷ past) (traitsOf st .pending)
     candidate c =
         record {
           begun = λ z. c .begun (sym first ∙ z);
           since = omega (arith, first, c .since);
           last = find-other q a past o ∙ c .last;
           newest = last-kept (isOf q) a past o ∙ c .newest;
-          used = used-kept a past (pendingOf st) until ∙ c .used;
+          used = used-kept a past (traitsOf st .pending) until ∙ c .used;
         }
 
 module _ (q : ℕ) (past : List Happening) {times times′ : ℕ} (a : Happening) (o : Other q a) (same : times′ ≡ times) where

@@ -21,6 +21,7 @@ use Rattle.job.specs.declared.Answer.the-variants.{Unfinished, Joined, No}
 use Rattle.job.specs.declared.Request.{Request}
 use Rattle.job.specs.Job.{answerNumber}
 use Rattle.process.specs.declared.Stage.{Stage}
+use Rattle.process.specs.Process.{traitsOf}
 use Rattle.process.specs.Advance.{together}
 use Rattle.linearization.proofs.Entries.{entry}
 use Rattle.rules.specs.Report.{isFinal}
@@ -31,7 +32,6 @@ use Rattle.rules.specs.Run.Happening.{serving}
 use Rattle.rules.specs.History.{isOf, rowOf, linkOf, pointOf}
 use Rattle.rules.specs.Laws.{Anchored}
 use Rattle.rules.proofs.History.{last-new, but-one-new, final-number, of-itself, served-answer, served-last, served-ended, served-first, served-settled, row-first-bound, row-last-bound, link-unserved, find-served, find-unserved, point-same-set, point-union, usedFor, used-now, used-kept}
-use Rattle.rules.proofs.Stages.{isRaising, pendingOf}
 use Rattle.rules.proofs.Invariant.{Candidate, Timed, Over, Current, Placed}
 
 -- no is not told to nodes in one set
@@ -99,8 +99,8 @@ module _ (q : ℕ) (act : Action) (past : List Happening) where
         used = ap (usedFor past′) here ∙ used-now q act past;
       }
 
-  pub timed-on : {st : Stage} → isRaising st ≡ false → linkOf q past′ ≡ 0
-      → (pendingOf st ≢ 0 → pendingOf st ≡ suc (length past)) → (pendingOf st ≢ 0 → act .event .found ≡ true) → Timed q past′ st
+  pub timed-on : {st : Stage} → traitsOf st .linked ≡ false → linkOf q past′ ≡ 0
+      → (traitsOf st .pending ≢ 0 → traitsOf st .pending ≡ suc (length past)) → (traitsOf st .pending ≢ 0 → act .event .found ≡ true) → Timed q past′ st
   timed-on still unlinked proposed found =
       record {
         unlinked = λ r. unlinked;
@@ -108,7 +108,7 @@ module _ (q : ℕ) (act : Action) (past : List Happening) where
         candidate = λ d. candidate-now (proposed d) (found d);
       }
 
-  pub timed-raising : {st : Stage} → isRaising st ≡ true → pendingOf st ≡ 0 → linkOf q past′ ≢ 0 → Timed q past′ st
+  pub timed-raising : {st : Stage} → traitsOf st .linked ≡ true → traitsOf st .pending ≡ 0 → linkOf q past′ ≢ 0 → Timed q past′ st
   timed-raising raises none linked =
       record { unlinked = λ r. absurd (true≢false (sym raises ∙ r)); linked = λ r. linked; candidate = λ d. absurd (d none) }
 
