@@ -10,6 +10,8 @@ mod enquiry;
 mod listed;
 mod plain;
 mod random;
+#[cfg(all(feature = "core", target_arch = "x86_64"))]
+mod stack;
 mod writer;
 mod wrong_turns;
 
