@@ -41,6 +41,11 @@ mod exports;
 mod numbers;
 mod results;
 
+/// The Rust program that README.md shows is compiled with the tests.
+#[cfg(doctest)]
+#[doc = include_str!("../../README.md")]
+struct Readme;
+
 pub use numbers::*;
 pub use results::{Listed, Played, Queried, Tally, Written};
 

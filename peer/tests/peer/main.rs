@@ -4,6 +4,7 @@ use peer::player::{Player, PEER};
 
 mod cases;
 mod damage;
+mod document;
 mod edges;
 mod enquiry;
 #[cfg(feature = "core")]

@@ -29,6 +29,7 @@ impl Painted {
         // the vector is read again.
         unsafe { call_on(self.0.as_mut_ptr_range().end.cast(), run::<F>, (&raw mut call).cast()) };
         let untouched = self.0.iter().take_while(|&&words| words == [PAINT; 2]).count();
+        assert!(untouched > 0, "the painted stack is too small");
         let used = &mut self.0[untouched..];
         used.fill([PAINT; 2]);
         size_of_val(used)
