@@ -10,6 +10,7 @@ mod enquiry;
 #[cfg(feature = "core")]
 mod listed;
 mod plain;
+mod promises;
 mod random;
 #[cfg(all(feature = "core", target_arch = "x86_64"))]
 mod stack;
