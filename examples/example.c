@@ -1,7 +1,18 @@
-/* Plays the job that document 01 prints, on a lent tally, and shows its listing. */
+/* Every call of the core once: writes the job that docs/JOBFILE.md shows byte by byte, plays it, plays it again on a
+ * lent tally, makes an enquiry on the table that it leaves, and prints the listing. A wrong result ends it with the
+ * number of its check. */
 #include "grouping.h"
 
 #include <stdio.h>
+#include <string.h>
+
+/* head, kind, place x, place y */
+static const uint32_t requests[] = {
+    0, GROUPING_UNION, 2, 3,
+    1, GROUPING_SAME_SET, 0, 1,
+};
+/* one head number a grant */
+static const uint8_t grants[] = {1, 1, 0, 0, 0, 0, 0, 0, 1};
 
 static const uint8_t job[] = {
     0x44, 0x4B, 0x04, 0x00, 0x02, 0x00,
@@ -13,24 +24,45 @@ static const uint8_t job[] = {
     0x43, 0x4C, 0xF1, 0xC2,
 };
 
-int main(void) {
-    static uint32_t table[GROUPING_MOST_TABLE];
-    static uint32_t report[GROUPING_MOST_REPORT];
-    static uint32_t linearization[GROUPING_MOST_LINEARIZATION];
-    static uint8_t text[1024];
+static uint8_t file[GROUPING_MOST_FILE];
+static uint32_t table[GROUPING_MOST_TABLE];
+static uint32_t report[GROUPING_MOST_REPORT];
+static uint32_t lineup[GROUPING_MOST_LINEUP];
+static uint8_t text[GROUPING_MOST_LISTING];
 
-    struct grouping_tally tally = {0, 0, 0, 0};
-    struct grouping_played played = grouping_play_lent(
-        job, sizeof job, table, GROUPING_MOST_TABLE, report, GROUPING_MOST_REPORT,
-        linearization, GROUPING_MOST_LINEARIZATION, &tally);
+int main(void) {
+    struct grouping_written written = grouping_write(
+        4, 2, requests, sizeof requests / sizeof requests[0], grants, sizeof grants, file, sizeof file);
+    if (written.number != GROUPING_ACCEPTED || written.bytes != sizeof job || memcmp(file, job, sizeof job) != 0) {
+        return 1;
+    }
+
+    struct grouping_played played = grouping_play(
+        file, written.bytes, table, GROUPING_MOST_TABLE, report, GROUPING_MOST_REPORT, lineup, GROUPING_MOST_LINEUP);
+    if (played.number != GROUPING_ACCEPTED || report[0] != GROUPING_JOINED || report[4] != GROUPING_NO) {
+        return 2;
+    }
+
+    struct grouping_tally tally = {9, 9, 9, 9};
+    struct grouping_played again = grouping_play_lent(
+        file, written.bytes, table, 4, report, 8, lineup, 4, &tally);
+    if (memcmp(&again, &played, sizeof played) != 0 || memcmp(&tally, &played.tally, sizeof tally) != 0) {
+        return 3;
+    }
+
     struct grouping_listed listed = grouping_list(
-        played, table, GROUPING_MOST_TABLE, report, GROUPING_MOST_REPORT,
-        linearization, GROUPING_MOST_LINEARIZATION, text, sizeof text);
-    if (listed.number != 0 || tally.links != played.tally.links) {
-        return 1;
+        again, table, GROUPING_MOST_TABLE, report, GROUPING_MOST_REPORT, lineup, GROUPING_MOST_LINEUP,
+        text, sizeof text);
+    if (listed.number != GROUPING_ACCEPTED || fwrite(text, 1, listed.bytes, stdout) != listed.bytes) {
+        return 4;
     }
-    if (fwrite(text, 1, listed.bytes, stdout) != listed.bytes) {
-        return 1;
+
+    /* Place 2's parent is 3: six grants tell so, and five are too few. The table's length is its number of places. */
+    struct grouping_queried spent = grouping_query(table, again.places, 2, 3, 5);
+    struct grouping_queried yes = grouping_query(table, again.places, 2, 3, 6);
+    if (spent.answer != GROUPING_SPENT || spent.used != 5 || yes.answer != GROUPING_YES || yes.used != 6) {
+        return 5;
     }
-    return 0;
+    struct grouping_queried refused = grouping_query(table, again.places, 2, 4, 6);
+    return refused.number == GROUPING_REFUSED_ENQUIRY ? 0 : 6;
 }

@@ -1,141 +1,80 @@
 //! Safe Rust over the proved grouping core: play a job file, with a tally of its own or on one that
 //! is lent, write one, make a counter enquiry, print a played job.
 //!
+//! Heads take turns on one table of places, one grant at a time, and work through requests: a union
+//! joins the groups of two places, a same-set asks whether two places are in one group. A place is a
+//! node of the paper's forest, a group a set, the line-up the run's linearization, an enquiry's
+//! allowance its budget of grants; a call that is turned down is refused. `docs/GLOSSARY.md` has all
+//! of them, `docs/JOBFILE.md` the job file byte by byte.
+//!
 //! Any bytes, numbers and lengths are admitted: what cannot be served is refused by number, with
-//! zero for every count and nothing written. What a call does not write stays as it was.
+//! zero for every count and nothing written. What a call does not write stays as it was. The
+//! functions keep nothing between calls, allocate nothing and have no global state, so they may be
+//! called from any threads; [`stack`] says how much stack each needs.
+//!
+//! ```
+//! use grouping_core::{list, play, write, MOST_FILE, MOST_LINEUP, MOST_LISTING, MOST_REPORT, MOST_TABLE};
+//! use grouping_core::{Refusal, SAME_SET, UNION};
+//!
+//! // Four places, two heads: head 0 joins 2 and 3, head 1 asks about 0 and 1.
+//! let requests = [0, UNION, 2, 3, /**/ 1, SAME_SET, 0, 1];
+//! let grants = [1, 1, 0, 0, 0, 0, 0, 0, 1];
+//! let mut file = vec![0; MOST_FILE];
+//! let written = write(4, 2, &requests, &grants, &mut file).result()?;
+//!
+//! let (mut table, mut report, mut lineup) =
+//!     (vec![0; MOST_TABLE], vec![0; MOST_REPORT], vec![0; MOST_LINEUP]);
+//! let played =
+//!     play(&file[..written.bytes as usize], &mut table, &mut report, &mut lineup).result()?;
+//!
+//! let mut text = vec![0; MOST_LISTING];
+//! let listed = list(played, &table, &report, &lineup, &mut text).result()?;
+//! let text = String::from_utf8_lossy(&text[..listed.bytes]);
+//! assert!(text.starts_with("job 4 2 2 9\n") && text.ends_with("line 7 0\ntally 0 0 1 0\n"));
+//! # Ok::<(), Refusal>(())
+//! ```
 
 #![deny(unsafe_op_in_unsafe_fn)]
+#![warn(missing_docs)]
 
-/// The counters of a play: idle grants, failed swaps, links, and the heads with work left.
-#[repr(C)]
-#[derive(Clone, Copy, Debug, Default, PartialEq, Eq)]
-pub struct Tally {
-    pub idle: u32,
-    pub failed: u32,
-    pub links: u32,
-    pub working: u32,
-}
+mod exports;
+mod numbers;
+mod results;
 
-/// `number` is 0, or the refusal's (1 to 14).
-#[repr(C)]
-#[derive(Clone, Copy, Debug, Default, PartialEq, Eq)]
-pub struct Played {
-    pub number: u32,
-    pub nodes: u32,
-    pub heads: u32,
-    pub requests: u32,
-    pub grants: u32,
-    pub entries: u32,
-    pub tally: Tally,
-}
+/// The Rust program that README.md shows is compiled with the tests.
+#[cfg(doctest)]
+#[doc = include_str!("../../README.md")]
+struct Readme;
 
-/// `number` is 0 and `bytes` the file's length, or the refusal's number (1, 4 to 10, 14) and 0.
-#[repr(C)]
-#[derive(Clone, Copy, Debug, Default, PartialEq, Eq)]
-pub struct Written {
-    pub number: u32,
-    pub bytes: u32,
-}
-
-/// `number` is 0, or the refusal's (15, 16). `answer` is 3 for yes, 4 for no, 0 for a budget that
-/// was spent.
-#[repr(C)]
-#[derive(Clone, Copy, Debug, Default, PartialEq, Eq)]
-pub struct Queried {
-    pub number: u32,
-    pub answer: u32,
-    pub used: u32,
-}
-
-/// `number` is 0 and `bytes` the text's length, or 14 and 0 where a buffer is too short.
-#[repr(C)]
-#[derive(Clone, Copy, Debug, Default, PartialEq, Eq)]
-pub struct Listed {
-    pub number: u32,
-    pub bytes: usize,
-}
-
-/// The sizes that the functions below are compiled for.
-const _: () = {
-    assert!(size_of::<Tally>() == 16);
-    assert!(size_of::<Played>() == 40);
-    assert!(size_of::<Written>() == 8);
-    assert!(size_of::<Queried>() == 12);
-    assert!(size_of::<Listed>() == 16);
-};
-
-/// The functions of include/grouping.h.
-mod exports {
-    use super::{Listed, Played, Queried, Tally, Written};
-
-    extern "C" {
-        pub fn grouping_play(
-            file: *const u8,
-            file_length: usize,
-            table: *mut u32,
-            table_length: usize,
-            report: *mut u32,
-            report_length: usize,
-            linearization: *mut u32,
-            linearization_length: usize,
-        ) -> Played;
-
-        pub fn grouping_play_lent(
-            file: *const u8,
-            file_length: usize,
-            table: *mut u32,
-            table_length: usize,
-            report: *mut u32,
-            report_length: usize,
-            linearization: *mut u32,
-            linearization_length: usize,
-            tally: *mut Tally,
-        ) -> Played;
-
-        pub fn grouping_write(
-            nodes: u32,
-            heads: u32,
-            requests: *const u32,
-            requests_length: usize,
-            grants: *const u8,
-            grants_length: usize,
-            out: *mut u8,
-            out_length: usize,
-        ) -> Written;
-
-        pub fn grouping_query(
-            table: *mut u32,
-            table_length: usize,
-            x: u32,
-            y: u32,
-            budget: u16,
-        ) -> Queried;
-
-        pub fn grouping_list(
-            played: Played,
-            table: *const u32,
-            table_length: usize,
-            report: *const u32,
-            report_length: usize,
-            linearization: *const u32,
-            linearization_length: usize,
-            out: *mut u8,
-            out_length: usize,
-        ) -> Listed;
-    }
-}
+pub use numbers::*;
+pub use results::{Listed, Played, Queried, Tally, Written};
 
 // In all calls each pointer and length come from one slice, which is valid for the call and, where
 // it is written, held by nobody else; so is the tally. The functions keep no pointer.
 
-/// Plays a job file. `table` gets a word a node, `report` four numbers a request, `linearization`
-/// two numbers an entry.
-pub fn play(
-    file: &[u8],
-    table: &mut [u32],
-    report: &mut [u32],
-    linearization: &mut [u32],
-) -> Played {
+/// Plays a job file. `table` gets a word a place (rank × 65,536 + parent), `report` four numbers a
+/// request (answer, first grant, last grant, grants used), `lineup` two numbers an entry (point,
+/// request). Refused with 1 to 14.
+///
+/// ```
+/// use grouping_core::{play, Answer, Refusal};
+///
+/// // Two places, one head: a union of 0 and 1, six grants.
+/// let file = b"DK\x02\0\x01\0RQ\0\x01\0\0\x01\0GR\0\x06CL\xDC\xBD";
+/// let (mut table, mut report, mut lineup) = ([7; 3], [7; 4], [7; 2]);
+/// let played = play(file, &mut table, &mut report, &mut lineup);
+/// assert_eq!((played.number, played.places, played.grants, played.entries), (0, 2, 6, 1));
+/// assert_eq!((played.tally.links, played.tally.working), (1, 0));
+/// // Place 0 has parent 1, which is a root of rank 1; the third word is past the places.
+/// assert_eq!(table, [1, 65_537, 7]);
+/// assert_eq!(report, [Answer::Joined as u32, 1, 6, 6]);
+/// assert_eq!(lineup, [5, 0]);
+///
+/// let refused = play(b"", &mut table, &mut report, &mut lineup);
+/// assert_eq!(refused.result(), Err(Refusal::FileEndsEarly));
+/// assert_eq!(table, [1, 65_537, 7]);
+/// ```
+pub fn play(file: &[u8], table: &mut [u32], report: &mut [u32], lineup: &mut [u32]) -> Played {
     // SAFETY: pointers and lengths of slices, as said above.
     unsafe {
         exports::grouping_play(
@@ -145,19 +84,34 @@ pub fn play(
             table.len(),
             report.as_mut_ptr(),
             report.len(),
-            linearization.as_mut_ptr(),
-            linearization.len(),
+            lineup.as_mut_ptr(),
+            lineup.len(),
         )
     }
 }
 
-/// Plays a job file as `play` does, on a tally that its owner lends: an accepted job sets it to zeros
-/// and each grant adds to it; a refusal leaves it as it was.
+/// Plays a job file as [`play`] does, on a tally that its owner lends: an accepted job sets it to
+/// zeros and each grant adds to it; a refusal leaves it as it was.
+///
+/// ```
+/// use grouping_core::{play_lent, Refusal, Tally};
+///
+/// // One place, one head, no requests, three grants: three idle ones.
+/// let file = b"DK\x01\0\x01\0GR\0\x03CL\x30\x13";
+/// let mut tally = Tally { idle: 9, failed: 9, links: 9, working: 9 };
+/// let refused = play_lent(&file[..4], &mut [0; 1], &mut [], &mut [], &mut tally);
+/// assert_eq!(refused.result(), Err(Refusal::FileEndsEarly));
+/// assert_eq!(tally.idle, 9);
+///
+/// let played = play_lent(file, &mut [0; 1], &mut [], &mut [], &mut tally);
+/// assert_eq!(tally, Tally { idle: 3, failed: 0, links: 0, working: 0 });
+/// assert_eq!(played.tally, tally);
+/// ```
 pub fn play_lent(
     file: &[u8],
     table: &mut [u32],
     report: &mut [u32],
-    linearization: &mut [u32],
+    lineup: &mut [u32],
     tally: &mut Tally,
 ) -> Played {
     // SAFETY: pointers and lengths of slices, and one reference, as said above.
@@ -169,20 +123,34 @@ pub fn play_lent(
             table.len(),
             report.as_mut_ptr(),
             report.len(),
-            linearization.as_mut_ptr(),
-            linearization.len(),
+            lineup.as_mut_ptr(),
+            lineup.len(),
             tally,
         )
     }
 }
 
-/// Writes a job file. `requests` has four numbers a request (head, kind, x, y), and a rest of fewer
-/// than four is no request; `grants` has one head number a grant.
-pub fn write(nodes: u32, heads: u32, requests: &[u32], grants: &[u8], out: &mut [u8]) -> Written {
+/// Writes a job file. `requests` has four numbers a request (head, kind, place x, place y), and a
+/// rest of fewer than four is no request; `grants` has one head number a grant. Refused with 1, 4 to
+/// 10 and 14.
+///
+/// ```
+/// use grouping_core::{write, Refusal, UNION};
+///
+/// let mut out = [0xEE; 24];
+/// let written = write(2, 1, &[0, UNION, 0, 1], &[0; 6], &mut out);
+/// assert_eq!((written.number, written.bytes), (0, 22));
+/// assert_eq!(&out[..22], b"DK\x02\0\x01\0RQ\0\x01\0\0\x01\0GR\0\x06CL\xDC\xBD");
+/// assert_eq!(out[22..], [0xEE; 2]);
+///
+/// let refused = write(2, 1, &[0, UNION, 0, 2], &[0; 6], &mut out);
+/// assert_eq!(refused.result(), Err(Refusal::RequestPlace));
+/// ```
+pub fn write(places: u32, heads: u32, requests: &[u32], grants: &[u8], out: &mut [u8]) -> Written {
     // SAFETY: pointers and lengths of slices, as said above.
     unsafe {
         exports::grouping_write(
-            nodes,
+            places,
             heads,
             requests.as_ptr(),
             requests.len(),
@@ -194,18 +162,50 @@ pub fn write(nodes: u32, heads: u32, requests: &[u32], grants: &[u8], out: &mut 
     }
 }
 
-/// Makes a counter enquiry: are x and y in one set? The table's length is its number of nodes.
-pub fn query(table: &mut [u32], x: u32, y: u32, budget: u16) -> Queried {
+/// Makes a counter enquiry: are the places x and y in one group? The table's length is its number of
+/// places, and the allowance the most grants that the enquiry may make. The groups stay; words on the
+/// way may change. Refused with 15 and 16.
+///
+/// ```
+/// use grouping_core::{query, Answer, Refusal};
+///
+/// // Place 0 has parent 1, a root of rank 1.
+/// let mut table = [1, 65_537];
+/// let spent = query(&mut table, 0, 1, 5);
+/// assert_eq!((spent.answer(), spent.used), (None, 5));
+/// let yes = query(&mut table, 0, 1, 6);
+/// assert_eq!((yes.answer(), yes.used), (Some(Answer::Yes), 6));
+///
+/// assert_eq!(query(&mut table, 0, 2, 6).result(), Err(Refusal::Enquiry));
+/// assert_eq!(query(&mut [2, 1], 0, 1, 6).result(), Err(Refusal::Word));
+/// ```
+pub fn query(table: &mut [u32], x: u32, y: u32, allowance: u16) -> Queried {
     // SAFETY: pointer and length of a slice, as said above.
-    unsafe { exports::grouping_query(table.as_mut_ptr(), table.len(), x, y, budget) }
+    unsafe { exports::grouping_query(table.as_mut_ptr(), table.len(), x, y, allowance) }
 }
 
-/// Prints a played job, refused or not, as lines of text.
+/// Prints a played job, refused or not, as lines of text. Refused with 14.
+///
+/// ```
+/// use grouping_core::{list, play, Refusal};
+///
+/// let file = b"DK\x01\0\x01\0GR\0\x03CL\x30\x13";
+/// let mut table = [0; 1];
+/// let played = play(file, &mut table, &mut [], &mut []);
+/// let mut text = [0; 64];
+/// let listed = list(played, &table, &[], &[], &mut text);
+/// assert_eq!(&text[..listed.bytes], b"job 1 1 0 3\nword 0 0 0\ntally 3 0 0 0\n");
+///
+/// let refused = play(b"DL", &mut table, &mut [], &mut []);
+/// let listed = list(refused, &table, &[], &[], &mut text);
+/// assert_eq!(&text[..listed.bytes], b"refused 3\n");
+/// assert_eq!(list(refused, &table, &[], &[], &mut []).result(), Err(Refusal::Buffer));
+/// ```
 pub fn list(
     played: Played,
     table: &[u32],
     report: &[u32],
-    linearization: &[u32],
+    lineup: &[u32],
     out: &mut [u8],
 ) -> Listed {
     // SAFETY: pointers and lengths of slices, as said above.
@@ -216,8 +216,8 @@ pub fn list(
             table.len(),
             report.as_ptr(),
             report.len(),
-            linearization.as_ptr(),
-            linearization.len(),
+            lineup.as_ptr(),
+            lineup.len(),
             out.as_mut_ptr(),
             out.len(),
         )

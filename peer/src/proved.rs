@@ -1,4 +1,4 @@
-//! The proved core as a player, through its static library.
+//! The proved core as a player, through its library.
 
 use grouping_core as core;
 
@@ -9,12 +9,15 @@ use crate::query::Queried;
 
 pub const CORE: Player = Player { name: "core", play, write, query, list };
 /// The core with a tally lent to it.
-pub const LENT: Player =
-    Player { name: "core, tally lent", play: play_lent, write, query, list };
+pub const LENT: Player = Player { name: "core, tally lent", play: play_lent, write, query, list };
 
 /// What stands in a lent tally before the call.
-const BEFORE: core::Tally =
-    core::Tally { idle: 0xA5A5_0000, failed: 0xA5A5_0001, links: 0xA5A5_0002, working: 0xA5A5_0003 };
+const BEFORE: core::Tally = core::Tally {
+    idle: 0xA5A5_0000,
+    failed: 0xA5A5_0001,
+    links: 0xA5A5_0002,
+    working: 0xA5A5_0003,
+};
 
 fn play(file: &[u8], table: &mut [u32], report: &mut [u32], lineup: &mut [u32]) -> Played {
     told(core::play(file, table, report, lineup))
@@ -40,25 +43,22 @@ fn query(table: &mut [u32], x: u32, y: u32, budget: u16) -> Queried {
 }
 
 fn told(played: core::Played) -> Played {
-    let core::Played { number, nodes, heads, requests, grants, entries, tally } = played;
+    let core::Played { number, places, heads, requests, grants, entries, tally } = played;
     let core::Tally { idle, failed, links, working } = tally;
     let tally = Tally { idle, failed, links, working };
-    Played { number, nodes, heads, requests, grants, entries, tally }
+    Played { number, nodes: places, heads, requests, grants, entries, tally }
 }
 
 fn asked(played: &Played) -> core::Played {
     let Played { number, nodes, heads, requests, grants, entries, tally } = *played;
     let Tally { idle, failed, links, working } = tally;
     let tally = core::Tally { idle, failed, links, working };
-    core::Played { number, nodes, heads, requests, grants, entries, tally }
+    core::Played { number, places: nodes, heads, requests, grants, entries, tally }
 }
-
-/// More than the text of any job.
-const TEXT: usize = 1 << 18;
 
 fn list(file: &[u8]) -> String {
     let outcome = Outcome::of(play, file, AMPLE);
-    let mut text = vec![0; TEXT];
+    let mut text = vec![0; core::MOST_LISTING];
     let listed = list_into(&outcome, &mut text);
     text.truncate(listed.bytes);
     String::from_utf8(text).expect("a listing is text")

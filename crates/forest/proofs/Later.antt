@@ -10,6 +10,7 @@ use Prim.Native.Nat.{ℕ, suc, _≤_, _<_}
 use native.Mathlib.Omega.{arith}
 use native.Mathlib.Decide.{ℕ-discrete}
 use Rattle.word.specs.Word.{key}
+use Rattle.forest.proofs.Forest.{WellFormed}
 use Rattle.forest.proofs.Size.{size}
 use Rattle.forest.proofs.Merge.{Ends, straight, crossed, merged-grows}
 use Rattle.forest.proofs.Sound.{Sound}
@@ -60,13 +61,13 @@ module _ {n : ℕ} {p r B p′ r′ B′ : ℕ → ℕ} (later : Later n p r B p
   later-ends a b x y la lb lx ly (straight e f) = straight (later .merges x a lx la e) (later .merges y b ly lb f)
   later-ends a b x y la lb lx ly (crossed e f) = crossed (later .merges x b lx lb e) (later .merges y a ly la f)
 
-pub halving-later : {n : ℕ} {p r B p′ r′ : ℕ → ℕ} {v k u : ℕ} → Sound n p r B → Halving n p r B v k u → Changed p p′ v u
+pub halving-later : {n : ℕ} {p r B p′ r′ : ℕ → ℕ} {v k u : ℕ} → WellFormed n p r → Halving n p r B v k u → Changed p p′ v u
     → Changed r r′ v k → Later n p r B p′ r′ B
-halving-later sound halving parents ranks =
+halving-later formed halving parents ranks =
     record {
-      root = λ i l. halving-root sound halving parents ranks i;
-      frozen = λ i l d. halving-ranks sound halving parents ranks i;
-      grows = λ i l. omega (arith, halving-ranks sound halving parents ranks i);
+      root = λ i l. halving-root formed halving parents ranks i;
+      frozen = λ i l d. halving-ranks formed halving parents ranks i;
+      grows = λ i l. omega (arith, halving-ranks formed halving parents ranks i);
       merges = λ i j li lj e. e;
       larger = λ i l. omega arith;
     }

@@ -9,6 +9,7 @@ use native.Mathlib.Decide.{ℕ-discrete}
 use lib.Dec.{eqb}
 use borrow.Author.Tests.{eq-eqb, ne-eqb}
 use Rattle.forest.specs.Forest.{rootCount}
+use Rattle.forest.proofs.Forest.{WellFormed}
 use Rattle.forest.proofs.Count.{count-all, count-same, count-less}
 use Rattle.forest.proofs.Sound.{Sound, Start}
 use Rattle.forest.proofs.Writes.{Changed}
@@ -22,13 +23,13 @@ isRoot p i = eqb (p i) i
 pub start-roots : {n : ℕ} {p r B : ℕ → ℕ} → Start n p r B → rootCount p n ≡ n
 start-roots {n} {p} start = count-all (isRoot p) n (λ i l. eq-eqb (p i) i (start .roots i l))
 
-pub halving-roots : {n : ℕ} {p r B p′ r′ : ℕ → ℕ} {v k u : ℕ} → Sound n p r B → Halving n p r B v k u → Changed p p′ v u
+pub halving-roots : {n : ℕ} {p r B p′ r′ : ℕ → ℕ} {v k u : ℕ} → WellFormed n p r → Halving n p r B v k u → Changed p p′ v u
     → Changed r r′ v k → rootCount p′ n ≡ rootCount p n
-halving-roots {n} {p} {r} {B} {p′} {r′} {v} sound halving parents ranks =
+halving-roots {n} {p} {r} {B} {p′} {r′} {v} formed halving parents ranks =
     count-same (isRoot p′) (isRoot p) n (λ i l. same i (ℕ-discrete i v))
   where
     no-root : p′ v ≢ v
-    no-root e = halving .lower (halving-root sound halving parents ranks v e)
+    no-root e = halving .lower (halving-root formed halving parents ranks v e)
 
     same : (i : ℕ) → Dec (i ≡ v) → isRoot p′ i ≡ isRoot p i
     same i (yes e) = rw e (ne-eqb (p′ v) v no-root ∙ sym (ne-eqb (p v) v (halving .lower)))

@@ -8,6 +8,7 @@
 --   nextErrand e         the find that follows
 --   nodeAt k e           the place that the find on errand e has come to
 --   movedTo k e v        the task k with v as that place
+--   firstErrand k        the first find of a request of kind k
 --   restart k            the start of a request of kind k
 --   noWait               the number of no request, in a task
 --   begin q n            the head as it begins request q, number n
@@ -93,10 +94,14 @@ movedTo k e v =
 
 -- ---- a request's start, and the head's next one
 
--- Same-set and union both start, and try again, with the find from x.
+-- The first find of a request is from x,
+abbrev pub firstErrand : Kind → Errand
+firstErrand Union = UnionX
+firstErrand SameSet = SameX
+
+-- and with it same-set and union both start, and try again.
 abbrev pub restart : Kind → Stage
-restart Union = Find UnionX ReadNode
-restart SameSet = Find SameX ReadNode
+restart k = Find (firstErrand k) ReadNode
 
 -- A head waits for no request: 0 is none, as for points and grants, so a request waited for would be told one higher.
 abbrev pub noWait : ℕ

@@ -1,6 +1,6 @@
 -- What each of the five outcomes does to the table, to the entries and to its own request.
 --
---   q, a, past′, t′   the request served, the head's step, the history and the table after the grant
+--   q, a, act, past′, t′   the request served, the head's step, the action, the history and the table after the grant
 --   B₁, united        the labels before the grant, and what a union of the request makes of them
 --   with-entries es   the state after the grant, with the entries es
 --   Does es           the effect of the grant, with the entries es
@@ -9,7 +9,7 @@
 -- Main law: outcome-effect.
 use mathlib.Core.Path.{_≡_, refl, sym, ap, _∙_, subst}
 use mathlib.Core.Logic.{_≢_}
-use mathlib.Core.Bool.{true, false}
+use mathlib.Core.Bool.{Bool, true, false}
 use mathlib.Core.List.{List, [], _∷_, _++_}
 use Prim.Native.Nat.{ℕ, suc, _+_, _≤_}
 use native.Mathlib.Omega.{arith}
@@ -24,7 +24,7 @@ use Rattle.job.specs.Job.{answerNumber}
 use Rattle.word.specs.declared.Node.{Node}
 use Rattle.process.specs.declared.Head.{Head}
 use Rattle.process.specs.declared.Advanced.{Advanced}
-use Rattle.process.specs.Process.{restingAt}
+use Rattle.process.specs.Process.{traitsOf}
 use Rattle.process.specs.Access.{accessOf}
 use Rattle.process.specs.Advance.{together}
 use Rattle.forest.specs.Forest.{rootCount}
@@ -37,18 +37,19 @@ use Rattle.rules.specs.Table.{parent, rank, touched}
 use Rattle.rules.specs.Report.{isFinal}
 use Rattle.rules.specs.State.{State, requestAt}
 use Rattle.rules.specs.Step.{advanced, served}
-use Rattle.rules.specs.Run.{Happening}
+use Rattle.rules.specs.Action.{Action, Agrees, links}
+use Rattle.rules.specs.Run.{Happening, actionOf}
 use Rattle.rules.specs.History.{linkOf, pointOf}
 use Rattle.rules.specs.Linearized.{operationAt, promised}
 use Rattle.rules.proofs.History.{other-served, row-other, served-answer, link-served, link-unserved, find-served, point-unlinked, point-same-set, point-union, usedFor}
-use Rattle.rules.proofs.Stages.{isRaising, pendingOf, Raising, Knows}
+use Rattle.rules.proofs.Stages.{Raising, Knows}
 use Rattle.rules.proofs.Outcomes.{Kept, Unlinked, Going, Closing, Linked, Joining, Ending, Denying, Outcome}
 use Rattle.rules.proofs.Outcomes.Linked.{finished, raises}
 use Rattle.rules.proofs.Outcomes.Outcome.{going, closing, joining, ending, denying}
 use Rattle.rules.proofs.Invariant.{labels, ApartAt, claim, Candidate, Placed, Invariant}
 use Rattle.rules.proofs.Others.{placed-other}
-use Rattle.rules.proofs.Own.{finished-over, unfinished-current, timed-on, timed-raising, placed-now, placed-pending, placed-still}
-use Rattle.rules.proofs.Serving.{Serving, serving-of, more, After, Effect}
+use Rattle.rules.proofs.Own.{anchored-joined, anchored-found, anchored-no, finished-over, unfinished-current, timed-on, timed-raising, placed-now, placed-pending, placed-still}
+use Rattle.rules.proofs.Serving.{Serving, serving-of, more, served-agrees, After, Effect}
 use Rattle.rules.proofs.Serving.After.{continues, finishes}
 
 -- yes and already together are what the specification answers of nodes in one set
@@ -63,10 +64,13 @@ together-final SameSet = refl
 module _ (qs : List Request) (n : ℕ) (B : Labels) (roots₀ : ℕ) (S : State) (past : List Happening) (h : ℕ) (head : Head)
     (inv : Invariant qs n B roots₀ S past) (srv : Serving qs n B S past h head) where
   abbrev q : ℕ
-  q = head .request
+  q = head .task .request
 
   abbrev a : Advanced
   a = advanced S head
+
+  abbrev act : Action
+  act = actionOf S head
 
   abbrev past′ : List Happening
   past′ = more S head past
@@ -102,6 +106,13 @@ module _ (qs : List Request) (n : ℕ) (B : Labels) (roots₀ : ℕ) (S : State)
       entries : served qs S h head .entries ≡ insert point q (S .entries)
       entries = rw (ne-eqb (a .event .point) 0 (λ z. omega arith), e)
 
+  -- what the step says of the grant is what its access tells
+  agrees : Agrees act
+  agrees = served-agrees srv
+
+  tells : {b : Bool} → a .event .linked ≡ b → links (act .access) (act .seen) ≡ b
+  tells e = sym (agrees .linked) ∙ e
+
   -- ---- the table
 
   -- the table shows the labels that the entries make
@@ -115,17 +126,17 @@ module _ (qs : List Request) (n : ℕ) (B : Labels) (roots₀ : ℕ) (S : State)
   -- ---- entries that stand
 
   claim-other : (p : ℕ) → p ≢ q → claim past p ≡ claim past′ p
-  claim-other p d = ap (λ r. promised (r .answer)) (sym (row-other p (serving-of S head) past (other-served p q (a .event) d)))
+  claim-other p d = ap (λ r. promised (r .answer)) (sym (row-other p (serving-of S head) past (other-served p q act d)))
 
   -- a request that is not listed leaves every entry as it stands
   entries-stand : occurrences q (S .entries) ≡ 0 → Replayed (operationAt qs) (Placed qs past′) (claim past′) B 0 (S .entries)
   entries-stand none =
       replayed-map (inv .entries)
-      (λ e m p. placed-other (serving-of S head) (other-served (e .request) q (a .event) (occurrences-absent q none m)) p)
+      (λ e m p. placed-other (serving-of S head) (other-served (e .request) q act (occurrences-absent q none m)) p)
       (λ e m. claim-other (e .request) (occurrences-absent q none m))
 
   -- before its link a request is not listed
-  module _ (unraised : isRaising (head .stage) ≡ false) where
+  module _ (unraised : traitsOf (head .stage) .linked ≡ false) where
     not-linked : linkOf q past ≡ 0
     not-linked = srv .timed .unlinked unraised
 
@@ -136,7 +147,7 @@ module _ (qs : List Request) (n : ℕ) (B : Labels) (roots₀ : ℕ) (S : State)
     listed-once point = occurrences-inserted point q (S .entries) ∙ ap suc not-listed
 
     still-unlinked : a .event .linked ≡ false → linkOf q past′ ≡ 0
-    still-unlinked e = link-unserved q (a .event) past e ∙ not-linked
+    still-unlinked e = link-unserved q act past (tells e) ∙ not-linked
 
   others-stay : (point p : ℕ) → p ≢ q → occurrences p (insert point q (S .entries)) ≡ occurrences p (S .entries)
   others-stay point p d = occurrences-other point q p (S .entries) (λ e. d (sym e))
@@ -153,8 +164,8 @@ module _ (qs : List Request) (n : ℕ) (B : Labels) (roots₀ : ℕ) (S : State)
         entries = entries-stand (not-listed (g .unraised));
         others = λ p d. refl;
         after = continues (g .unfinished) (g .busy) (g .knows)
-            (timed-on q (a .event) past (g .still) unlinked (λ d. g .proposed d ∙ ap suc (inv .clock)) (g .found))
-            (unfinished-current q (a .event) past (g .unfinished)
+            (timed-on q act past (g .still) unlinked (λ d. g .proposed d ∙ ap suc (inv .clock)) (g .found))
+            (unfinished-current q act past (g .unfinished)
             (not-listed (g .unraised) ∙ sym (rw (eq-eqb (linkOf q past′) 0 unlinked))));
       }
 
@@ -179,10 +190,10 @@ module _ (qs : List Request) (n : ℕ) (B : Labels) (roots₀ : ℕ) (S : State)
   entered-settled point l =
       ap (labelsTo (operationAt qs) point B) entered-last ∙ labelsTo-snoc (operationAt qs) point B (S .entries) own (omega arith)
 
-  entered-replayed : isRaising (head .stage) ≡ false → suc (length past) ≡ pointOf (requestAt qs q .kind) q past′
+  entered-replayed : traitsOf (head .stage) .linked ≡ false → suc (length past) ≡ pointOf (requestAt qs q .kind) q past′
       → reply B₁ (operationAt qs q) ≡ claim past′ q → Replayed (operationAt qs) (Placed qs past′) (claim past′) B 0 entered
   entered-replayed unraised point answered =
-      let placed = subst (λ k. Placed qs past′ (entry (suc k) q)) (sym (inv .clock)) (placed-now q (a .event) past (srv .within) point) in
+      let placed = subst (λ k. Placed qs past′ (entry (suc k) q)) (sym (inv .clock)) (placed-now q act past (srv .within) point) in
       subst (Replayed (operationAt qs) (Placed qs past′) (claim past′) B 0) (sym entered-last)
       (replayed-snoc own (entries-stand (not-listed unraised)) (omega arith) entries-below placed answered)
 
@@ -190,13 +201,13 @@ module _ (qs : List Request) (n : ℕ) (B : Labels) (roots₀ : ℕ) (S : State)
 
   module _ (c : Closing n (S .now) (S .table) t′ B₁ (requestAt qs q) (head .stage) a) where
     closing-point : (k : Kind) → suc (length past) ≡ pointOf k q past′
-    closing-point Union = sym (point-unlinked q (a .event) past (still-unlinked (c .unraised) (c .unlinked)))
-    closing-point SameSet = sym (point-same-set q past′ ∙ find-served q (a .event) past (c .found))
+    closing-point Union = sym (point-unlinked q act past (still-unlinked (c .unraised) (c .unlinked)))
+    closing-point SameSet = sym (point-same-set q past′ ∙ find-served q act past (c .found))
 
     closing-answer : reply B₁ (operationAt qs q) ≡ claim past′ q
     closing-answer =
         reply-together B₁ (operationAt qs q) (c .one-set) ∙ together-reply (requestAt qs q .kind)
-        ∙ ap (λ b. promised (answerNumber b)) (sym (c .answer)) ∙ ap promised (sym (served-answer q (a .event) past))
+        ∙ ap (λ b. promised (answerNumber b)) (sym (c .answer)) ∙ ap promised (sym (served-answer q act past))
 
     closing-effect : Does entered
     closing-effect =
@@ -207,7 +218,7 @@ module _ (qs : List Request) (n : ℕ) (B : Labels) (roots₀ : ℕ) (S : State)
           settled = entered-settled;
           entries = entered-replayed (c .unraised) (closing-point (requestAt qs q .kind)) closing-answer;
           others = others-stay (suc (S .now));
-          after = finishes final (c .rests) (finished-over q (a .event) past final (listed-once (c .unraised) (suc (S .now))));
+          after = finishes final (c .rests) (finished-over q act past final (anchored-found q act past (requestAt qs q .kind) (c .answer) (c .found) final) (listed-once (c .unraised) (suc (S .now))));
         }
 
   -- ---- the link was written
@@ -220,7 +231,7 @@ module _ (qs : List Request) (n : ℕ) (B : Labels) (roots₀ : ℕ) (S : State)
     joining-labels = entered-labels ∙ next-union B₁ (operationAt qs q) (j .kind)
 
     joining-link : linkOf q past′ ≡ suc (length past)
-    joining-link = link-served q (a .event) past (j .linked)
+    joining-link = link-served q act past (tells (j .linked))
 
     linked-now : linkOf q past′ ≢ 0
     linked-now z = omega (arith, joining-link)
@@ -230,8 +241,8 @@ module _ (qs : List Request) (n : ℕ) (B : Labels) (roots₀ : ℕ) (S : State)
 
     -- joined is promised to a listed union, finished or not
     joining-claim : Linked n t′ united (requestAt qs q) a → Joined ≡ claim past′ q
-    joining-claim (finished answer rests) = sym (ap promised (served-answer q (a .event) past ∙ ap answerNumber answer))
-    joining-claim (raises k answer stage r) = sym (ap promised (served-answer q (a .event) past ∙ ap answerNumber answer))
+    joining-claim (finished answer rests) = sym (ap promised (served-answer q act past ∙ ap answerNumber answer))
+    joining-claim (raises k answer stage r) = sym (ap promised (served-answer q act past ∙ ap answerNumber answer))
 
     joining-answer : reply B₁ (operationAt qs q) ≡ claim past′ q
     joining-answer =
@@ -239,13 +250,14 @@ module _ (qs : List Request) (n : ℕ) (B : Labels) (roots₀ : ℕ) (S : State)
 
     joining-after : Linked n t′ united (requestAt qs q) a → After qs n B (with-entries entered) past′ q a
     joining-after (finished answer rests) =
-        finishes (ap isFinal answer) rests (finished-over q (a .event) past (ap isFinal answer) (listed-once (j .unraised) (suc (S .now))))
+        finishes (ap isFinal answer) rests
+        (finished-over q act past (ap isFinal answer) (anchored-joined q act past answer) (listed-once (j .unraised) (suc (S .now))))
     joining-after (raises k answer stage r) =
-        continues answer (ap restingAt stage)
-        (subst (Knows n (parent t′) (rank t′) (after (operationAt qs) B entered) (ApartAt qs B entered q) (suc (S .now)) (requestAt qs q) (a .head)) (sym stage)
-        (subst (λ C. Raising n (rank t′) C (requestAt qs q) (a .head .y) k) (sym joining-labels) r))
-        (timed-raising q (a .event) past (ap isRaising stage) (ap pendingOf stage) linked-now)
-        (unfinished-current q (a .event) past answer
+        continues answer (ap (λ st. traitsOf st .resting) stage)
+        (subst (Knows n (parent t′) (rank t′) (after (operationAt qs) B entered) (ApartAt qs B entered q) (suc (S .now)) (requestAt qs q) (a .head .task)) (sym stage)
+        (subst (λ C. Raising n (rank t′) C (requestAt qs q) (a .head .task .y) k) (sym joining-labels) r))
+        (timed-raising q act past (ap (λ st. traitsOf st .linked) stage) (ap (λ st. traitsOf st .pending) stage) linked-now)
+        (unfinished-current q act past answer
         (listed-once (j .unraised) (suc (S .now)) ∙ sym (rw (ne-eqb (linkOf q past′) 0 linked-now))))
 
     joining-effect : Does entered
@@ -269,15 +281,15 @@ module _ (qs : List Request) (n : ℕ) (B : Labels) (roots₀ : ℕ) (S : State)
     ending-placed : (e : Entry) → Dec (e .request ≡ q) → Placed qs past e → Placed qs past′ e
     ending-placed e (yes is) p =
         subst (λ r. Placed qs past′ (entry (e .point) r)) (sym is)
-        (placed-still q (a .event) past (srv .within) (d .kind) (d .unlinked) was-linked (srv .begun (d .raised))
+        (placed-still q act past (srv .within) (d .kind) (tells (d .unlinked)) was-linked (srv .begun (d .raised))
         (subst (λ r. Placed qs past (entry (e .point) r)) is p))
-    ending-placed e (no not-own) p = placed-other (serving-of S head) (other-served (e .request) q (a .event) not-own) p
+    ending-placed e (no not-own) p = placed-other (serving-of S head) (other-served (e .request) q act not-own) p
 
     -- joined was promised before, and is reported now
     ending-claim : (p : ℕ) → Dec (p ≡ q) → claim past p ≡ claim past′ p
     ending-claim p (yes is) =
         ap (claim past) is ∙ ap promised (srv .unfinished)
-        ∙ sym (ap promised (served-answer q (a .event) past ∙ ap answerNumber (d .answer))) ∙ ap (claim past′) (sym is)
+        ∙ sym (ap promised (served-answer q act past ∙ ap answerNumber (d .answer))) ∙ ap (claim past′) (sym is)
     ending-claim p (no not-own) = claim-other p not-own
 
     ending-effect : Does (S .entries)
@@ -289,14 +301,15 @@ module _ (qs : List Request) (n : ℕ) (B : Labels) (roots₀ : ℕ) (S : State)
           settled = λ point l. refl;
           entries = replayed-map (inv .entries) (λ e m. ending-placed e (ℕ-discrete (e .request) q)) (λ e m. ending-claim (e .request) (ℕ-discrete (e .request) q));
           others = λ p e. refl;
-          after = finishes final (d .rests) (finished-over q (a .event) past final (srv .listed ∙ rw (ne-eqb (linkOf q past) 0 was-linked)));
+          after = finishes final (d .rests)
+              (finished-over q act past final (anchored-joined q act past (d .answer)) (srv .listed ∙ rw (ne-eqb (linkOf q past) 0 was-linked)));
         }
 
   -- ---- x was still a root
 
   module _ (d : Denying n (S .now) (S .table) t′ B₁ (ApartAt qs B (S .entries) q) (requestAt qs q) (head .stage) a) where
     abbrev point : ℕ
-    point = pendingOf (head .stage)
+    point = traitsOf (head .stage) .pending
 
     candidate : Candidate q past point
     candidate = srv .timed .candidate (λ z. omega (arith, d .positive))
@@ -314,7 +327,7 @@ module _ (qs : List Request) (n : ℕ) (B : Labels) (roots₀ : ℕ) (S : State)
         record {
           answered = reply-apart (labelsTo (operationAt qs) point B (S .entries)) (operationAt qs q) (d .two-sets)
               ∙ ap (λ k. replyTo k false) (d .kind)
-              ∙ sym (ap promised (served-answer q (a .event) past ∙ ap answerNumber (d .answer)));
+              ∙ sym (ap promised (served-answer q act past ∙ ap answerNumber (d .answer)));
           unchanged = next-same-set (labelsTo (operationAt qs) point B (S .entries)) (operationAt qs q) (d .kind);
         }
 
@@ -327,9 +340,10 @@ module _ (qs : List Request) (n : ℕ) (B : Labels) (roots₀ : ℕ) (S : State)
           roots = roots-stay (d .unlinked) (d .table);
           settled = λ m l. labelsTo-insert (operationAt qs) point q m B (S .entries) (silent .unchanged);
           entries = replayed-insert point q (entries-stand (not-listed (d .unraised))) (omega (arith, d .positive)) point-free
-              (placed-pending q (a .event) past (srv .within) (d .kind) (d .unfound) until candidate) silent;
+              (placed-pending q act past (srv .within) (d .kind) (d .unfound) until candidate) silent;
           others = others-stay point;
-          after = finishes final (d .rests) (finished-over q (a .event) past final (listed-once (d .unraised) point));
+          after = finishes final (d .rests)
+              (finished-over q act past final (anchored-no q act past (d .answer) (d .unfound) candidate) (listed-once (d .unraised) point));
         }
 
   -- ---- any outcome
@@ -340,4 +354,4 @@ module _ (qs : List Request) (n : ℕ) (B : Labels) (roots₀ : ℕ) (S : State)
   outcome-effect (closing c) = placed-at (suc (S .now)) (c .point) (omega arith) (closing-effect c)
   outcome-effect (joining j) = placed-at (suc (S .now)) (j .point) (omega arith) (joining-effect j)
   outcome-effect (ending d) = unplaced (d .unplaced) (ending-effect d)
-  outcome-effect (denying d) = placed-at (pendingOf (head .stage)) (d .point) (d .positive) (denying-effect d)
+  outcome-effect (denying d) = placed-at (traitsOf (head .stage) .pending) (d .point) (d .positive) (denying-effect d)

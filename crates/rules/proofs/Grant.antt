@@ -13,7 +13,7 @@ use lib.ListN.{length}
 use borrow.Author.Tests.{ltb-true, eq-eqb}
 use Rattle.job.specs.declared.Request.{Request}
 use Rattle.process.specs.declared.Head.{Head}
-use Rattle.process.specs.Process.{isResting, begin}
+use Rattle.process.specs.Process.{traitsOf, isResting, begin}
 use Rattle.process.specs.Access.{accessOf}
 use Rattle.process.specs.Advance.{advanceOf}
 use Rattle.forest.proofs.Merge.{Merged, relabelled-merged}
@@ -30,7 +30,7 @@ use Rattle.rules.specs.Run.Happening.{idle}
 use Rattle.rules.specs.History.{linkOf}
 use Rattle.rules.specs.Linearized.{promised}
 use Rattle.rules.proofs.History.{row-other}
-use Rattle.rules.proofs.Stages.{pendingOf, Inside, finding-begin, knows-later, pending-until}
+use Rattle.rules.proofs.Stages.{Inside, finding-begin, restart-knows, knows-later, pending-until}
 use Rattle.rules.proofs.Outcomes.{Outcome, Present}
 use Rattle.rules.proofs.StepOutcome.{step-outcome}
 use Rattle.rules.proofs.Invariant.{labels, ApartAt, Current, Waiting, Phase, Invariant}
@@ -42,12 +42,12 @@ use Rattle.rules.proofs.Effects.{outcome-effect}
 
 -- The request of a head with work left is being served, if the head is not at rest, or waits for it.
 module _ {head : Head} {past : List Happening} {times : ℕ} where
-  phase-current : Phase head (head .request) past times → isResting head ≡ false → Current (head .request) past times
+  phase-current : Phase head (head .task .request) past times → isResting head ≡ false → Current (head .task .request) past times
   phase-current (over l o) b = absurd (omega arith)
   phase-current (current e r c) b = c
   phase-current (waiting l r w) b = absurd (true≢false (sym (r refl) ∙ b))
 
-  phase-waiting : Phase head (head .request) past times → isResting head ≡ true → Waiting (head .request) past times
+  phase-waiting : Phase head (head .task .request) past times → isResting head ≡ true → Waiting (head .task .request) past times
   phase-waiting (over l o) b = absurd (omega arith)
   phase-waiting (current e r c) b = absurd (true≢false (sym b ∙ r))
   phase-waiting (waiting l r w) b = w
@@ -67,27 +67,27 @@ module _ {qs : List Request} {n : ℕ} {B : Labels} {roots₀ : ℕ} {S : State}
         roots = inv .roots;
         own = inv .own;
         busy = inv .busy;
-        knows = λ h b. knows-later (later-refl n (parent (S .table)) (rank (S .table)) (labels qs B S)) (inside (headAt S h .request) (inv .busy h b .within))
-            {Apart = ApartAt qs B (S .entries) (headAt S h .request)} {Apart′ = ApartAt qs B (S .entries) (headAt S h .request)}
-            {now = S .now} {now′ = suc (S .now)} (omega arith) (λ point l apart. apart) (headAt S h) (headAt S h .stage) (inv .knows h b);
+        knows = λ h b. knows-later (later-refl n (parent (S .table)) (rank (S .table)) (labels qs B S)) (inside (headAt S h .task .request) (inv .busy h b .within))
+            {Apart = ApartAt qs B (S .entries) (headAt S h .task .request)} {Apart′ = ApartAt qs B (S .entries) (headAt S h .task .request)}
+            {now = S .now} {now′ = suc (S .now)} (omega arith) (λ point l apart. apart) (headAt S h .task) (headAt S h .stage) (inv .knows h b);
         timed = λ h b. timed-other idle refl (omega (arith, inv .clock, until h b)) (inv .timed h b);
         entries = replayed-map (inv .entries) (λ e m p. placed-other idle refl p) (λ e m. ap (λ r. promised (r .answer)) (sym (row-other (e .request) idle past refl)));
         phases = λ q l. phase-other q past idle refl refl (inv .phases q l);
       }
     where
-      until : (h : ℕ) (b : isResting (headAt S h) ≡ false) → pendingOf (headAt S h .stage) ≤ S .now
-      until h b = pending-until n (parent (S .table)) (rank (S .table)) (labels qs B S) (ApartAt qs B (S .entries) (headAt S h .request)) (S .now)
-          (requestAt qs (headAt S h .request)) (headAt S h) (headAt S h .stage) (inv .knows h b)
+      until : (h : ℕ) (b : isResting (headAt S h) ≡ false) → traitsOf (headAt S h .stage) .pending ≤ S .now
+      until h b = pending-until n (parent (S .table)) (rank (S .table)) (labels qs B S) (ApartAt qs B (S .entries) (headAt S h .task .request)) (S .now)
+          (requestAt qs (headAt S h .task .request)) (headAt S h .task) (headAt S h .stage) (inv .knows h b)
 
   -- ---- a grant that serves a head
 
   module _ (h : ℕ) (present : h < length (S .heads)) where
-    module _ (within : headAt S h .request < length qs) where
-      own-head : requestAt qs (headAt S h .request) .head ≡ h
+    module _ (within : headAt S h .task .request < length qs) where
+      own-head : requestAt qs (headAt S h .task .request) .head ≡ h
       own-head = inv .own h present within
 
-      own-phase : Phase (headAt S h) (headAt S h .request) past (occurrences (headAt S h .request) (S .entries))
-      own-phase = phase-of inv h (headAt S h .request) within own-head
+      own-phase : Phase (headAt S h) (headAt S h .task .request) past (occurrences (headAt S h .task .request) (S .entries))
+      own-phase = phase-of inv h (headAt S h .task .request) within own-head
 
       -- the head goes on
       serving-busy : isResting (headAt S h) ≡ false → Serving qs n B S past h (headAt S h)
@@ -106,7 +106,7 @@ module _ {qs : List Request} {n : ℕ} {B : Labels} {roots₀ : ℕ} {S : State}
           }
 
       -- it begins its next request
-      serving-begun : isResting (headAt S h) ≡ true → Serving qs n B S past h (begin (requestAt qs (headAt S h .request)) (headAt S h .request))
+      serving-begun : isResting (headAt S h) ≡ true → Serving qs n B S past h (begin (requestAt qs (headAt S h .task .request)) (headAt S h .task .request))
       serving-begun rests =
           let w = phase-waiting own-phase rests in
           record {
@@ -114,11 +114,12 @@ module _ {qs : List Request} {n : ℕ} {B : Labels} {roots₀ : ℕ} {S : State}
             own = own-head;
             position = refl;
             busy = refl;
-            knows = finding-begin (requestAt qs (headAt S h .request)) (inside (headAt S h .request) within);
+            knows = restart-knows (requestAt qs (headAt S h .task .request) .kind) (begin (requestAt qs (headAt S h .task .request)) (headAt S h .task .request) .task)
+                (finding-begin (requestAt qs (headAt S h .task .request)) (inside (headAt S h .task .request) within));
             timed = record { unlinked = λ e. w .unlinked; linked = λ e. absurd (true≢false (sym e)); candidate = λ d. absurd (d refl) };
             begun = λ e. absurd (true≢false (sym e));
             unfinished = w .unfinished;
-            listed = w .unlisted ∙ sym (rw (eq-eqb (linkOf (headAt S h .request) past) 0 (w .unlinked)));
+            listed = w .unlisted ∙ sym (rw (eq-eqb (linkOf (headAt S h .task .request) past) 0 (w .unlinked)));
           }
 
       pub serving-ready : Serving qs n B S past h (ready qs (headAt S h))
@@ -128,8 +129,8 @@ module _ {qs : List Request} {n : ℕ} {B : Labels} {roots₀ : ℕ} {S : State}
           (λ t. subst (Serving qs n B S past h) (sym (chosen t)) (serving-busy t))
         where
           chosen : {b : Bool} → isResting (headAt S h) ≡ b
-              → ready qs (headAt S h) ≡ cond b (begin (requestAt qs (headAt S h .request)) (headAt S h .request)) (headAt S h)
-          chosen t = ap (λ b. cond b (begin (requestAt qs (headAt S h .request)) (headAt S h .request)) (headAt S h)) t
+              → ready qs (headAt S h) ≡ cond b (begin (requestAt qs (headAt S h .task .request)) (headAt S h .task .request)) (headAt S h)
+          chosen t = ap (λ b. cond b (begin (requestAt qs (headAt S h .task .request)) (headAt S h .task .request)) (headAt S h)) t
 
     -- what the request's union would make of the sets
     abbrev united : ℕ → Labels
@@ -150,13 +151,13 @@ module _ {qs : List Request} {n : ℕ} {B : Labels} {roots₀ : ℕ} {S : State}
         record { nodes = inv .nodes; inside = inside q within; sound = inv .sound; merged = union-merged q; apart = apart-now q }
 
     served-outcome : {head : Head} → Serving qs n B S past h head
-        → Outcome n (S .now) (S .table) (touched (S .table) (accessOf head)) (labels qs B S) (united (head .request))
-        (ApartAt qs B (S .entries) (head .request)) (requestAt qs (head .request)) (head .stage) (advanced S head)
+        → Outcome n (S .now) (S .table) (touched (S .table) (accessOf head)) (labels qs B S) (united (head .task .request))
+        (ApartAt qs B (S .entries) (head .task .request)) (requestAt qs (head .task .request)) (head .stage) (advanced S head)
     unfolding accessOf advanceOf
-    served-outcome {head} srv = step-outcome (present-now (head .request) (srv .within)) head (head .stage) (srv .busy) (srv .knows)
+    served-outcome {head} srv = step-outcome (present-now (head .task .request) (srv .within)) (head .task) (head .stage) (srv .busy) (srv .knows)
 
     pub served-effect : {head : Head} → Serving qs n B S past h head
-        → Effect qs n B roots₀ S (served qs S h head) (more S head past) (head .request) (advanced S head)
+        → Effect qs n B roots₀ S (served qs S h head) (more S head past) (head .task .request) (advanced S head)
     served-effect {head} srv = outcome-effect qs n B roots₀ S past h head inv srv (served-outcome srv)
 
     pub step-invariant : Invariant qs n B roots₀ (step qs S h) (happened qs S h ∷ past)
@@ -164,6 +165,6 @@ module _ {qs : List Request} {n : ℕ} {B : Labels} {roots₀ : ℕ} {S : State}
     step-invariant =
         split (hasWork qs (headAt S h))
         (λ t.
-        let serving = serving-ready (ltb-true (headAt S h .request) (length qs) t) in
+        let serving = serving-ready (ltb-true (headAt S h .task .request) (length qs) t) in
         rw t (effect-invariant present inside inv serving (served-effect serving)))
         (λ t. rw t idle-invariant)

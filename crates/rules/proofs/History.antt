@@ -21,36 +21,46 @@ use Rattle.job.specs.declared.Kind.the-variants.{Union, SameSet}
 use Rattle.job.specs.declared.Answer.{Answer}
 use Rattle.job.specs.declared.Answer.the-variants.{Unfinished, Joined, Together, Yes, No}
 use Rattle.job.specs.Job.{answerNumber}
-use Rattle.process.specs.declared.Event.{Event}
 use Rattle.linearization.proofs.Tests.{split}
 use Rattle.rules.specs.Report.{isFinal, charge}
+use Rattle.rules.specs.Action.{Action, links}
 use Rattle.rules.specs.Run.{Happening}
 use Rattle.rules.specs.Run.Happening.{idle, serving}
-use Rattle.rules.specs.History.{firstWhere, lastWhere, countWhere, isOf, endsFindOf, linksFor, answerOf, rowOf, linkOf, pointOf}
+use Rattle.rules.specs.History.{firstWhere, lastWhere, lastButOne, countWhere, isOf, endsFindOf, linksFor, answerOf, rowOf, linkOf, pointOf}
 
 -- A grant that was not used for q.
 abbrev pub Other : ℕ → Happening → Type 0
 Other q a = isOf q a ≡ false
 
-pub other-served : (q r : ℕ) (e : Event) → q ≢ r → Other q (serving r e)
-other-served q r e d = ne-eqb r q (λ e. d (sym e))
+pub other-served : (q r : ℕ) (act : Action) → q ≢ r → Other q (serving r act)
+other-served q r act d = ne-eqb r q (λ e. d (sym e))
 
 -- it ended no find of q, linked nothing for it and left its answer
 other-find : (q : ℕ) (a : Happening) → Other q a → endsFindOf q a ≡ false
 other-find q idle o = refl
-other-find q (serving r e) o = rw o
+other-find q (serving r act) o = rw o
 
 other-link : (q : ℕ) (a : Happening) → Other q a → linksFor q a ≡ false
 other-link q idle o = refl
-other-link q (serving r e) o = rw o
+other-link q (serving r act) o = rw o
 
 other-answer : (q : ℕ) (a : Happening) (past : List Happening) → Other q a → answerOf q (a ∷ past) ≡ answerOf q past
 other-answer q idle past o = refl
-other-answer q (serving r e) past o = rw o
+other-answer q (serving r act) past o = rw o
 
 module _ (f : Happening → Bool) (a : Happening) (past : List Happening) where
   pub last-kept : f a ≡ false → lastWhere f (a ∷ past) ≡ lastWhere f past
   last-kept o = rw o
+
+  pub last-new : f a ≡ true → lastWhere f (a ∷ past) ≡ suc (length past)
+  last-new t = rw t
+
+  -- what was last is last but one
+  pub but-one-new : f a ≡ true → lastButOne f (a ∷ past) ≡ lastWhere f past
+  but-one-new t = rw t
+
+  pub but-one-kept : f a ≡ false → lastButOne f (a ∷ past) ≡ lastButOne f past
+  but-one-kept o = rw o
 
   count-kept : f a ≡ false → countWhere f (a ∷ past) ≡ countWhere f past
   count-kept o = rw o
@@ -116,34 +126,39 @@ last-answer Yes now = refl
 last-answer No now = refl
 
 -- The row of the request that a grant was used for: charged with that grant.
-pub row-served : (q : ℕ) (e : Event) (past : List Happening)
-    → charge (rowOf q past) (suc (length past)) (e .answer) ≡ rowOf q (serving q e ∷ past)
+pub row-served : (q : ℕ) (act : Action) (past : List Happening)
+    → charge (rowOf q past) (suc (length past)) (act .event .answer) ≡ rowOf q (serving q act ∷ past)
 unfolding rowOf charge
-row-served q e past =
+row-served q act past =
     let t : eqb q q ≡ true = eq-eqb q q refl in
     let more : countWhere (isOf q) past + 1 ≡ suc (countWhere (isOf q) past) = omega arith in
-    rw (t, last-answer (e .answer) (suc (length past)), more)
+    rw (t, last-answer (act .event .answer) (suc (length past)), more)
 
 -- what the row of a served request says
-module _ (q : ℕ) (e : Event) (past : List Happening) where
-  of-itself : isOf q (serving q e) ≡ true
+module _ (q : ℕ) (act : Action) (past : List Happening) where
+  pub of-itself : isOf q (serving q act) ≡ true
   of-itself = eq-eqb q q refl
 
-  pub served-answer : rowOf q (serving q e ∷ past) .answer ≡ answerNumber (e .answer)
+  pub served-answer : rowOf q (serving q act ∷ past) .answer ≡ answerNumber (act .event .answer)
   unfolding rowOf
   served-answer = rw of-itself
 
-  pub served-last : rowOf q (serving q e ∷ past) .last ≢ 0 → rowOf q (serving q e ∷ past) .last ≡ suc (length past)
+  pub served-last : rowOf q (serving q act ∷ past) .last ≢ 0 → rowOf q (serving q act ∷ past) .last ≡ suc (length past)
   unfolding rowOf
-  served-last d = split (eqb (answerOf q (serving q e ∷ past)) 0) (λ t. absurd (d (rw t))) (λ t. rw (t, of-itself))
+  served-last d = split (eqb (answerOf q (serving q act ∷ past)) 0) (λ t. absurd (d (rw t))) (λ t. rw (t, of-itself))
 
-  pub served-first : rowOf q (serving q e ∷ past) .first ≢ 0
+  pub served-ended : isFinal (act .event .answer) ≡ true → rowOf q (serving q act ∷ past) .last ≡ suc (length past)
   unfolding rowOf
-  served-first = first-positive (isOf q) (serving q e) past of-itself
+  served-ended final =
+      rw (of-itself, ne-eqb (answerNumber (act .event .answer)) 0 (final-number (act .event .answer) final))
 
-  pub served-settled : rowOf q past .first ≢ 0 → rowOf q (serving q e ∷ past) .first ≡ rowOf q past .first
+  pub served-first : rowOf q (serving q act ∷ past) .first ≢ 0
   unfolding rowOf
-  served-settled = first-settled (isOf q) (serving q e) past
+  served-first = first-positive (isOf q) (serving q act) past of-itself
+
+  pub served-settled : rowOf q past .first ≢ 0 → rowOf q (serving q act ∷ past) .first ≡ rowOf q past .first
+  unfolding rowOf
+  served-settled = first-settled (isOf q) (serving q act) past
 
 -- no grant of a row is beyond the present one
 last-bound : (f : Happening → Bool) (past : List Happening) → lastWhere f past ≤ length past
@@ -174,25 +189,25 @@ module _ (q : ℕ) (a : Happening) (past : List Happening) (other : Other q a) w
   point-other Union = rw (link-other, last-kept (isOf q) a past other)
   point-other SameSet = find-other
 
-module _ (q : ℕ) (e : Event) (past : List Happening) where
-  pub link-served : e .linked ≡ true → linkOf q (serving q e ∷ past) ≡ suc (length past)
+module _ (q : ℕ) (act : Action) (past : List Happening) where
+  pub link-served : links (act .access) (act .seen) ≡ true → linkOf q (serving q act ∷ past) ≡ suc (length past)
   unfolding linkOf
-  link-served t = rw (of-itself q e past, t)
+  link-served t = rw (of-itself q act past, t)
 
-  pub link-unserved : e .linked ≡ false → linkOf q (serving q e ∷ past) ≡ linkOf q past
+  pub link-unserved : links (act .access) (act .seen) ≡ false → linkOf q (serving q act ∷ past) ≡ linkOf q past
   unfolding linkOf
-  link-unserved t = rw (of-itself q e past, t)
+  link-unserved t = rw (of-itself q act past, t)
 
-  pub find-served : e .found ≡ true → lastWhere (endsFindOf q) (serving q e ∷ past) ≡ suc (length past)
-  find-served t = rw (of-itself q e past, t)
+  pub find-served : act .event .found ≡ true → lastWhere (endsFindOf q) (serving q act ∷ past) ≡ suc (length past)
+  find-served t = rw (of-itself q act past, t)
 
-  pub find-unserved : e .found ≡ false → lastWhere (endsFindOf q) (serving q e ∷ past) ≡ lastWhere (endsFindOf q) past
-  find-unserved t = rw (of-itself q e past, t)
+  pub find-unserved : act .event .found ≡ false → lastWhere (endsFindOf q) (serving q act ∷ past) ≡ lastWhere (endsFindOf q) past
+  find-unserved t = rw (of-itself q act past, t)
 
   -- a union that has not linked has its point at its last grant
-  pub point-unlinked : linkOf q (serving q e ∷ past) ≡ 0 → pointOf Union q (serving q e ∷ past) ≡ suc (length past)
+  pub point-unlinked : linkOf q (serving q act ∷ past) ≡ 0 → pointOf Union q (serving q act ∷ past) ≡ suc (length past)
   unfolding pointOf
-  point-unlinked z = rw (eq-eqb (linkOf q (serving q e ∷ past)) 0 z, of-itself q e past)
+  point-unlinked z = rw (eq-eqb (linkOf q (serving q act ∷ past)) 0 z, of-itself q act past)
 
 pub point-same-set : (q : ℕ) (past : List Happening) → pointOf SameSet q past ≡ lastWhere (endsFindOf q) past
 unfolding pointOf
@@ -207,15 +222,15 @@ point-union q past d = rw (ne-eqb (linkOf q past) 0 d)
 
 abbrev userOf : Happening → ℕ
 userOf idle = 0
-userOf (serving q e) = suc q
+userOf (serving q act) = suc q
 
 unfoldable pub usedFor : List Happening → ℕ → ℕ
 usedFor [] p = 0
 usedFor (a ∷ past) p = cond (eqb p (suc (length past))) (userOf a) (usedFor past p)
 
-pub used-now : (q : ℕ) (e : Event) (past : List Happening) → usedFor (serving q e ∷ past) (suc (length past)) ≡ suc q
+pub used-now : (q : ℕ) (act : Action) (past : List Happening) → usedFor (serving q act ∷ past) (suc (length past)) ≡ suc q
 unfolding usedFor
-used-now q e past = rw (eq-eqb (suc (length past)) (suc (length past)) refl)
+used-now q act past = rw (eq-eqb (suc (length past)) (suc (length past)) refl)
 
 pub used-kept : (a : Happening) (past : List Happening) (p : ℕ) → p ≤ length past → usedFor (a ∷ past) p ≡ usedFor past p
 unfolding usedFor

@@ -21,7 +21,7 @@ use Rattle.job.specs.declared.Answer.{Answer}
 use Rattle.job.specs.declared.Request.{Request}
 use Rattle.process.specs.declared.Stage.{Stage}
 use Rattle.process.specs.declared.Head.{Head}
-use Rattle.process.specs.Process.{isResting}
+use Rattle.process.specs.Process.{traitsOf, isResting}
 use Rattle.forest.specs.Forest.{rootCount}
 use Rattle.forest.proofs.Sound.{Sound}
 use Rattle.linearization.specs.Partition.{Labels}
@@ -32,10 +32,11 @@ use Rattle.rules.specs.Report.{noRow}
 use Rattle.rules.specs.State.{State, requestAt}
 use Rattle.rules.specs.Step.{headAt}
 use Rattle.rules.specs.Run.{Happening}
-use Rattle.rules.specs.History.{lastWhere, endsFindOf, rowOf, linkOf, pointOf}
+use Rattle.rules.specs.History.{lastWhere, isOf, endsFindOf, rowOf, linkOf, pointOf}
 use Rattle.rules.specs.Linearized.{operationAt, promised}
+use Rattle.rules.specs.Laws.{Anchored}
 use Rattle.rules.proofs.History.{usedFor}
-use Rattle.rules.proofs.Stages.{isRaising, pendingOf, Knows}
+use Rattle.rules.proofs.Stages.{Knows}
 
 abbrev pub labels : List Request → Labels → State → Labels
 labels qs B S = after (operationAt qs) B (S .entries)
@@ -50,19 +51,21 @@ pub record Candidate (q : ℕ) (past : List Happening) (point : ℕ) : Type 0 wh
   -- the point is not before the request's first grant
   pub begun : rowOf q past .first ≢ 0
   pub since : rowOf q past .first ≤ point
-  -- it is the grant that ended the request's last find from y
+  -- it is the grant that ended the request's last find from y, and its last grant so far
   pub last : lastWhere (endsFindOf q) past ≡ point
+  pub newest : lastWhere (isOf q) past ≡ point
   pub used : usedFor past point ≡ suc q
 
 pub record Timed (q : ℕ) (past : List Happening) (st : Stage) : Type 0 where
-  pub unlinked : isRaising st ≡ false → linkOf q past ≡ 0
-  pub linked : isRaising st ≡ true → linkOf q past ≢ 0
-  pub candidate : pendingOf st ≢ 0 → Candidate q past (pendingOf st)
+  pub unlinked : traitsOf st .linked ≡ false → linkOf q past ≡ 0
+  pub linked : traitsOf st .linked ≡ true → linkOf q past ≢ 0
+  pub candidate : traitsOf st .pending ≢ 0 → Candidate q past (traitsOf st .pending)
 
 pub record Over (q : ℕ) (past : List Happening) (times : ℕ) : Type 0 where
   pub finished : rowOf q past .answer ≢ 0
   pub begun : rowOf q past .first ≢ 0
   pub ended : rowOf q past .last ≤ length past
+  pub anchored : Anchored q (rowOf q past) past
   pub listed : times ≡ 1
 
 pub record Current (q : ℕ) (past : List Happening) (times : ℕ) : Type 0 where
@@ -84,9 +87,9 @@ pub record Busy (qs : List Request) (h q : ℕ) : Type 0 where
 
 -- A head serves its requests in file order, so that its own position tells which it is.
 pub data Phase (head : Head) (q : ℕ) (past : List Happening) (times : ℕ) : Type 0 where
-  over : q < head .request → Over q past times → Phase head q past times
-  current : q ≡ head .request → isResting head ≡ false → Current q past times → Phase head q past times
-  waiting : head .request ≤ q → (q ≡ head .request → isResting head ≡ true) → Waiting q past times → Phase head q past times
+  over : q < head .task .request → Over q past times → Phase head q past times
+  current : q ≡ head .task .request → isResting head ≡ false → Current q past times → Phase head q past times
+  waiting : head .task .request ≤ q → (q ≡ head .task .request → isResting head ≡ true) → Waiting q past times → Phase head q past times
 
 pub record Placed (qs : List Request) (past : List Happening) (e : Entry) : Type 0 where
   pub known : e .request < length qs
@@ -107,12 +110,12 @@ pub record Invariant (qs : List Request) (n : ℕ) (B : Labels) (roots₀ : ℕ)
   pub sound : Sound n (parent (S .table)) (rank (S .table)) (labels qs B S)
   pub roots : rootCount (parent (S .table)) n + S .links ≡ roots₀
   -- a head serves its own requests, and knows what its stage says
-  pub own : (h : ℕ) → h < length (S .heads) → headAt S h .request < length qs → requestAt qs (headAt S h .request) .head ≡ h
-  pub busy : (h : ℕ) → isResting (headAt S h) ≡ false → Busy qs h (headAt S h .request)
+  pub own : (h : ℕ) → h < length (S .heads) → headAt S h .task .request < length qs → requestAt qs (headAt S h .task .request) .head ≡ h
+  pub busy : (h : ℕ) → isResting (headAt S h) ≡ false → Busy qs h (headAt S h .task .request)
   pub knows : (h : ℕ) → isResting (headAt S h) ≡ false
-      → Knows n (parent (S .table)) (rank (S .table)) (labels qs B S) (ApartAt qs B (S .entries) (headAt S h .request)) (S .now)
-      (requestAt qs (headAt S h .request)) (headAt S h) (headAt S h .stage)
-  pub timed : (h : ℕ) → isResting (headAt S h) ≡ false → Timed (headAt S h .request) past (headAt S h .stage)
+      → Knows n (parent (S .table)) (rank (S .table)) (labels qs B S) (ApartAt qs B (S .entries) (headAt S h .task .request)) (S .now)
+      (requestAt qs (headAt S h .task .request)) (headAt S h .task) (headAt S h .stage)
+  pub timed : (h : ℕ) → isResting (headAt S h) ≡ false → Timed (headAt S h .task .request) past (headAt S h .stage)
   -- entries rise, stand at their points and are answered as reported
   pub entries : Replayed (operationAt qs) (Placed qs past) (claim past) B 0 (S .entries)
   pub phases : (q : ℕ) → q < length qs → Phase (headAt S (requestAt qs q .head)) q past (occurrences q (S .entries))

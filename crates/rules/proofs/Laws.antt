@@ -31,8 +31,8 @@ use Rattle.rules.proofs.History.{row-other}
 use Rattle.rules.proofs.Table.{fresh-start}
 use Rattle.rules.proofs.Invariant.{labels, Invariant}
 use Rattle.rules.proofs.Theorem.{length-heads, start-row, start-invariant, step-heads, run-invariant, run-prefix, playable-inside, started-invariant, fresh-startable}
-use Rattle.rules.proofs.Positions.{phase-begun, phase-passed, phase-of, answer-is, work-left}
-use Rattle.rules.proofs.Layer.{run-layer, Counted, counted-layer, InTurn, in-turn-layer, later-layer}
+use Rattle.rules.proofs.Positions.{phase-begun, phase-passed, phase-anchored, phase-of, answer-is, work-left}
+use Rattle.rules.proofs.Layer.{run-layer, AllTruthful, truthful-layer, Counted, counted-layer, InTurn, in-turn-layer, later-layer}
 
 -- ---- at one moment
 
@@ -69,8 +69,8 @@ module _ {qs : List Request} {n : ℕ} {B : Labels} {roots₀ : ℕ} {S : State}
     ended-before : InTurn qs past → rowAt (S .report) p .last < rowAt (S .report) q .first
     ended-before turn = omega (arith, turn p q earlier within one (λ e. begun (first-is ∙ e)), first-is, last-is)
 
-  invariant-lawful : roots₀ ≡ n → Counted S past → InTurn qs past → Lawful n qs S past
-  invariant-lawful all counted turn =
+  invariant-lawful : roots₀ ≡ n → Counted S past → AllTruthful past → InTurn qs past → Lawful n qs S past
+  invariant-lawful all counted truthful turn =
       record {
         parents = formed-before (inv .sound .formed);
         ranks = rank-bound (inv .sound);
@@ -82,7 +82,9 @@ module _ {qs : List Request} {n : ℕ} {B : Labels} {roots₀ : ℕ} {S : State}
         idle = counted .idle;
         failed = counted .failed;
         links = counted .links;
+        truthful = truthful;
         work = work-left inv;
+        anchored = λ q l. rw (inv .rows q l) (phase-anchored (inv .phases q l));
         finished = finished-before;
         ordered = λ p q l w one begun. ended-before p q l w one begun turn;
       }
@@ -110,6 +112,9 @@ start-in-turn qs p q earlier within one begun = absurd (begun refl)
 
 start-counted : (qs : List Request) (m : ℕ) (t : List Node) → Counted (start qs m t) []
 start-counted qs m t = record { idle = refl; failed = refl; links = refl }
+
+start-truthful : AllTruthful []
+start-truthful a m = absurd (elim m [ ])
 
 run-heads : (qs : List Request) (S : State) (gs : List ℕ) → length (run qs S gs .heads) ≡ length (S .heads)
 run-heads qs S [] = refl
@@ -143,8 +148,9 @@ module _ {n m : ℕ} {qs : List Request} where
       let granted = granted-start playable in
       let inv = start-invariant qs m begin in
       let counted = run-layer inside counted-layer S [] gs granted inv (start-counted qs m (fresh n)) in
+      let truthful = run-layer inside truthful-layer S [] gs granted inv start-truthful in
       let turn = run-layer inside in-turn-layer S [] gs granted inv (start-in-turn qs) in
-      invariant-lawful (started-invariant playable begin) (start-roots (fresh-start n (playable .few))) counted turn
+      invariant-lawful (started-invariant playable begin) (start-roots (fresh-start n (playable .few))) counted truthful turn
 
   pub run-follows : (gs hs : List ℕ) → Playable n m qs (gs ++ hs)
       → Follows n (run qs (start qs m (fresh n)) gs .table) (run qs (start qs m (fresh n)) (gs ++ hs) .table)

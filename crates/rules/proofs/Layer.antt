@@ -1,13 +1,14 @@
 -- One induction over the run, for everything that a grant keeps beside the invariant.
 --
 --   Layer P          P is kept by an idle grant and by one that serves a head, wherever the invariant holds
+--   AllTruthful past   what the steps say of each grant is what its access and the word seen tell
 --   Counted S past   the three counters are what the history counts
 --   Before r s       a request with the row s has begun only after the one with the row r had ended
 --   InTurn qs past   of two requests of one head, the later one begins after the earlier one
 --
--- Main laws: run-layer, a layer that holds at one moment holds at every later one; counted-layer, in-turn-layer and
--- later-layer, the three layers.
-use mathlib.Core.Path.{_≡_, refl, sym, ap, _∙_, subst, subst₂}
+-- Main laws: run-layer, a layer that holds at one moment holds at every later one; truthful-layer,
+-- counted-layer, in-turn-layer and later-layer, the four layers.
+use mathlib.Core.Path.{_≡_, refl, sym, ap, ap₂, _∙_, subst, subst₂}
 use mathlib.Core.Logic.{_≢_}
 use mathlib.Core.List.{List, [], _∷_, List·Memᴰ, List·Memᴰ·head, List·Memᴰ·tail}
 use Prim.Native.Nat.{ℕ, suc, _<_}
@@ -17,7 +18,6 @@ use lib.ListN.{length}
 use borrow.Author.Tests.{eq-eqb, ltb-true}
 use Rattle.job.specs.declared.Request.{Request}
 use Rattle.process.specs.declared.Head.{Head}
-use Rattle.process.specs.declared.Event.{Event}
 use Rattle.forest.proofs.Later.{Later, later-trans}
 use Rattle.linearization.specs.Partition.{Labels}
 use Rattle.linearization.proofs.Tests.{split}
@@ -25,13 +25,15 @@ use Rattle.rules.specs.declared.Row.{Row}
 use Rattle.rules.specs.Table.{parent, rank}
 use Rattle.rules.specs.State.{State, requestAt, hasWork}
 use Rattle.rules.specs.Step.{headAt, advanced, plus, served, passed, step}
-use Rattle.rules.specs.Run.{Happening, run, happened, history}
+use Rattle.rules.specs.Action.{Action}
+use Rattle.rules.specs.Run.{Happening, actionOf, run, happened, history}
 use Rattle.rules.specs.Run.Happening.{idle, serving}
 use Rattle.rules.specs.History.{countWhere, isIdle, hasFailed, hasLink, isOf, rowOf}
+use Rattle.rules.specs.Laws.{Truthful}
 use Rattle.rules.proofs.History.{Other, other-served, first-new, row-other, served-settled, row-last-bound}
 use Rattle.rules.proofs.Stages.{Inside}
 use Rattle.rules.proofs.Invariant.{labels, Invariant}
-use Rattle.rules.proofs.Serving.{Serving, serving-of, more, Effect}
+use Rattle.rules.proofs.Serving.{Serving, serving-of, more, served-agrees, Effect}
 use Rattle.rules.proofs.Grant.{serving-ready, served-effect, step-invariant}
 use Rattle.rules.proofs.Theorem.{step-heads}
 use Rattle.rules.proofs.Positions.{phase-begun}
@@ -39,7 +41,7 @@ use Rattle.rules.proofs.Positions.{phase-begun}
 pub record Layer (qs : List Request) (n : ℕ) (B : Labels) (roots₀ : ℕ) (P : State → List Happening → Type 0) : Type 0 where
   pub idles : {S : State} {past : List Happening} → Invariant qs n B roots₀ S past → P S past → P (passed S) (idle ∷ past)
   pub serves : {S : State} {past : List Happening} {h : ℕ} {head : Head} → Invariant qs n B roots₀ S past → Serving qs n B S past h head
-      → Effect qs n B roots₀ S (served qs S h head) (more S head past) (head .request) (advanced S head)
+      → Effect qs n B roots₀ S (served qs S h head) (more S head past) (head .task .request) (advanced S head)
       → P S past → P (served qs S h head) (more S head past)
 
 module _ {qs : List Request} {n : ℕ} {B : Labels} {roots₀ : ℕ} (inside : (q : ℕ) → q < length qs → Inside n (requestAt qs q))
@@ -50,7 +52,7 @@ module _ {qs : List Request} {n : ℕ} {B : Labels} {roots₀ : ℕ} (inside : (
     step-layer holds =
         split (hasWork qs (headAt S h))
         (λ t.
-        let serving = serving-ready inside inv h present (ltb-true (headAt S h .request) (length qs) t) in
+        let serving = serving-ready inside inv h present (ltb-true (headAt S h .task .request) (length qs) t) in
         rw t (layer .serves inv serving (served-effect inside inv h present serving) holds))
         (λ t. rw t (layer .idles inv holds))
 
@@ -64,6 +66,22 @@ module _ {qs : List Request} {n : ℕ} {B : Labels} {roots₀ : ℕ} (inside : (
       (step-invariant inside inv h present)
       (step-layer inv h present holds)
 
+-- ---- what the steps say of a swap
+
+abbrev pub AllTruthful : List Happening → Type 0
+AllTruthful past = (a : Happening) → List·Memᴰ a past → Truthful a
+
+one-more-truthful : {new : Happening} {past : List Happening} → Truthful new → AllTruthful past → AllTruthful (new ∷ past)
+one-more-truthful here before a (List·Memᴰ·head e) = subst Truthful (sym e) here
+one-more-truthful here before a (List·Memᴰ·tail m) = before a m
+
+pub truthful-layer : {qs : List Request} {n : ℕ} {B : Labels} {roots₀ : ℕ} → Layer qs n B roots₀ (λ S past. AllTruthful past)
+truthful-layer =
+    record {
+      idles = λ inv before. one-more-truthful tt before;
+      serves = λ inv srv effect before. one-more-truthful (served-agrees srv) before;
+    }
+
 -- ---- the counters
 
 pub record Counted (S : State) (past : List Happening) : Type 0 where
@@ -76,10 +94,11 @@ counted-layer =
     record {
       idles = λ inv c. record { idle = ap suc (c .idle); failed = c .failed; links = c .links };
       serves = λ {S} {past} {h} {head} inv srv effect c.
+          let agrees = served-agrees srv in
           record {
             idle = c .idle;
-            failed = ap (plus (advanced S head .event .failed)) (c .failed);
-            links = ap (plus (advanced S head .event .linked)) (c .links);
+            failed = ap₂ plus (agrees .failed) (c .failed);
+            links = ap₂ plus (agrees .linked) (c .links);
           };
     }
 
@@ -98,48 +117,48 @@ before-other : (p q : ℕ) (a : Happening) (past : List Happening) → Other p a
 before-other p q a past apart-p apart-q = subst₂ Before (sym (row-other p a past apart-p)) (sym (row-other q a past apart-q))
 
 -- the first grant of a request
-served-begins : (q : ℕ) (e : Event) (past : List Happening) → rowOf q past .first ≡ 0
-    → rowOf q (serving q e ∷ past) .first ≡ suc (length past)
+served-begins : (q : ℕ) (act : Action) (past : List Happening) → rowOf q past .first ≡ 0
+    → rowOf q (serving q act ∷ past) .first ≡ suc (length past)
 unfolding rowOf
-served-begins q e past = first-new (isOf q) (serving q e) past (eq-eqb q q refl)
+served-begins q act past = first-new (isOf q) (serving q act) past (eq-eqb q q refl)
 
 -- a grant for the later one: its first grant stays, or is this one, after every grant of the other
-before-served : (p q : ℕ) (e : Event) (past : List Happening) → Other p (serving q e)
-    → Before (rowOf p past) (rowOf q past) → Before (rowOf p (serving q e ∷ past)) (rowOf q (serving q e ∷ past))
-before-served p q e past apart before begun = go (ℕ-discrete (rowOf q past .first) 0)
+before-served : (p q : ℕ) (act : Action) (past : List Happening) → Other p (serving q act)
+    → Before (rowOf p past) (rowOf q past) → Before (rowOf p (serving q act ∷ past)) (rowOf q (serving q act ∷ past))
+before-served p q act past apart before begun = go (ℕ-discrete (rowOf q past .first) 0)
   where
-    last : rowOf p (serving q e ∷ past) .last ≡ rowOf p past .last
-    last = ap (λ r. r .last) (row-other p (serving q e) past apart)
+    last : rowOf p (serving q act ∷ past) .last ≡ rowOf p past .last
+    last = ap (λ r. r .last) (row-other p (serving q act) past apart)
 
-    go : Dec (rowOf q past .first ≡ 0) → rowOf p (serving q e ∷ past) .last < rowOf q (serving q e ∷ past) .first
-    go (yes z) = omega (arith, last, served-begins q e past z, row-last-bound p past)
-    go (no d) = omega (arith, last, served-settled q e past d, before d)
+    go : Dec (rowOf q past .first ≡ 0) → rowOf p (serving q act ∷ past) .last < rowOf q (serving q act ∷ past) .first
+    go (yes z) = omega (arith, last, served-begins q act past z, row-last-bound p past)
+    go (no d) = omega (arith, last, served-settled q act past d, before d)
 
 module _ {qs : List Request} {n : ℕ} {B : Labels} {roots₀ : ℕ} where
   module _ {S : State} {past : List Happening} {h : ℕ} {head : Head} (inv : Invariant qs n B roots₀ S past) (srv : Serving qs n B S past h head)
       (p q : ℕ) (earlier : p < q) (within : q < length qs) (one : requestAt qs p .head ≡ requestAt qs q .head)
       (holds : Before (rowOf p past) (rowOf q past)) where
     -- while the earlier one is being served, the later one waits
-    not-begun : p ≡ head .request → rowOf q past .first ≢ 0 → ⊥
+    not-begun : p ≡ head .task .request → rowOf q past .first ≢ 0 → ⊥
     not-begun is begun =
         let there : requestAt qs q .head ≡ h = sym one ∙ ap (λ k. requestAt qs k .head) is ∙ srv .own in
-        omega (arith, phase-begun (inv .phases q within) begun, ap (λ k. headAt S k .request) there, srv .position)
+        omega (arith, phase-begun (inv .phases q within) begun, ap (λ k. headAt S k .task .request) there, srv .position)
 
-    before-step : Dec (p ≡ head .request) → Dec (q ≡ head .request) → Before (rowOf p (more S head past)) (rowOf q (more S head past))
+    before-step : Dec (p ≡ head .task .request) → Dec (q ≡ head .task .request) → Before (rowOf p (more S head past)) (rowOf q (more S head past))
     before-step (yes is) _ =
-        let row = row-other q (serving-of S head) past (other-served q (head .request) (advanced S head .event) (λ e. omega arith)) in
+        let row = row-other q (serving-of S head) past (other-served q (head .task .request) (actionOf S head) (λ e. omega arith)) in
         λ begun. absurd (not-begun is (λ z. begun (ap (λ r. r .first) row ∙ z)))
     before-step (no d) (yes is) =
         subst (λ k. Before (rowOf p past) (rowOf k past) → Before (rowOf p (more S head past)) (rowOf k (more S head past))) (sym is)
-        (before-served p (head .request) (advanced S head .event) past (other-served p (head .request) (advanced S head .event) d)) holds
-    before-step (no d) (no c) = before-other p q (serving-of S head) past (other-served p (head .request) (advanced S head .event) d) (other-served q (head .request) (advanced S head .event) c) holds
+        (before-served p (head .task .request) (actionOf S head) past (other-served p (head .task .request) (actionOf S head) d)) holds
+    before-step (no d) (no c) = before-other p q (serving-of S head) past (other-served p (head .task .request) (actionOf S head) d) (other-served q (head .task .request) (actionOf S head) c) holds
 
   pub in-turn-layer : Layer qs n B roots₀ (λ S past. InTurn qs past)
   in-turn-layer =
       record {
         idles = λ {S} {past} inv turn p q l w one. before-other p q idle past refl refl (turn p q l w one);
         serves = λ {S} {past} {h} {head} inv srv effect turn p q l w one.
-            before-step inv srv p q l w one (turn p q l w one) (ℕ-discrete p (head .request)) (ℕ-discrete q (head .request));
+            before-step inv srv p q l w one (turn p q l w one) (ℕ-discrete p (head .task .request)) (ℕ-discrete q (head .task .request));
       }
 
   -- ---- what every grant leaves alone

@@ -3,10 +3,12 @@ pub mod Cases
 pub mod History
 pub mod Table
 pub mod Requests
+pub mod Finds
 pub mod Stages
 pub mod Outcomes
 pub mod Writes
 pub mod Steps
+pub mod Agreement
 pub mod FindSteps
 pub mod UnionSteps
 pub mod StepOutcome

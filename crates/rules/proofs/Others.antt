@@ -8,19 +8,21 @@ use Prim.Native.Nat.{ℕ, _≤_}
 use native.Mathlib.Omega.{arith}
 use lib.Dec.{eqb}
 use lib.ListN.{length}
+use Rattle.job.specs.declared.Kind.the-variants.{SameSet}
 use Rattle.job.specs.declared.Request.{Request}
 use Rattle.process.specs.declared.Stage.{Stage}
+use Rattle.process.specs.Process.{traitsOf}
 use Rattle.process.specs.declared.Head.{Head}
 use Rattle.linearization.specs.Entry.{Entry}
 use Rattle.rules.specs.State.{requestAt}
 use Rattle.rules.specs.Run.{Happening}
-use Rattle.rules.specs.History.{rowOf}
-use Rattle.rules.proofs.History.{Other, row-other, link-other, find-other, point-other, used-kept}
-use Rattle.rules.proofs.Stages.{pendingOf}
+use Rattle.rules.specs.History.{isOf, rowOf}
+use Rattle.rules.specs.Laws.{Anchored}
+use Rattle.rules.proofs.History.{Other, last-kept, but-one-kept, row-other, link-other, find-other, point-other, used-kept}
 use Rattle.rules.proofs.Invariant.{Candidate, Timed, Over, Current, Waiting, Phase, Placed}
 use Rattle.rules.proofs.Invariant.Phase.{over, current, waiting}
 
-pub timed-other : {q : ℕ} {past : List Happening} {st : Stage} (a : Happening) → Other q a → pendingOf st ≤ length past → Timed q past st → Timed q (a ∷ past) st
+pub timed-other : {q : ℕ} {past : List Happening} {st : Stage} (a : Happening) → Other q a → traitsOf st .pending ≤ length past → Timed q past st → Timed q (a ∷ past) st
 timed-other {q} {past} {st} a o until timed =
     record {
       unlinked = λ e. link-other q a past o ∙ timed .unlinked e;
@@ -31,18 +33,26 @@ timed-other {q} {past} {st} a o until timed =
     first : rowOf q (a ∷ past) .first ≡ rowOf q past .first
     first = ap (λ r. r .first) (row-other q a past o)
 
-    candidate : Candidate q past (pendingOf st) → Candidate q (a ∷ past) (pendingOf st)
+    candidate : Candidate q past (traitsOf st .pending) → Candidate q (a ∷ past) (traitsOf st .pending)
     candidate c =
         record {
           begun = λ z. c .begun (sym first ∙ z);
           since = omega (arith, first, c .since);
           last = find-other q a past o ∙ c .last;
-          used = used-kept a past (pendingOf st) until ∙ c .used;
+          newest = last-kept (isOf q) a past o ∙ c .newest;
+          used = used-kept a past (traitsOf st .pending) until ∙ c .used;
         }
 
 module _ (q : ℕ) (past : List Happening) {times times′ : ℕ} (a : Happening) (o : Other q a) (same : times′ ≡ times) where
   row : rowOf q (a ∷ past) ≡ rowOf q past
   row = row-other q a past o
+
+  anchored-other : Anchored q (rowOf q past) past → Anchored q (rowOf q (a ∷ past)) (a ∷ past)
+  anchored-other p =
+      record {
+        yes = λ e. point-other q a past o SameSet ∙ p .yes (sym (ap (λ r. r .answer) row) ∙ e) ∙ sym (ap (λ r. r .last) row);
+        no = λ e. point-other q a past o SameSet ∙ p .no (sym (ap (λ r. r .answer) row) ∙ e) ∙ sym (but-one-kept (isOf q) a past o);
+      }
 
   pub over-other : Over q past times → Over q (a ∷ past) times′
   over-other p =
@@ -50,6 +60,7 @@ module _ (q : ℕ) (past : List Happening) {times times′ : ℕ} (a : Happening
         finished = λ z. p .finished (sym (ap (λ r. r .answer) row) ∙ z);
         begun = λ z. p .begun (sym (ap (λ r. r .first) row) ∙ z);
         ended = omega (arith, ap (λ r. r .last) row, p .ended);
+        anchored = anchored-other (p .anchored);
         listed = same ∙ p .listed;
       }
 

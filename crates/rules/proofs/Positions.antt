@@ -23,30 +23,40 @@ use Rattle.rules.specs.Step.{headAt, plus}
 use Rattle.rules.specs.Run.{Happening}
 use Rattle.rules.specs.History.{rowOf}
 use Rattle.rules.specs.Linearized.{rowAt}
-use Rattle.rules.specs.Laws.{some, isUnfinished, headsLeft}
+use Rattle.rules.specs.Laws.{some, isUnfinished, headsLeft, Anchored}
 use Rattle.rules.proofs.Invariant.{Phase, Invariant}
 use Rattle.rules.proofs.Invariant.Phase.{over, current, waiting}
 
 -- ---- one request
 
+-- one that is not finished has no answer of a same-set
+unanswered : {q : ℕ} {past : List Happening} → rowOf q past .answer ≡ 0 → Anchored q (rowOf q past) past
+unanswered none = record { yes = λ e. absurd (omega arith); no = λ e. absurd (omega arith) }
+
 module _ {head : Head} {q : ℕ} {past : List Happening} {times : ℕ} where
   -- one that has begun is not beyond its head's position
-  pub phase-begun : Phase head q past times → rowOf q past .first ≢ 0 → q ≤ head .request
+  pub phase-begun : Phase head q past times → rowOf q past .first ≢ 0 → q ≤ head .task .request
   phase-begun (over l o) begun = omega arith
   phase-begun (current e b c) begun = omega arith
   phase-begun (waiting l r w) begun = absurd (begun (w .fresh))
 
   -- one that the head has passed is finished
-  pub phase-passed : Phase head q past times → q < head .request → rowOf q past .answer ≢ 0
+  pub phase-passed : Phase head q past times → q < head .task .request → rowOf q past .answer ≢ 0
   phase-passed (over l o) passed = o .finished
   phase-passed (current e b c) passed = absurd (omega arith)
   phase-passed (waiting l r w) passed = absurd (omega arith)
 
   -- and no other is
-  pub phase-left : Phase head q past times → head .request ≤ q → rowOf q past .answer ≡ 0
+  pub phase-left : Phase head q past times → head .task .request ≤ q → rowOf q past .answer ≡ 0
   phase-left (over l o) left = absurd (omega arith)
   phase-left (current e b c) left = c .unfinished
   phase-left (waiting l r w) left = w .unfinished
+
+  -- a point of a same-set is told by its row
+  pub phase-anchored : Phase head q past times → Anchored q (rowOf q past) past
+  phase-anchored (over l o) = o .anchored
+  phase-anchored (current e b c) = unanswered (c .unfinished)
+  phase-anchored (waiting l r w) = unanswered (w .unfinished)
 
 -- ---- counting
 
@@ -92,25 +102,25 @@ module _ {qs : List Request} {n : ℕ} {B : Labels} {roots₀ : ℕ} {S : State}
         (λ f. rw f refl)
 
     -- a head's position is an unfinished request of its own
-    work-here : h < length (S .heads) → headAt S h .request < length qs → isUnfinished qs (S .report) h (headAt S h .request) ≡ true
+    work-here : h < length (S .heads) → headAt S h .task .request < length qs → isUnfinished qs (S .report) h (headAt S h .task .request) ≡ true
     work-here present within =
-        let q = headAt S h .request in
+        let q = headAt S h .task .request in
         let own = inv .own h present within in
         unfinished-yes q own (answer-is q within ∙ phase-left (phase-of h q within own) (omega arith))
 
     -- and a head beyond the requests has finished all of its own
-    no-work : length qs ≤ headAt S h .request → (q : ℕ) → q < length qs → isUnfinished qs (S .report) h q ≡ false
+    no-work : length qs ≤ headAt S h .task .request → (q : ℕ) → q < length qs → isUnfinished qs (S .report) h q ≡ false
     no-work beyond q l =
         unfinished-no q (λ own z. phase-passed (phase-of h q l own) (omega arith) (sym (answer-is q l) ∙ z))
 
     has-work : h < length (S .heads) → hasWork qs (headAt S h) ≡ some (isUnfinished qs (S .report) h) (length qs)
     has-work present =
         split (hasWork qs (headAt S h))
-        (λ t. t ∙ sym (any (ltb-true (headAt S h .request) (length qs) t)))
-        (λ f. f ∙ sym (some-false (isUnfinished qs (S .report) h) (length qs) (no-work (ltb-false (headAt S h .request) (length qs) f))))
+        (λ t. t ∙ sym (any (ltb-true (headAt S h .task .request) (length qs) t)))
+        (λ f. f ∙ sym (some-false (isUnfinished qs (S .report) h) (length qs) (no-work (ltb-false (headAt S h .task .request) (length qs) f))))
       where
-        any : headAt S h .request < length qs → some (isUnfinished qs (S .report) h) (length qs) ≡ true
-        any within = some-true (isUnfinished qs (S .report) h) (length qs) (headAt S h .request) within (work-here present within)
+        any : headAt S h .task .request < length qs → some (isUnfinished qs (S .report) h) (length qs) ≡ true
+        any within = some-true (isUnfinished qs (S .report) h) (length qs) (headAt S h .task .request) within (work-here present within)
 
   pub work-left : working qs (S .heads) ≡ headsLeft qs (S .report) (length (S .heads))
   work-left =

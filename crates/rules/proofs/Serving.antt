@@ -25,7 +25,7 @@ use Rattle.job.specs.declared.Request.{Request}
 use Rattle.process.specs.declared.Stage.the-variants.{Resting}
 use Rattle.process.specs.declared.Head.{Head}
 use Rattle.process.specs.declared.Advanced.{Advanced}
-use Rattle.process.specs.Process.{isResting, restingAt}
+use Rattle.process.specs.Process.{traitsOf, isResting, queued}
 use Rattle.process.specs.Access.{accessOf}
 use Rattle.process.specs.Advance.{advanceOf}
 use Rattle.forest.specs.Forest.{rootCount}
@@ -36,48 +36,57 @@ use Rattle.rules.specs.Table.{parent, rank, seen}
 use Rattle.rules.specs.Report.{noRow, isFinal, charge}
 use Rattle.rules.specs.State.{State, requestAt, seek, resting}
 use Rattle.rules.specs.Step.{headAt, advanced, settled, served}
-use Rattle.rules.specs.Run.{Happening}
+use Rattle.rules.specs.Action.{Agrees}
+use Rattle.rules.specs.Run.{Happening, actionOf}
 use Rattle.rules.specs.Run.Happening.{serving}
 use Rattle.rules.specs.History.{rowOf, linkOf}
 use Rattle.rules.specs.Linearized.{operationAt}
 use Rattle.rules.proofs.History.{other-served, row-other, row-served}
 use Rattle.rules.proofs.Table.{length-touched}
 use Rattle.rules.proofs.Requests.{seek-from, seek-own, seek-least}
-use Rattle.rules.proofs.Stages.{isRaising, Inside, Knows, pending-until, knows-later}
+use Rattle.rules.proofs.Stages.{Inside, Knows, pending-until, knows-later}
 use Rattle.rules.proofs.Outcomes.{Kept}
 use Rattle.rules.proofs.Steps.{advance-keeps}
+use Rattle.rules.proofs.Agreement.{stage-agrees}
 use Rattle.rules.proofs.Positions.{phase-of}
 use Rattle.rules.proofs.Others.{timed-other, over-other, waiting-other, phase-other}
 use Rattle.rules.proofs.Invariant.{labels, ApartAt, claim, Timed, Over, Current, Busy, Phase, Placed, Invariant}
 use Rattle.rules.proofs.Invariant.Phase.{over, current, waiting}
 
 pub record Serving (qs : List Request) (n : ℕ) (B : Labels) (S : State) (past : List Happening) (h : ℕ) (head : Head) : Type 0 where
-  pub within : head .request < length qs
-  pub own : requestAt qs (head .request) .head ≡ h
-  pub position : headAt S h .request ≡ head .request
+  pub within : head .task .request < length qs
+  pub own : requestAt qs (head .task .request) .head ≡ h
+  pub position : headAt S h .task .request ≡ head .task .request
   pub busy : isResting head ≡ false
-  pub knows : Knows n (parent (S .table)) (rank (S .table)) (labels qs B S) (ApartAt qs B (S .entries) (head .request)) (S .now)
-      (requestAt qs (head .request)) head (head .stage)
-  pub timed : Timed (head .request) past (head .stage)
-  pub begun : isRaising (head .stage) ≡ true → rowOf (head .request) past .first ≢ 0
-  pub unfinished : rowOf (head .request) past .answer ≡ 0
-  pub listed : occurrences (head .request) (S .entries) ≡ cond (eqb (linkOf (head .request) past) 0) 0 1
+  pub knows : Knows n (parent (S .table)) (rank (S .table)) (labels qs B S) (ApartAt qs B (S .entries) (head .task .request)) (S .now)
+      (requestAt qs (head .task .request)) (head .task) (head .stage)
+  pub timed : Timed (head .task .request) past (head .stage)
+  pub begun : traitsOf (head .stage) .linked ≡ true → rowOf (head .task .request) past .first ≢ 0
+  pub unfinished : rowOf (head .task .request) past .answer ≡ 0
+  pub listed : occurrences (head .task .request) (S .entries) ≡ cond (eqb (linkOf (head .task .request) past) 0) 0 1
 
 -- the grant, and the history with it
 abbrev pub serving-of : State → Head → Happening
-serving-of S head = serving (head .request) (advanced S head .event)
+serving-of S head = serving (head .task .request) (actionOf S head)
 
 abbrev pub more : State → Head → List Happening → List Happening
 more S head past = serving-of S head ∷ past
 
+pub served-agrees : {qs : List Request} {n : ℕ} {B : Labels} {S : State} {past : List Happening} {h : ℕ} {head : Head}
+    → Serving qs n B S past h head → Agrees (actionOf S head)
+unfolding accessOf advanceOf
+served-agrees {qs} {n} {B} {S = S} {head = head} srv =
+    stage-agrees (S .now) (S .table) (head .task) n (labels qs B S) (ApartAt qs B (S .entries) (head .task .request)) (requestAt qs (head .task .request))
+    (head .stage) (srv .knows)
+
 -- the head before its next request
 abbrev next-head : List Request → ℕ → Advanced → Head
-next-head qs h a = record { stage = a .head .stage; x = a .head .x; y = a .head .y; request = seek qs h (suc (a .head .request)) }
+next-head qs h a = queued (a .head) (seek qs h (suc (a .head .task .request)))
 
 -- What holds of the request after the grant. S′ is the state after it, a the head's step.
 pub data After (qs : List Request) (n : ℕ) (B : Labels) (S′ : State) (past′ : List Happening) (q : ℕ) (a : Advanced) : Type 0 where
   continues : a .event .answer ≡ Unfinished → isResting (a .head) ≡ false
-      → Knows n (parent (S′ .table)) (rank (S′ .table)) (labels qs B S′) (ApartAt qs B (S′ .entries) q) (S′ .now) (requestAt qs q) (a .head) (a .head .stage)
+      → Knows n (parent (S′ .table)) (rank (S′ .table)) (labels qs B S′) (ApartAt qs B (S′ .entries) q) (S′ .now) (requestAt qs q) (a .head .task) (a .head .stage)
       → Timed q past′ (a .head .stage) → Current q past′ (occurrences q (S′ .entries)) → After qs n B S′ past′ q a
   finishes : isFinal (a .event .answer) ≡ true → a .head .stage ≡ Resting → Over q past′ (occurrences q (S′ .entries)) → After qs n B S′ past′ q a
 
@@ -95,9 +104,9 @@ pub record Effect (qs : List Request) (n : ℕ) (B : Labels) (roots₀ : ℕ) (S
 module _ {qs : List Request} {n : ℕ} {B : Labels} {roots₀ : ℕ} {S : State} {past : List Happening} {h : ℕ} {head : Head}
     (present : h < length (S .heads)) (inside : (q : ℕ) → q < length qs → Inside n (requestAt qs q))
     (inv : Invariant qs n B roots₀ S past) (serving : Serving qs n B S past h head)
-    (effect : Effect qs n B roots₀ S (served qs S h head) (more S head past) (head .request) (advanced S head)) where
+    (effect : Effect qs n B roots₀ S (served qs S h head) (more S head past) (head .task .request) (advanced S head)) where
   abbrev q : ℕ
-  q = head .request
+  q = head .task .request
 
   abbrev S′ : State
   S′ = served qs S h head
@@ -105,21 +114,21 @@ module _ {qs : List Request} {n : ℕ} {B : Labels} {roots₀ : ℕ} {S : State}
   abbrev head′ : Head
   head′ = settled qs h (advanced S head)
 
-  keeps : advanced S head .head .request ≡ q
+  keeps : advanced S head .head .task .request ≡ q
   unfolding advanceOf
-  keeps = advance-keeps head (seen (S .table) (accessOf head)) (suc (S .now)) (head .stage)
+  keeps = advance-keeps (head .task) (seen (S .table) (accessOf head)) (suc (S .now)) (head .stage)
 
   -- what the head a knows of request p after the grant
   abbrev Known : ℕ → Head → Type 0
   Known p a =
-      Knows n (parent (S′ .table)) (rank (S′ .table)) (labels qs B S′) (ApartAt qs B (S′ .entries) p) (S′ .now) (requestAt qs p) a (a .stage)
+      Knows n (parent (S′ .table)) (rank (S′ .table)) (labels qs B S′) (ApartAt qs B (S′ .entries) p) (S′ .now) (requestAt qs p) (a .task) (a .stage)
 
   -- What holds of the served head after the grant.
   record Seated : Type 0 where
-    own : head′ .request < length qs → requestAt qs (head′ .request) .head ≡ h
-    busy : isResting head′ ≡ false → Busy qs h (head′ .request)
-    knows : isResting head′ ≡ false → Known (head′ .request) head′
-    timed : isResting head′ ≡ false → Timed (head′ .request) (more S head past) (head′ .stage)
+    own : head′ .task .request < length qs → requestAt qs (head′ .task .request) .head ≡ h
+    busy : isResting head′ ≡ false → Busy qs h (head′ .task .request)
+    knows : isResting head′ ≡ false → Known (head′ .task .request) head′
+    timed : isResting head′ ≡ false → Timed (head′ .task .request) (more S head past) (head′ .stage)
     phase : (p : ℕ) → p < length qs → requestAt qs p .head ≡ h → Phase head′ p (more S head past) (occurrences p (S′ .entries))
 
   -- it continues with its request
@@ -127,30 +136,30 @@ module _ {qs : List Request} {n : ℕ} {B : Labels} {roots₀ : ℕ} {S : State}
     stays : head′ ≡ advanced S head .head
     stays = ap (λ a. cond (isFinal a) (next-head qs h (advanced S head)) (advanced S head .head)) unfinished
 
-    position-stays : head′ .request ≡ q
-    position-stays = ap (λ a. a .request) stays ∙ keeps
+    position-stays : head′ .task .request ≡ q
+    position-stays = ap (λ a. a .task .request) stays ∙ keeps
 
     phase-stays : isResting head′ ≡ false → Current q (more S head past) (occurrences q (S′ .entries))
         → (p : ℕ) → Dec (p ≡ q) → Phase (headAt S h) p past (occurrences p (S .entries))
         → Phase head′ p (more S head past) (occurrences p (S′ .entries))
     phase-stays busy now p (yes e) old = current (e ∙ sym position-stays) busy (rw e now)
     phase-stays busy now p (no d) (over l o) =
-        over (omega (arith, serving .position, position-stays)) (over-other p past (serving-of S head) (other-served p q (advanced S head .event) d) (effect .others p d) o)
+        over (omega (arith, serving .position, position-stays)) (over-other p past (serving-of S head) (other-served p q (actionOf S head) d) (effect .others p d) o)
     phase-stays busy now p (no d) (current e b c) = absurd (d (e ∙ serving .position))
     phase-stays busy now p (no d) (waiting l r w) =
         waiting (omega (arith, serving .position, position-stays)) (λ e. absurd (d (e ∙ position-stays)))
-        (waiting-other p past (serving-of S head) (other-served p q (advanced S head .event) d) (effect .others p d) w)
+        (waiting-other p past (serving-of S head) (other-served p q (actionOf S head) d) (effect .others p d) w)
 
   -- it has finished it
   module _ (final : isFinal (advanced S head .event .answer) ≡ true) (rests : advanced S head .head .stage ≡ Resting) where
     moves : head′ ≡ next-head qs h (advanced S head)
     moves = ap (λ b. cond b (next-head qs h (advanced S head)) (advanced S head .head)) final
 
-    position-moves : head′ .request ≡ seek qs h (suc q)
-    position-moves = ap (λ a. a .request) moves ∙ ap (λ p. seek qs h (suc p)) keeps
+    position-moves : head′ .task .request ≡ seek qs h (suc q)
+    position-moves = ap (λ a. a .task .request) moves ∙ ap (λ p. seek qs h (suc p)) keeps
 
     resting-now : isResting head′ ≡ true
-    resting-now = ap (λ a. restingAt (a .stage)) moves ∙ ap restingAt rests
+    resting-now = ap (λ a. traitsOf (a .stage) .resting) moves ∙ ap (λ st. traitsOf st .resting) rests
 
     phase-moves : Over q (more S head past) (occurrences q (S′ .entries))
         → (p : ℕ) → p < length qs → requestAt qs p .head ≡ h → Dec (p ≡ q) → Phase (headAt S h) p past (occurrences p (S .entries))
@@ -158,19 +167,19 @@ module _ {qs : List Request} {n : ℕ} {B : Labels} {roots₀ : ℕ} {S : State}
     phase-moves done p l own (yes e) old = over (omega (arith, position-moves, seek-from qs h (suc q))) (rw e done)
     phase-moves done p l own (no d) (over before o) =
         over (omega (arith, serving .position, position-moves, seek-from qs h (suc q)))
-        (over-other p past (serving-of S head) (other-served p q (advanced S head .event) d) (effect .others p d) o)
+        (over-other p past (serving-of S head) (other-served p q (actionOf S head) d) (effect .others p d) o)
     phase-moves done p l own (no d) (current e b c) = absurd (d (e ∙ serving .position))
     phase-moves done p l own (no d) (waiting from r w) =
         waiting (omega (arith, position-moves, seek-least qs h (suc q) p (omega (arith, serving .position)) l own)) (λ e. resting-now)
-        (waiting-other p past (serving-of S head) (other-served p q (advanced S head .event) d) (effect .others p d) w)
+        (waiting-other p past (serving-of S head) (other-served p q (actionOf S head) d) (effect .others p d) w)
 
   seated : After qs n B S′ (more S head past) q (advanced S head) → Seated
   seated (continues unfinished busy knows timed now) =
       record {
         own = λ l. ap (λ p. requestAt qs p .head) (position-stays unfinished) ∙ serving .own;
         busy = λ b. record { within = omega (arith, position-stays unfinished, serving .within); own = ap (λ p. requestAt qs p .head) (position-stays unfinished) ∙ serving .own };
-        knows = λ b. subst (λ a. Known (a .request) a) (sym (stays unfinished)) (subst (λ p. Known p (advanced S head .head)) (sym keeps) knows);
-        timed = λ b. subst (λ a. Timed (a .request) (more S head past) (a .stage)) (sym (stays unfinished))
+        knows = λ b. subst (λ a. Known (a .task .request) a) (sym (stays unfinished)) (subst (λ p. Known p (advanced S head .head)) (sym keeps) knows);
+        timed = λ b. subst (λ a. Timed (a .task .request) (more S head past) (a .stage)) (sym (stays unfinished))
             (subst (λ p. Timed p (more S head past) (advanced S head .head .stage)) (sym keeps) timed);
         phase = λ p l own. phase-stays unfinished (ap isResting (stays unfinished) ∙ busy) now p (ℕ-discrete p q)
             (phase-of inv h p l own);
@@ -192,22 +201,22 @@ module _ {qs : List Request} {n : ℕ} {B : Labels} {roots₀ : ℕ} {S : State}
     head-other = getD-set-other (S .heads) h k head′ (resting 0) d
 
     -- a busy head serves another request
-    request-other : isResting (headAt S k) ≡ false → headAt S k .request ≢ q
+    request-other : isResting (headAt S k) ≡ false → headAt S k .task .request ≢ q
     request-other b e = d (sym (inv .busy k b .own) ∙ ap (λ p. requestAt qs p .head) e ∙ serving .own)
 
-    knows-other : isResting (headAt S k) ≡ false → Known (headAt S k .request) (headAt S k)
+    knows-other : isResting (headAt S k) ≡ false → Known (headAt S k .task .request) (headAt S k)
     knows-other b =
-        knows-later (effect .kept .later) (inside (headAt S k .request) (inv .busy k b .within))
-        {Apart = ApartAt qs B (S .entries) (headAt S k .request)} {Apart′ = ApartAt qs B (S′ .entries) (headAt S k .request)}
+        knows-later (effect .kept .later) (inside (headAt S k .task .request) (inv .busy k b .within))
+        {Apart = ApartAt qs B (S .entries) (headAt S k .task .request)} {Apart′ = ApartAt qs B (S′ .entries) (headAt S k .task .request)}
         {now = S .now} {now′ = suc (S .now)} (omega arith)
-        (λ point l apart. subst (λ C. C (requestAt qs (headAt S k .request) .x) ≢ C (requestAt qs (headAt S k .request) .y)) (sym (effect .settled point l)) apart)
-        (headAt S k) (headAt S k .stage) (inv .knows k b)
+        (λ point l apart. subst (λ C. C (requestAt qs (headAt S k .task .request) .x) ≢ C (requestAt qs (headAt S k .task .request) .y)) (sym (effect .settled point l)) apart)
+        (headAt S k .task) (headAt S k .stage) (inv .knows k b)
 
-    timed-kept : isResting (headAt S k) ≡ false → Timed (headAt S k .request) (more S head past) (headAt S k .stage)
+    timed-kept : isResting (headAt S k) ≡ false → Timed (headAt S k .task .request) (more S head past) (headAt S k .stage)
     timed-kept b =
-        let until = pending-until n (parent (S .table)) (rank (S .table)) (labels qs B S) (ApartAt qs B (S .entries) (headAt S k .request)) (S .now)
-        (requestAt qs (headAt S k .request)) (headAt S k) (headAt S k .stage) (inv .knows k b) in
-        timed-other (serving-of S head) (other-served (headAt S k .request) q (advanced S head .event) (request-other b)) (omega (arith, until, inv .clock)) (inv .timed k b)
+        let until = pending-until n (parent (S .table)) (rank (S .table)) (labels qs B S) (ApartAt qs B (S .entries) (headAt S k .task .request)) (S .now)
+        (requestAt qs (headAt S k .task .request)) (headAt S k .task) (headAt S k .stage) (inv .knows k b) in
+        timed-other (serving-of S head) (other-served (headAt S k .task .request) q (actionOf S head) (request-other b)) (omega (arith, until, inv .clock)) (inv .timed k b)
 
   head-served : headAt S′ h ≡ head′
   head-served = getD-set-same (S .heads) h head′ (resting 0) present
@@ -219,34 +228,34 @@ module _ {qs : List Request} {n : ℕ} {B : Labels} {roots₀ : ℕ} {S : State}
       let there : getD (S′ .report) p noRow ≡ charge (getD (S .report) q noRow) (suc (S .now)) (advanced S head .event .answer) =
       ap (λ k. getD (S′ .report) k noRow) e ∙ getD-set-same (S .report) q (charge (getD (S .report) q noRow) (suc (S .now)) (advanced S head .event .answer)) noRow (omega (arith, serving .within, inv .reports)) in
       there ∙ ap₂ (λ r g. charge r (suc g) (advanced S head .event .answer)) (inv .rows q (serving .within)) (inv .clock)
-      ∙ row-served q (advanced S head .event) past ∙ ap (λ k. rowOf k (more S head past)) (sym e)
+      ∙ row-served q (actionOf S head) past ∙ ap (λ k. rowOf k (more S head past)) (sym e)
   rows-served p l (no d) =
       getD-set-other (S .report) q p (charge (getD (S .report) q noRow) (suc (S .now)) (advanced S head .event .answer)) noRow d
-      ∙ inv .rows p l ∙ sym (row-other p (serving-of S head) past (other-served p q (advanced S head .event) d))
+      ∙ inv .rows p l ∙ sym (row-other p (serving-of S head) past (other-served p q (actionOf S head) d))
 
   -- ---- every head
 
   seated-now : Seated
   seated-now = seated (effect .after)
 
-  own-each : (k : ℕ) → k < length (S .heads) → Dec (k ≡ h) → headAt S′ k .request < length qs → requestAt qs (headAt S′ k .request) .head ≡ k
+  own-each : (k : ℕ) → k < length (S .heads) → Dec (k ≡ h) → headAt S′ k .task .request < length qs → requestAt qs (headAt S′ k .task .request) .head ≡ k
   own-each k l (yes e) = rw (e, head-served) (seated-now .own)
   own-each k l (no d) = rw (head-other k d) (inv .own k l)
 
-  busy-each : (k : ℕ) → Dec (k ≡ h) → isResting (headAt S′ k) ≡ false → Busy qs k (headAt S′ k .request)
+  busy-each : (k : ℕ) → Dec (k ≡ h) → isResting (headAt S′ k) ≡ false → Busy qs k (headAt S′ k .task .request)
   busy-each k (yes e) = rw (e, head-served) (seated-now .busy)
   busy-each k (no d) = rw (head-other k d) (inv .busy k)
 
-  knows-each : (k : ℕ) → Dec (k ≡ h) → isResting (headAt S′ k) ≡ false → Known (headAt S′ k .request) (headAt S′ k)
+  knows-each : (k : ℕ) → Dec (k ≡ h) → isResting (headAt S′ k) ≡ false → Known (headAt S′ k .task .request) (headAt S′ k)
   knows-each k (yes e) =
-      subst (λ a. isResting a ≡ false → Known (a .request) a) (sym head-served ∙ ap (headAt S′) (sym e)) (seated-now .knows)
-  knows-each k (no d) = subst (λ a. isResting a ≡ false → Known (a .request) a) (sym (head-other k d)) (knows-other k d)
+      subst (λ a. isResting a ≡ false → Known (a .task .request) a) (sym head-served ∙ ap (headAt S′) (sym e)) (seated-now .knows)
+  knows-each k (no d) = subst (λ a. isResting a ≡ false → Known (a .task .request) a) (sym (head-other k d)) (knows-other k d)
 
-  timed-each : (k : ℕ) → Dec (k ≡ h) → isResting (headAt S′ k) ≡ false → Timed (headAt S′ k .request) (more S head past) (headAt S′ k .stage)
+  timed-each : (k : ℕ) → Dec (k ≡ h) → isResting (headAt S′ k) ≡ false → Timed (headAt S′ k .task .request) (more S head past) (headAt S′ k .stage)
   timed-each k (yes e) =
-      subst (λ a. isResting a ≡ false → Timed (a .request) (more S head past) (a .stage)) (sym head-served ∙ ap (headAt S′) (sym e)) (seated-now .timed)
+      subst (λ a. isResting a ≡ false → Timed (a .task .request) (more S head past) (a .stage)) (sym head-served ∙ ap (headAt S′) (sym e)) (seated-now .timed)
   timed-each k (no d) =
-      subst (λ a. isResting a ≡ false → Timed (a .request) (more S head past) (a .stage)) (sym (head-other k d)) (timed-kept k d)
+      subst (λ a. isResting a ≡ false → Timed (a .task .request) (more S head past) (a .stage)) (sym (head-other k d)) (timed-kept k d)
 
   phase-each : (p : ℕ) → p < length qs → Dec (requestAt qs p .head ≡ h)
       → Phase (headAt S′ (requestAt qs p .head)) p (more S head past) (occurrences p (S′ .entries))
@@ -255,7 +264,7 @@ module _ {qs : List Request} {n : ℕ} {B : Labels} {roots₀ : ℕ} {S : State}
   phase-each p l (no d) =
       let apart : p ≢ q = λ e. d (ap (λ k. requestAt qs k .head) e ∙ serving .own) in
       subst (λ a. Phase a p (more S head past) (occurrences p (S′ .entries))) (sym (head-other (requestAt qs p .head) d))
-      (phase-other p past (serving-of S head) (other-served p q (advanced S head .event) apart) (effect .others p apart) (inv .phases p l))
+      (phase-other p past (serving-of S head) (other-served p q (actionOf S head) apart) (effect .others p apart) (inv .phases p l))
 
   -- ---- the whole state
 

@@ -1,58 +1,56 @@
 -- What every step of a head keeps: the request that it serves, and what its x and y say of the request's two nodes.
 --
---   Keeps h a   the step a of the head h leaves its request
+--   Keeps k a   the step a of a head with the task k leaves its request
 --
 -- Main laws: advance-keeps, no step changes the request served; ends-one and ends-two, from x and y to the request's
 -- two nodes; finding-moved and finding-exchange, x or y moves within its set, or the two are exchanged.
 use mathlib.Core.Path.{_≡_, refl, sym, ap, _∙_}
 use mathlib.Core.Logic.{_≢_}
 use mathlib.Core.Bool.{Bool, true, false, cond}
-use Prim.Native.Nat.{ℕ, _<_}
+use Prim.Native.Nat.{ℕ}
 use lib.Dec.{eqb}
 use Rattle.job.specs.declared.Kind.{Kind}
 use Rattle.job.specs.declared.Request.{Request}
 use Rattle.word.specs.declared.Node.{Node}
 use Rattle.word.specs.Word.{same, before}
-use Rattle.process.specs.declared.Side.{Side}
-use Rattle.process.specs.declared.Side.the-variants.{X, Y}
+use Rattle.process.specs.declared.Walked.{Walked}
+use Rattle.process.specs.declared.Walked.the-variants.{On, Failed, Up, Ended}
+use Rattle.process.specs.declared.Errand.{Errand}
 use Rattle.process.specs.declared.Stage.{Stage}
-use Rattle.process.specs.declared.Stage.the-variants.{Resting, ReadNode, ReadParent, Halve, ReadAgain, RereadX, ReadRankX, ReadRankY, Link, Raise}
-use Rattle.process.specs.declared.Head.{Head}
+use Rattle.process.specs.declared.Stage.the-variants.{Resting, Find, RereadX, ReadRankX, ReadRankY, Link, Raise}
+use Rattle.process.specs.declared.Task.{Task}
 use Rattle.process.specs.declared.Advanced.{Advanced}
-use Rattle.process.specs.Process.{nodeAt, movedTo}
-use Rattle.process.specs.Advance.{ended, moveUp, advanceAt}
+use Rattle.process.specs.Process.{servesX, nodeAt, movedTo}
+use Rattle.process.specs.Find.{walked}
+use Rattle.process.specs.Advance.{followed, advanceAt}
 use Rattle.forest.proofs.Merge.{Ends}
 use Rattle.forest.proofs.Merge.Ends.{straight, crossed}
+use Rattle.rules.proofs.Finds.{Moved}
 use Rattle.rules.proofs.Stages.{Finding}
 
 -- ---- a head keeps its request
 
-cond-both : {A : Type 0} (P : A → Type 0) (b : Bool) {x y : A} → P x → P y → P (cond b x y)
+pub cond-both : {A : Type 0} (P : A → Type 0) (b : Bool) {x y : A} → P x → P y → P (cond b x y)
 cond-both P true p q = p
 cond-both P false p q = q
 
-module _ (h : Head) where
+module _ (k : Task) where
   abbrev Keeps : Advanced → Type 0
-  Keeps a = a .head .request ≡ h .request
+  Keeps a = a .head .task .request ≡ k .request
 
-  ended-keeps : (k : Kind) (s : Side) (now : ℕ) → Keeps (ended h k s now)
-  ended-keeps k X now = refl
-  ended-keeps k Y now = cond-both Keeps (eqb (h .x) (h .y)) refl refl
+  followed-keeps : (e : Errand) (now : ℕ) (w : Walked) → Keeps (followed k e now w)
+  followed-keeps e now (On s) = refl
+  followed-keeps e now (Failed s) = refl
+  followed-keeps e now (Up v) = refl
+  followed-keeps e now Ended = cond-both Keeps (servesX e) refl (cond-both Keeps (eqb (k .x) (k .y)) refl refl)
 
-  moved-keeps : (k : Kind) (s : Side) (v : ℕ) → Keeps (moveUp h k s v)
-  moved-keeps k X v = refl
-  moved-keeps k Y v = refl
-
-  pub advance-keeps : (w : Node) (now : ℕ) (st : Stage) → advanceAt h w now st .head .request ≡ h .request
+  pub advance-keeps : (w : Node) (now : ℕ) (st : Stage) → advanceAt k w now st .head .task .request ≡ k .request
   advance-keeps w now Resting = refl
-  advance-keeps w now (ReadNode k s) = cond-both Keeps (eqb (w .parent) (nodeAt h s)) (ended-keeps k s now) refl
-  advance-keeps w now (ReadParent k s r t) = refl
-  advance-keeps w now (Halve k s r t u) = refl
-  advance-keeps w now (ReadAgain k s t) = moved-keeps k s (w .parent)
-  advance-keeps w now (RereadX p) = cond-both Keeps (eqb (w .parent) (h .x)) refl refl
+  advance-keeps w now (Find e s) = followed-keeps e now (walked (nodeAt k e) w s)
+  advance-keeps w now (RereadX p) = cond-both Keeps (eqb (w .parent) (k .x)) refl refl
   advance-keeps w now ReadRankX = refl
-  advance-keeps w now (ReadRankY r) = cond-both Keeps (before (w .rank) (h .y) r (h .x)) refl refl
-  advance-keeps w now (Link r e) = cond-both Keeps (same w (record { rank = r; parent = h .x })) (cond-both Keeps e refl refl) refl
+  advance-keeps w now (ReadRankY r) = cond-both Keeps (before (w .rank) (k .y) r (k .x)) refl refl
+  advance-keeps w now (Link r e) = cond-both Keeps (same w (record { rank = r; parent = k .x })) (cond-both Keeps e refl refl) refl
   advance-keeps w now (Raise r) = refl
 
 -- ---- what x and y say of the request's nodes
@@ -76,9 +74,12 @@ ends-left : {B : ℕ → ℕ} {a b x y u : ℕ} → B u ≡ B x → Ends B a b x
 ends-left s (straight e f) = straight (s ∙ e) f
 ends-left s (crossed e f) = crossed (s ∙ e) f
 
--- a side moves to another node of its set
-pub finding-moved : {n : ℕ} {B : ℕ → ℕ} {q : Request} {k : Kind} (h : Head) (s : Side) (u : ℕ)
-    → Finding n B q k (h .x) (h .y) → u < n → B u ≡ B (nodeAt h s) → Finding n B q k (movedTo h s u .x) (movedTo h s u .y)
-finding-moved h X u f inside one = record { left = inside; right = f .right; ends = ends-left one (f .ends); kind = f .kind }
-finding-moved h Y u f inside one =
-    record { left = f .left; right = inside; ends = ends-exchange (ends-left one (ends-exchange (f .ends))); kind = f .kind }
+-- the find moves to another node of its set
+pub finding-moved : {n : ℕ} {B : ℕ → ℕ} {q : Request} {kind : Kind} (k : Task) (e : Errand) (u : ℕ)
+    → Finding n B q kind (k .x) (k .y) → Moved n B (nodeAt k e) u → Finding n B q kind (movedTo k e u .x) (movedTo k e u .y)
+finding-moved {n} {B} {q} {kind} k e u f moved = go (servesX e) (moved .same)
+  where
+    go : (b : Bool) → B u ≡ B (cond b (k .x) (k .y)) → Finding n B q kind (cond b u (k .x)) (cond b (k .y) u)
+    go true one = record { left = moved .node; right = f .right; ends = ends-left one (f .ends); kind = f .kind }
+    go false one =
+        record { left = f .left; right = moved .node; ends = ends-exchange (ends-left one (ends-exchange (f .ends))); kind = f .kind }

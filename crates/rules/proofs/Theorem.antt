@@ -76,10 +76,10 @@ module _ (qs : List Request) (m : ℕ) (t : List Node) where
       go (no l) = ap isResting (headsFrom-beyond qs 0 m h (omega arith))
 
   -- no head is beyond a request of its own
-  start-position : (q : ℕ) → q < length qs → headAt (start qs m t) (requestAt qs q .head) .request ≤ q
+  start-position : (q : ℕ) → q < length qs → headAt (start qs m t) (requestAt qs q .head) .task .request ≤ q
   start-position q l = go (decLt (requestAt qs q .head) m)
     where
-      go : Dec (requestAt qs q .head < m) → headAt (start qs m t) (requestAt qs q .head) .request ≤ q
+      go : Dec (requestAt qs q .head < m) → headAt (start qs m t) (requestAt qs q .head) .task .request ≤ q
       go (yes k) = rw (start-head (requestAt qs q .head) k) (seek-least qs (requestAt qs q .head) 0 q (omega arith) l refl)
       go (no k) = rw (headsFrom-beyond qs 0 m (requestAt qs q .head) (omega arith)) (omega arith)
 

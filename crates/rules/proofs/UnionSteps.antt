@@ -17,10 +17,10 @@ use Rattle.word.specs.Word.{key, same, before}
 use Rattle.word.proofs.Laws.{before-key}
 use Rattle.process.specs.declared.Stage.{Stage}
 use Rattle.process.specs.declared.Stage.the-variants.{ReadRankX, ReadRankY, Link, Raise}
-use Rattle.process.specs.declared.Head.{Head}
+use Rattle.process.specs.declared.Task.{Task}
 use Rattle.process.specs.declared.Advanced.{Advanced}
 use Rattle.process.specs.declared.Access.the-variants.{Cas}
-use Rattle.process.specs.Process.{staged, restart}
+use Rattle.process.specs.Process.{restart}
 use Rattle.process.specs.Advance.{continue, rankBoth, linked, link, raise}
 use Rattle.forest.proofs.Merge.{merged-ends}
 use Rattle.forest.proofs.Linking as linking
@@ -28,37 +28,38 @@ use Rattle.forest.proofs.Raising as raising
 use Rattle.linearization.proofs.Tests.{split}
 use Rattle.rules.specs.Table.{at, parent, rank, touched}
 use Rattle.rules.proofs.Table.{found-parent, found-rank}
-use Rattle.rules.proofs.Stages.{Finding, ReadingRanks, Linking, Raising}
+use Rattle.rules.proofs.Finds.{stored}
+use Rattle.rules.proofs.Stages.{Finding, ReadingRanks, Linking, Raising, restart-knows}
 use Rattle.rules.proofs.Outcomes.{Unlinked, Linked, Outcome, Present, unchanged, goes-on}
 use Rattle.rules.proofs.Outcomes.Linked.{finished, raises}
 use Rattle.rules.proofs.Outcomes.Outcome.{joining, ending}
-use Rattle.rules.proofs.Writes.{stored, linking-kept, linking-takes, linking-stays, raising-unlinked}
+use Rattle.rules.proofs.Writes.{linking-kept, linking-takes, linking-stays, raising-unlinked}
 use Rattle.rules.proofs.Steps.{ends-two, finding-exchange}
 
-module _ {n now : ℕ} {t : List Node} {B B′ : ℕ → ℕ} {Apart : ℕ → Type 0} {q : Request} (present : Present n now t B B′ Apart q) (h : Head) where
+module _ {n now : ℕ} {t : List Node} {B B′ : ℕ → ℕ} {Apart : ℕ → Type 0} {q : Request} (present : Present n now t B B′ Apart q) (k : Task) where
   abbrev Gives : List Node → Stage → Advanced → Type 0
   Gives t′ st a = Outcome n now t t′ B B′ Apart q st a
 
   -- ---- the two ranks
 
-  pub read-rank-x : ReadingRanks n (rank t) B q (h .x) (h .y) 0 → Gives t ReadRankX (continue h (ReadRankY (rank t (h .x))))
+  pub read-rank-x : ReadingRanks n (rank t) B q (k .x) (k .y) 0 → Gives t ReadRankX (continue k (ReadRankY (rank t (k .x))))
   read-rank-x a =
-      goes-on ReadRankX (staged h (ReadRankY (rank t (h .x)))) false false refl refl refl refl (unchanged present)
+      goes-on ReadRankX k (ReadRankY (rank t (k .x))) false false refl refl (unchanged present)
       (record { finding = a .finding; distinct = a .distinct; rank = omega arith })
 
   -- the order of the ranks read is the order of keys
-  ranks-order : (r : ℕ) → Finding n B q Union (h .x) (h .y)
-      → before (rank t (h .y)) (h .y) r (h .x) ≡ ltb (key (rank t (h .y)) (h .y)) (key r (h .x))
+  ranks-order : (r : ℕ) → Finding n B q Union (k .x) (k .y)
+      → before (rank t (k .y)) (k .y) r (k .x) ≡ ltb (key (rank t (k .y)) (k .y)) (key r (k .x))
   ranks-order r f =
       let few = present .sound .formed .limit in
-      before-key (rank t (h .y)) (h .y) r (h .x) (omega (arith, f .right)) (omega (arith, f .left))
+      before-key (rank t (k .y)) (k .y) r (k .x) (omega (arith, f .right)) (omega (arith, f .left))
 
-  module _ (r : ℕ) (a : ReadingRanks n (rank t) B q (h .x) (h .y) r) where
+  module _ (r : ℕ) (a : ReadingRanks n (rank t) B q (k .x) (k .y) r) where
     -- y comes before x: they are exchanged
-    exchanged : key (rank t (h .y)) (h .y) < key r (h .x) → Linking n (rank t) B q (h .y) (h .x) (rank t (h .y))
+    exchanged : key (rank t (k .y)) (k .y) < key r (k .x) → Linking n (rank t) B q (k .y) (k .x) (rank t (k .y))
     exchanged order = record { finding = finding-exchange (a .finding); rank = omega arith; before = omega (arith, a .rank) }
 
-    straight : key r (h .x) ≤ key (rank t (h .y)) (h .y) → Linking n (rank t) B q (h .x) (h .y) r
+    straight : key r (k .x) ≤ key (rank t (k .y)) (k .y) → Linking n (rank t) B q (k .x) (k .y) r
     straight order =
         record {
           finding = a .finding;
@@ -66,37 +67,37 @@ module _ {n now : ℕ} {t : List Node} {B B′ : ℕ → ℕ} {Apart : ℕ → T
           before = omega (arith, a .distinct, a .finding .left, a .finding .right, present .sound .formed .limit);
         }
 
-    pub read-rank-y : Gives t (ReadRankY r) (rankBoth h r (rank t (h .y)))
+    pub read-rank-y : Gives t (ReadRankY r) (rankBoth k r (rank t (k .y)))
     read-rank-y =
-        split (before (rank t (h .y)) (h .y) r (h .x))
+        split (before (rank t (k .y)) (k .y) r (k .x))
         (λ e. rw e
-        (goes-on (ReadRankY r) (record { stage = Link (rank t (h .y)) (eqb r (rank t (h .y))); x = h .y; y = h .x; request = h .request })
-        false false refl refl refl refl (unchanged present)
-        (exchanged (ltb-true (key (rank t (h .y)) (h .y)) (key r (h .x)) (sym (ranks-order r (a .finding)) ∙ e)))))
+        (goes-on (ReadRankY r) (record { x = k .y; y = k .x; request = k .request; waits = k .waits }) (Link (rank t (k .y)) (eqb r (rank t (k .y))))
+        false false refl refl (unchanged present)
+        (exchanged (ltb-true (key (rank t (k .y)) (k .y)) (key r (k .x)) (sym (ranks-order r (a .finding)) ∙ e)))))
         (λ e. rw e
-        (goes-on (ReadRankY r) (staged h (Link r (eqb r (rank t (h .y))))) false false refl refl refl refl (unchanged present)
-        (straight (ltb-false (key (rank t (h .y)) (h .y)) (key r (h .x)) (sym (ranks-order r (a .finding)) ∙ e)))))
+        (goes-on (ReadRankY r) k (Link r (eqb r (rank t (k .y)))) false false refl refl (unchanged present)
+        (straight (ltb-false (key (rank t (k .y)) (k .y)) (key r (k .x)) (sym (ranks-order r (a .finding)) ∙ e)))))
 
   -- ---- the link
 
-  module _ (r : ℕ) (a : Linking n (rank t) B q (h .x) (h .y) r) where
-    module _ (found : same (at t (h .x)) (record { rank = r; parent = h .x }) ≡ true) where
-      may-link : linking.Linking n (parent t) (rank t) B B′ (h .x) r (h .y)
+  module _ (r : ℕ) (a : Linking n (rank t) B q (k .x) (k .y) r) where
+    module _ (found : same (at t (k .x)) (record { rank = r; parent = k .x }) ≡ true) where
+      may-link : linking.Linking n (parent t) (rank t) B B′ (k .x) r (k .y)
       may-link =
-          let rank-is = found-rank t (h .x) (record { rank = r; parent = h .x }) found in
+          let rank-is = found-rank t (k .x) (record { rank = r; parent = k .x }) found in
           record {
             node = a .finding .left;
             target = a .finding .right;
-            root = found-parent t (h .x) (record { rank = r; parent = h .x }) found;
+            root = found-parent t (k .x) (record { rank = r; parent = k .x }) found;
             rank = sym rank-is;
             before = omega (arith, a .before, rank-is);
-            labels = merged-ends (present .merged) (h .x) (h .y) (a .finding .ends);
+            labels = merged-ends (present .merged) (k .x) (k .y) (a .finding .ends);
           }
 
       -- where the ranks read were equal, y's rank may be raised
-      to-raise : Raising n (rank (stored t (h .x) r (h .y))) B′ q (h .y) r
+      to-raise : Raising n (rank (stored t (k .x) r (k .y))) B′ q (k .y) r
       to-raise =
-          let stays = linking-stays t (present .nodes) (present .sound) may-link (h .y) in
+          let stays = linking-stays t (present .nodes) (present .sound) may-link (k .y) in
           record {
             node = a .finding .right;
             kind = a .finding .kind;
@@ -104,7 +105,7 @@ module _ {n now : ℕ} {t : List Node} {B B′ : ℕ → ℕ} {Apart : ℕ → T
             weight = linking.linking-weight (present .sound) may-link;
           }
 
-      link-written : (e : Bool) → Gives (stored t (h .x) r (h .y)) (Link r e) (linked h r e (suc now))
+      link-written : (e : Bool) → Gives (stored t (k .x) r (k .y)) (Link r e) (linked k r e (suc now))
       link-written e =
           joining (record {
             kept = linking-kept t (present .nodes) (present .sound) may-link;
@@ -117,45 +118,45 @@ module _ {n now : ℕ} {t : List Node} {B B′ : ℕ → ℕ} {Apart : ℕ → T
             after = after e;
           })
         where
-          by-case : (e : Bool) → linked h r e (suc now) .event .linked ≡ true
+          by-case : (e : Bool) → linked k r e (suc now) .event .linked ≡ true
           by-case true = refl
           by-case false = refl
 
-          at-case : (e : Bool) → linked h r e (suc now) .event .point ≡ suc now
+          at-case : (e : Bool) → linked k r e (suc now) .event .point ≡ suc now
           at-case true = refl
           at-case false = refl
 
-          after : (e : Bool) → Linked n (stored t (h .x) r (h .y)) B′ q (linked h r e (suc now))
+          after : (e : Bool) → Linked n (stored t (k .x) r (k .y)) B′ q (linked k r e (suc now))
           after true = raises r refl refl to-raise
           after false = finished refl refl
 
-    pub link-x : (e : Bool) → Gives (touched t (Cas (h .x) (record { rank = r; parent = h .x }) (record { rank = r; parent = h .y })))
-        (Link r e) (link h r e (at t (h .x)) (suc now))
+    pub link-x : (e : Bool) → Gives (touched t (Cas (k .x) (record { rank = r; parent = k .x }) (record { rank = r; parent = k .y })))
+        (Link r e) (link k r e (at t (k .x)) (suc now))
     link-x e =
-        split (same (at t (h .x)) (record { rank = r; parent = h .x }))
+        split (same (at t (k .x)) (record { rank = r; parent = k .x }))
         (λ s. rw s (link-written s e))
-        (λ s. rw s (goes-on (Link r e) (staged h (restart Union)) true false refl refl refl refl (unchanged present) (a .finding)))
+        (λ s. rw s (goes-on (Link r e) k (restart Union) true false refl refl (unchanged present) (restart-knows Union k (a .finding))))
 
   -- ---- the raise
 
-  module _ (r : ℕ) (a : Raising n (rank t) B q (h .y) r) where
+  module _ (r : ℕ) (a : Raising n (rank t) B q (k .y) r) where
     -- whether the swap wrote or not, the union is finished
-    raise-ends : {t′ : List Node} (w : Node) → Unlinked n t t′ B → Gives t′ (Raise r) (raise h r w)
+    raise-ends : {t′ : List Node} (w : Node) → Unlinked n t t′ B → Gives t′ (Raise r) (raise k r w)
     raise-ends w table =
         ending (record { table = table; raised = refl; kind = a .kind; unlinked = refl; answer = refl; unplaced = refl; rests = refl })
 
-    may-raise : same (at t (h .y)) (record { rank = r; parent = h .y }) ≡ true → raising.Raising n (parent t) (rank t) B (h .y) r
+    may-raise : same (at t (k .y)) (record { rank = r; parent = k .y }) ≡ true → raising.Raising n (parent t) (rank t) B (k .y) r
     may-raise found =
         record {
           node = a .node;
-          root = found-parent t (h .y) (record { rank = r; parent = h .y }) found;
-          rank = sym (found-rank t (h .y) (record { rank = r; parent = h .y }) found);
+          root = found-parent t (k .y) (record { rank = r; parent = k .y }) found;
+          rank = sym (found-rank t (k .y) (record { rank = r; parent = k .y }) found);
           weight = a .weight;
         }
 
     pub raise-y : (w : Node)
-        → Gives (touched t (Cas (h .y) (record { rank = r; parent = h .y }) (record { rank = r + 1; parent = h .y }))) (Raise r) (raise h r w)
+        → Gives (touched t (Cas (k .y) (record { rank = r; parent = k .y }) (record { rank = r + 1; parent = k .y }))) (Raise r) (raise k r w)
     raise-y w =
-        split (same (at t (h .y)) (record { rank = r; parent = h .y }))
+        split (same (at t (k .y)) (record { rank = r; parent = k .y }))
         (λ s. rw s (raise-ends w (raising-unlinked t (present .nodes) (present .sound) (may-raise s))))
         (λ s. rw s (raise-ends w (unchanged present)))

@@ -1,14 +1,12 @@
 -- The three writes of the table, on its words: what the forest says of parents and ranks, said of a word that is stored.
 --
---   stored t i k u   the table t with rank k and parent u in the word of node i
---
--- Laws: halving-unlinked and raising-unlinked, the sets stay and no root is lost; linking-kept, linking-takes and
+-- Laws: find-unlinked and raising-unlinked, the sets stay and no root is lost; linking-kept, linking-takes and
 -- linking-stays, two sets become one, one root is lost and every rank stays.
-use mathlib.Core.Path.{_≡_, _∙_}
+use mathlib.Core.Path.{_≡_, sym, _∙_, subst}
 use mathlib.Core.List.{List}
 use Prim.Native.Nat.{ℕ, suc, _+_}
 use native.Mathlib.Omega.{arith}
-use lib.ListN.{length, set}
+use lib.ListN.{length}
 use Rattle.word.specs.declared.Node.{Node}
 use Rattle.forest.specs.Forest.{rootCount}
 use Rattle.forest.proofs.Sound.{Sound}
@@ -20,17 +18,16 @@ use Rattle.forest.proofs.Later.{halving-later, linking-later, raising-later}
 use Rattle.forest.proofs.Roots.{halving-roots, linking-roots, raising-roots}
 use Rattle.rules.specs.Table.{parent, rank}
 use Rattle.rules.proofs.Table.{parent-changed, rank-changed}
-use Rattle.rules.proofs.Outcomes.{Kept, Unlinked}
-
-abbrev pub stored : List Node → ℕ → ℕ → ℕ → List Node
-stored t i k u = set t i (record { rank = k; parent = u })
+use Rattle.rules.proofs.Finds.{stored, Halved}
+use Rattle.rules.proofs.Finds.Halved.{kept, written}
+use Rattle.rules.proofs.Outcomes.{Kept, Unlinked, unwritten}
 
 module _ {n : ℕ} (t : List Node) {B : ℕ → ℕ} (nodes : length t ≡ n) (sound : Sound n (parent t) (rank t) B) where
-  pub halving-unlinked : {v k u : ℕ} → Halving n (parent t) (rank t) B v k u → Unlinked n t (stored t v k u) B
+  halving-unlinked : {v k u : ℕ} → Halving n (parent t) (rank t) B v k u → Unlinked n t (stored t v k u) B
   halving-unlinked {v} {k} {u} halving =
       record {
-        kept = record { sound = halving-sound sound halving parents ranks; later = halving-later sound halving parents ranks };
-        roots = halving-roots sound halving parents ranks;
+        kept = record { sound = halving-sound sound halving parents ranks; later = halving-later (sound .formed) halving parents ranks };
+        roots = halving-roots (sound .formed) halving parents ranks;
       }
     where
       parents : Changed (parent t) (parent (stored t v k u)) v u
@@ -38,6 +35,11 @@ module _ {n : ℕ} (t : List Node) {B : ℕ → ℕ} (nodes : length t ≡ n) (s
 
       ranks : Changed (rank t) (rank (stored t v k u)) v k
       ranks = rank-changed t v (record { rank = k; parent = u }) (omega (arith, halving .node))
+
+  -- what a find writes
+  pub find-unlinked : {t′ : List Node} {v : ℕ} → Halved n t t′ B v → Unlinked n t t′ B
+  find-unlinked (kept e) = subst (λ t′. Unlinked n t t′ B) (sym e) (unwritten sound)
+  find-unlinked (written k u halving e) = subst (λ t′. Unlinked n t t′ B) (sym e) (halving-unlinked halving)
 
   pub raising-unlinked : {y k : ℕ} → Raising n (parent t) (rank t) B y k → Unlinked n t (stored t y (k + 1) y) B
   raising-unlinked {y} {k} raising =

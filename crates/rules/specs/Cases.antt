@@ -67,7 +67,8 @@ entry point request = record { point = point; request = request }
 abbrev pub tally : ℕ → ℕ → ℕ → ℕ → Tally
 tally idle failed links working = record { idle = idle; failed = failed; links = links; working = working }
 
--- The starred cases in document 01's order; after them schedules on which a wrong link makes a cycle.
+-- The starred cases in document 01's order; after them schedules that reach what the starred ones do not: wrong links
+-- that make a cycle, swaps that fail, ranks above 0.
 abbrev pub cases : List Case
 cases =
     -- One place, union 0 0, two grants: already together; point 2.
@@ -168,7 +169,8 @@ cases =
       };
     }
     ∷
-    -- Two places, two heads, both union 0 1: head 0 joined at 9, ends at 11; head 1 has one failed swap, already together.
+    -- Two places, two heads, both union 0 1: head 0 joined at 9, ends at 11; head 1 has one failed swap, already
+    -- together.
     record {
       nodes = 2;
       heads = 2;
@@ -249,6 +251,53 @@ cases =
         report = row 1 5 10 6 ∷ row 1 11 15 5 ∷ row 2 1 22 11 ∷ [];
         entries = entry 9 0 ∷ entry 15 1 ∷ entry 22 2 ∷ [];
         tally = tally 0 1 2 0;
+      };
+    }
+    ∷
+    -- Not of document 01: an idle grant, a rank swap that fails, a link of a node of rank 1, equal ranks with the
+    -- lower number second.
+    record {
+      nodes = 6;
+      heads = 2;
+      requests = union 1 3 5 ∷ union 0 0 1 ∷ union 0 5 4 ∷ union 0 3 1 ∷ [];
+      schedule = replicate 2 0 ++ replicate 1 1 ++ replicate 3 0 ++ replicate 2 1 ++ replicate 1 0 ++ replicate 1 1
+          ++ replicate 3 0 ++ replicate 3 1 ++ replicate 13 0;
+      expected = record {
+        words = 1 ∷ 65541 ∷ 2 ∷ 5 ∷ 5 ∷ 131077 ∷ [];
+        report = row 1 3 15 6 ∷ row 1 1 9 6 ∷ row 1 11 19 6 ∷ row 1 20 29 10 ∷ [];
+        entries = entry 6 1 ∷ entry 14 0 ∷ entry 18 2 ∷ entry 28 3 ∷ [];
+        tally = tally 1 1 4 0;
+      };
+    }
+    ∷
+    -- Not of document 01: two halvings and a link that fail.
+    record {
+      nodes = 4;
+      heads = 2;
+      requests = union 0 2 3 ∷ union 1 2 1 ∷ sameSet 1 1 0 ∷ union 0 0 3 ∷ union 0 1 3 ∷ [];
+      schedule = replicate 3 0 ++ replicate 1 1 ++ replicate 5 0 ++ replicate 2 1 ++ replicate 1 0 ++ replicate 1 1
+          ++ replicate 3 0 ++ replicate 1 1 ++ replicate 6 0 ++ replicate 2 1 ++ replicate 1 0 ++ replicate 9 1;
+      expected = record {
+        words = 3 ∷ 3 ∷ 3 ∷ 65539 ∷ [];
+        report = row 1 1 7 6 ∷ row 1 4 24 6 ∷ row 3 25 35 10 ∷ row 1 8 15 5 ∷ row 0 16 0 8 ∷ [];
+        entries = entry 6 0 ∷ entry 15 3 ∷ entry 17 1 ∷ entry 35 2 ∷ [];
+        tally = tally 0 3 3 1;
+      };
+    }
+    ∷
+    -- Not of document 01: a link that fails after an exchange and is tried again; a parent that moves between the
+    -- two reads of t.
+    record {
+      nodes = 6;
+      heads = 2;
+      requests = union 1 3 1 ∷ union 0 3 0 ∷ union 0 2 1 ∷ union 0 2 3 ∷ [];
+      schedule = replicate 8 0 ++ replicate 3 1 ++ replicate 5 0 ++ replicate 2 1 ++ replicate 1 0 ++ replicate 2 1
+          ++ replicate 3 0 ++ replicate 4 1;
+      expected = record {
+        words = 3 ∷ 2 ∷ 65539 ∷ 65539 ∷ 4 ∷ 5 ∷ [];
+        report = row 2 9 28 11 ∷ row 1 1 6 6 ∷ row 1 7 15 6 ∷ row 0 16 0 5 ∷ [];
+        entries = entry 5 1 ∷ entry 14 2 ∷ entry 24 3 ∷ entry 28 0 ∷ [];
+        tally = tally 0 1 3 1;
       };
     }
     ∷ []

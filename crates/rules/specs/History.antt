@@ -2,6 +2,7 @@
 -- A history is a list of happenings, the newest first; the newest is the grant whose number is the list's length.
 --
 --   firstWhere f past, lastWhere f past   the first and the last grant with f, 0 if there is none
+--   lastButOne f past                     the last grant with f but one, 0 if there is none
 --   countWhere f past                     the number of grants with f
 --   isIdle a, hasFailed a, hasLink a      the grant was idle, a swap that failed, or a link that wrote
 --   isOf q a, endsFindOf q a, linksFor q a   it was used for q, ended a find from y of q, or linked q
@@ -18,6 +19,7 @@ use Rattle.job.specs.declared.Kind.{Kind}
 use Rattle.job.specs.declared.Kind.the-variants.{Union, SameSet}
 use Rattle.job.specs.Job.{answerNumber}
 use Rattle.rules.specs.declared.Row.{Row}
+use Rattle.rules.specs.Action.{fails, links}
 use Rattle.rules.specs.Run.{Happening}
 use Rattle.rules.specs.Run.Happening.{idle, serving}
 
@@ -31,6 +33,11 @@ abbrev pub lastWhere : (Happening → Bool) → List Happening → ℕ
 lastWhere f [] = 0
 lastWhere f (a ∷ past) = cond (f a) (suc (length past)) (lastWhere f past)
 
+-- The last one before that.
+abbrev pub lastButOne : (Happening → Bool) → List Happening → ℕ
+lastButOne f [] = 0
+lastButOne f (a ∷ past) = cond (f a) (lastWhere f past) (lastButOne f past)
+
 -- How many grants had f.
 abbrev pub countWhere : (Happening → Bool) → List Happening → ℕ
 countWhere f [] = 0
@@ -39,38 +46,38 @@ countWhere f (a ∷ past) = cond (f a) (suc (countWhere f past)) (countWhere f p
 -- The grant was idle.
 abbrev pub isIdle : Happening → Bool
 isIdle idle = true
-isIdle (serving q e) = false
+isIdle (serving q a) = false
 
 -- It was a swap that failed.
 abbrev pub hasFailed : Happening → Bool
 hasFailed idle = false
-hasFailed (serving q e) = e .failed
+hasFailed (serving q a) = fails (a .access) (a .seen)
 
 -- It was a link swap that wrote.
 abbrev pub hasLink : Happening → Bool
 hasLink idle = false
-hasLink (serving q e) = e .linked
+hasLink (serving q a) = links (a .access) (a .seen)
 
 -- The grant was used for request q.
 abbrev pub isOf : ℕ → Happening → Bool
 isOf q idle = false
-isOf q (serving r e) = eqb r q
+isOf q (serving r a) = eqb r q
 
 -- It ended a find from y of request q.
 abbrev pub endsFindOf : ℕ → Happening → Bool
 endsFindOf q idle = false
-endsFindOf q (serving r e) = cond (eqb r q) (e .found) false
+endsFindOf q (serving r a) = cond (eqb r q) (a .event .found) false
 
 -- It was the link swap of request q, and wrote.
 abbrev pub linksFor : ℕ → Happening → Bool
 linksFor q idle = false
-linksFor q (serving r e) = cond (eqb r q) (e .linked) false
+linksFor q (serving r a) = cond (eqb r q) (links (a .access) (a .seen)) false
 
 -- The answer of request q is what its last grant gave: unfinished, or the answer that finished it.
 abbrev pub answerOf : ℕ → List Happening → ℕ
 answerOf q [] = 0
 answerOf q (idle ∷ past) = answerOf q past
-answerOf q (serving r e ∷ past) = cond (eqb r q) (answerNumber (e .answer)) (answerOf q past)
+answerOf q (serving r a ∷ past) = cond (eqb r q) (answerNumber (a .event .answer)) (answerOf q past)
 
 -- A request's first grant is the first that its head uses for it; its last grant is 0 while it is unfinished.
 unfoldable pub rowOf : ℕ → List Happening → Row

@@ -3,15 +3,18 @@
 --   some test n                  some number below n passes the test
 --   isUnfinished qs report h q   request q is of head h and unfinished
 --   headsLeft qs report m        how many heads below m have an unfinished request
+--   Truthful a                   what the steps say of the grant a is what its access and the word seen tell
+--   Anchored q row past          the point of a finished same-set q, told by its row
 --   Lawful nodes qs S past       what holds of the state S after the history past
 --   Follows nodes t t′           what holds of the table t′ at a later moment than that of the table t
 use mathlib.Core.Path.{_≡_}
 use mathlib.Core.Logic.{_≢_}
 use mathlib.Core.Bool.{Bool, true, false, cond}
-use mathlib.Core.List.{List}
+use mathlib.Core.List.{List, List·Memᴰ}
 use Prim.Native.Nat.{ℕ, zero, suc, _+_, _^_, _≤_, _<_}
 use lib.Dec.{eqb}
 use lib.ListN.{length}
+use Rattle.job.specs.declared.Kind.the-variants.{SameSet}
 use Rattle.job.specs.declared.Request.{Request}
 use Rattle.word.specs.declared.Node.{Node}
 use Rattle.word.specs.Word.{before}
@@ -20,8 +23,10 @@ use Rattle.rules.specs.declared.Row.{Row}
 use Rattle.rules.specs.Table.{parent, rank}
 use Rattle.rules.specs.Report.{noRow}
 use Rattle.rules.specs.State.{State, requestAt, working}
+use Rattle.rules.specs.Action.{Agrees}
 use Rattle.rules.specs.Run.{Happening}
-use Rattle.rules.specs.History.{countWhere, isIdle, hasFailed, hasLink, isOf, rowOf}
+use Rattle.rules.specs.Run.Happening.{idle, serving}
+use Rattle.rules.specs.History.{lastButOne, countWhere, isIdle, hasFailed, hasLink, isOf, rowOf, pointOf}
 use Rattle.rules.specs.Linearized.{rowAt}
 
 -- Some number below n passes the test.
@@ -36,6 +41,17 @@ isUnfinished qs report h q = cond (eqb (requestAt qs q .head) h) (eqb (rowAt rep
 -- The heads with work left, told by the requests and the report alone.
 abbrev pub headsLeft : List Request → List Row → ℕ → ℕ
 headsLeft qs report m = count (λ h. some (isUnfinished qs report h) (length qs)) m
+
+-- The steps' own flags of a grant agree with its access and the word that it saw; an idle grant has none.
+abbrev pub Truthful : Happening → Type 0
+Truthful idle = Unit {0}
+Truthful (serving q act) = Agrees act
+
+-- That a grant ended a find from y is what the steps say of themselves; the report tells the same of a finished same-set:
+-- its point is its last grant where the answer is yes, and the last of its grants before that where it is no.
+pub record Anchored (q : ℕ) (row : Row) (past : List Happening) : Type 0 where
+  pub yes : row .answer ≡ 3 → pointOf SameSet q past ≡ row .last
+  pub no : row .answer ≡ 4 → pointOf SameSet q past ≡ lastButOne (isOf q) past
 
 -- At every moment of a run.
 pub record Lawful (nodes : ℕ) (qs : List Request) (S : State) (past : List Happening) : Type 0 where
@@ -57,8 +73,12 @@ pub record Lawful (nodes : ℕ) (qs : List Request) (S : State) (past : List Hap
   pub idle : S .idle ≡ countWhere isIdle past
   pub failed : S .failed ≡ countWhere hasFailed past
   pub links : S .links ≡ countWhere hasLink past
+  -- What the steps say of a swap is what its access and the word seen tell.
+  pub truthful : (a : Happening) → List·Memᴰ a past → Truthful a
   -- "and the heads with work left now".
   pub work : working qs (S .heads) ≡ headsLeft qs (S .report) (length (S .heads))
+  -- "For a same-set, the grant that ended its last find from y."
+  pub anchored : (q : ℕ) → q < length qs → Anchored q (rowAt (S .report) q) past
   -- A head serves its requests in file order: of two, the later has begun only if the earlier is finished,
   pub finished : (p q : ℕ) → p < q → q < length qs → requestAt qs p .head ≡ requestAt qs q .head
       → rowAt (S .report) q .first ≢ 0 → rowAt (S .report) p .answer ≢ 0

@@ -3,6 +3,7 @@ pub mod Table
 pub mod Report
 pub mod State
 pub mod Step
+pub mod Action
 pub mod Run
 pub mod History
 pub mod Cases

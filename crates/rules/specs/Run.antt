@@ -1,15 +1,19 @@
 -- Document 01, "Whole runs and the plain book": a run is the list of grants, each on what the one before it left.
 --
 --   run qs S gs           the state after the grants gs
---   Happening             what one grant was: idle, or a grant used for request q with its event
+--   actionOf S head       what a grant does that serves that head
+--   Happening             what one grant was: idle, or used for request q, with what it did
 --   happenedBy S turn     what a grant was, by whom it serves
 --   happened qs S h       what a grant to head h is in the state S
 --   history qs S past gs  what the grants were, the newest first: the grant number of the newest is the list's length
 use mathlib.Core.List.{List, [], _∷_}
 use Prim.Native.Nat.{ℕ}
 use Rattle.job.specs.declared.Request.{Request}
-use Rattle.process.specs.declared.Event.{Event}
+use Rattle.process.specs.declared.Head.{Head}
+use Rattle.process.specs.Access.{accessOf}
+use Rattle.rules.specs.Table.{seen}
 use Rattle.rules.specs.State.{State}
+use Rattle.rules.specs.Action.{Action}
 use Rattle.rules.specs.Step.{Turn, turn, advanced, step}
 use Rattle.rules.specs.Step.Turn.{idled, serves}
 
@@ -18,15 +22,19 @@ abbrev pub run : List Request → State → List ℕ → State
 run qs S [] = S
 run qs S (h ∷ gs) = run qs (step qs S h) gs
 
+-- The head's access, the word that it sees, and where that leads.
+abbrev pub actionOf : State → Head → Action
+actionOf S head = record { access = accessOf head; seen = seen (S .table) (accessOf head); event = advanced S head .event }
+
 -- What a grant was: idle, or used for request q, with what it did.
 pub data Happening : Type 0 where
   idle : Happening
-  serving : ℕ → Event → Happening
+  serving : ℕ → Action → Happening
 
 -- What the grant was, by whom it serves.
 abbrev pub happenedBy : State → Turn → Happening
 happenedBy S idled = idle
-happenedBy S (serves head) = serving (head .task .request) (advanced S head .event)
+happenedBy S (serves head) = serving (head .task .request) (actionOf S head)
 
 -- What a grant to head h is.
 unfoldable pub happened : List Request → State → ℕ → Happening

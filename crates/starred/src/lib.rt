@@ -7,5 +7,5 @@ ghost use Rattle.starred.specs.Starred.{starred};
 pub fn case_count() -> u32
     ensures { λ r. ⌜ r ≡ length starred ⌝ }
 {
-    24
+    27
 }

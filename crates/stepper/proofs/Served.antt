@@ -24,7 +24,7 @@ use Rattle.rules.specs.Table.{parent, rank, seen, touched}
 use Rattle.rules.specs.Report.{charge, noRow}
 use Rattle.rules.specs.State.{State, resting, hasWork}
 use Rattle.rules.specs.Step.{ready, headAt, advanced, settled, entered, served, step}
-use Rattle.rules.specs.Run.{Happening, happened}
+use Rattle.rules.specs.Run.{Happening, actionOf, happened}
 use Rattle.rules.specs.Run.Happening.{serving}
 use Rattle.rules.proofs.Invariant.{labels, ApartAt, Invariant}
 use Rattle.rules.proofs.Serving.{Serving}
@@ -43,7 +43,7 @@ unfolding step
 step-served qs S h t = rw t refl
 
 pub happened-served : (qs : List Request) (S : State) (h : ℕ) → hasWork qs (headAt S h) ≡ true
-    → happened qs S h ≡ serving (ready qs (headAt S h) .request) (advanced S (ready qs (headAt S h)) .event)
+    → happened qs S h ≡ serving (ready qs (headAt S h) .request) (actionOf S (ready qs (headAt S h)))
 unfolding happened
 happened-served qs S h t = rw t refl
 

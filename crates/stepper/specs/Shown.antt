@@ -55,7 +55,7 @@ shown qs S lent =
 
 abbrev pub doneOf : Happening → Done
 doneOf idle = record { idle = true; failed = false; linked = false }
-doneOf (serving q e) = record { idle = false; failed = e .failed; linked = e .linked }
+doneOf (serving q act) = record { idle = false; failed = act .event .failed; linked = act .event .linked }
 
 -- The buffers b show the state S, reached with the history `past`, and the next grant is the one of that number.
 pub record Standing (qs : List Request) (n count : ℕ) (b : Buffers) (number : ℕ) (S : State) (past : List Happening) (lent : List ℕ) : Type 0 where

@@ -4,12 +4,16 @@ use peer::player::{Player, PEER};
 
 mod cases;
 mod damage;
+mod document;
 mod edges;
 mod enquiry;
 #[cfg(feature = "core")]
 mod listed;
 mod plain;
+mod promises;
 mod random;
+#[cfg(all(feature = "core", target_arch = "x86_64"))]
+mod stack;
 mod writer;
 mod wrong_turns;
 
