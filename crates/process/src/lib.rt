@@ -8,7 +8,7 @@ use job::Kind;
 use job::Request;
 use word::Node;
 ghost use mathlib.Core.Path.{_≡_};
-ghost use Rattle.process.specs.Process.{begin, isResting, restart};
+ghost use Rattle.process.specs.Process.{begin, isResting, firstErrand};
 
 // A find by halving, on a node that it is given: the word that it touches next. The numbers are the rank and the parent t
 // of the word first read, and t's parent u.
@@ -87,12 +87,12 @@ pub struct Advanced {
 pub const NO_WAIT: u16 = 0;
 
 // A request starts, and tries again, with the find from x.
-fn restarted(kind: Kind) -> Stage
-    ensures { λ r. ⌜ r ≡ restart kind ⌝ }
+fn first_errand(kind: Kind) -> Errand
+    ensures { λ r. ⌜ r ≡ firstErrand kind ⌝ }
 {
     match kind {
-        Kind::Union => Stage::Find(Errand::UnionX, Step::ReadNode),
-        Kind::SameSet => Stage::Find(Errand::SameX, Step::ReadNode),
+        Kind::Union => Errand::UnionX,
+        Kind::SameSet => Errand::SameX,
     }
 }
 
@@ -102,7 +102,7 @@ pub fn begun(request: Request, number: u16) -> Head
 {
     let kind = request.kind;
     Head {
-        stage: restarted(kind),
+        stage: Stage::Find(first_errand(kind), Step::ReadNode),
         task: Task {
             x: request.x,
             y: request.y,

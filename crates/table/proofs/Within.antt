@@ -1,20 +1,27 @@
 -- What a head knows keeps its access inside the table.
-use Prim.Native.Nat.{ℕ}
+use Prim.Native.Nat.{ℕ, _<_}
 use Rattle.job.specs.declared.Request.{Request}
+use Rattle.process.specs.declared.Step.{Step}
+use Rattle.process.specs.declared.Step.the-variants.{ReadNode, ReadParent, Halve, ReadAgain}
 use Rattle.process.specs.declared.Stage.{Stage}
-use Rattle.process.specs.declared.Stage.the-variants.{Resting, ReadNode, ReadParent, Halve, ReadAgain, RereadX, ReadRankX, ReadRankY, Link, Raise}
-use Rattle.process.specs.declared.Head.{Head}
+use Rattle.process.specs.declared.Stage.the-variants.{Resting, Find, RereadX, ReadRankX, ReadRankY, Link, Raise}
+use Rattle.process.specs.declared.Task.{Task}
+use Rattle.process.specs.Find.{findAccess}
 use Rattle.process.specs.Access.{accessAt}
-use Rattle.rules.proofs.Stages.{Knows, side-node}
+use Rattle.rules.proofs.Finds.{FindKnows}
+use Rattle.rules.proofs.Stages.{Knows, find-node}
 use Rattle.table.specs.Touch.{Within}
 
-module _ (n : ℕ) (p r B : ℕ → ℕ) (Apart : ℕ → Type 0) (now : ℕ) (q : Request) (h : Head) where
-  pub access-within : (stage : Stage) → Knows n p r B Apart now q h stage → Within n (accessAt h stage)
+pub find-within : (n : ℕ) (p r B : ℕ → ℕ) (v : ℕ) → v < n → (s : Step) → FindKnows n p r B v s → Within n (findAccess v s)
+find-within n p r B v node ReadNode a = node
+find-within n p r B v node (ReadParent rank t) a = a .parent .node
+find-within n p r B v node (Halve rank t u) a = node
+find-within n p r B v node (ReadAgain t) a = a .node
+
+module _ (n : ℕ) (p r B : ℕ → ℕ) (Apart : ℕ → Type 0) (now : ℕ) (q : Request) (k : Task) where
+  pub access-within : (stage : Stage) → Knows n p r B Apart now q k stage → Within n (accessAt k stage)
   access-within Resting a = a
-  access-within (ReadNode k s) a = side-node h a s
-  access-within (ReadParent k s rank t) a = a .parent .node
-  access-within (Halve k s rank t u) a = side-node h (a .finding) s
-  access-within (ReadAgain k s t) a = a .parent .node
+  access-within (Find e s) a = find-within n p r B _ (find-node k (a .finding) e) s (a .find)
   access-within (RereadX point) a = a .finding .left
   access-within ReadRankX a = a .finding .left
   access-within (ReadRankY rank) a = a .finding .right

@@ -1,13 +1,13 @@
--- `process::begun`: the request's two places, and the stage that its kind starts with.
+-- `process::begun`: the request's two places, and the find that its kind starts with.
 use borrow.Author.Needs.{needs}
 use Rattle.process.proofs.begun.Statement.{statement}
 use Rattle.process.proofs.begun.Tie as tie
 
-restarted-requires : tie.Need-restarted-requires
-restarted-requires c κs = search needs
+first-errand-requires : tie.Need-first-errand-requires
+first-errand-requires c κs = search needs
 
 returns : tie.Need-returns
-returns c = rw (c .restarted .ensures)
+returns c = rw (c .first-errand .ensures)
 
 pub begun-spec : {M : Type 1} → statement M
-begun-spec = tie.close (tie.spec restarted-requires returns)
+begun-spec = tie.close (tie.spec first-errand-requires returns)
