@@ -42,11 +42,13 @@ use Rattle.player.proofs.Parts.{whole-left, cut-left, whole-startable}
 use Rattle.player.proofs.Demand.{linearized-here}
 use Rattle.jobfile.proofs.RoundTrip.{admitted-meaning}
 use Rattle.lent.specs.declared.Plan.{Plan}
-use Rattle.lent.specs.Lent.{refusedPlan, acceptedPlan, cutLaidOf, Prepared, preparedOf, openedOf, TurnableOn, TurnedOn, TurnsOn, closedOf, tallyLeft}
+use Rattle.lent.specs.Lent.{refusedPlan, acceptedPlan, cutLaidOf, Prepared, preparedOf, openedOf, TurnableOn, TurnedOn, TurnsOn}
+use Rattle.lent.specs.Lent.{closedOf, tallyLeft}
 
 -- ---- one turn on the lent buffers
 
-pub turned-on : {file : List ℕ} {counts : Checked} {p p′ : Progress} {linearization linearization′ lent : List ℕ} (table report part rows : List ℕ)
+pub turned-on : {file : List ℕ} {counts : Checked} {p p′ : Progress} {linearization linearization′ lent : List ℕ}
+    (table report part rows : List ℕ)
     → TurnableOn file counts p table report linearization
     → length part ≡ length (take (counts .nodes) table) → length rows ≡ length (take (4 * counts .requests) report)
     → Turned file p p′ (buffersOf p′ part rows linearization′) lent

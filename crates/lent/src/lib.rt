@@ -20,10 +20,11 @@ ghost use lib.ListN.{length};
 ghost use Rattle.jobfile.specs.Meaning.{meaning};
 ghost use Rattle.jobfile.specs.Admitted.{Bytes};
 ghost use Rattle.turns.specs.Turns.{Roomy, countedOf, buffersOf};
-ghost use Rattle.player.specs.Player.{Checks, playedOf};
+ghost use Rattle.player.specs.Player.{left, Checks, playedOf};
 ghost use Rattle.player.specs.Player.{Roomy as RoomyFor};
 ghost use Rattle.player.specs.Demand.{LinearizedHere};
-ghost use Rattle.lent.specs.Lent.{planOf, refusedPlan, laidOf, cutLaidOf, preparedOf, openedOf, TurnableOn, TurnsOn, closedOf, tallyLeft};
+ghost use Rattle.lent.specs.Lent.{planOf, refusedPlan, laidOf, cutLaidOf, preparedOf, openedOf};
+ghost use Rattle.lent.specs.Lent.{TurnableOn, TurnsOn, closedOf, tallyLeft};
 
 // What is known before the first grant: the counts of the job or a refusal's number, and what the play carries.
 pub struct Plan {
@@ -178,7 +179,7 @@ pub extern "C" fn grouping_play_lent(
     linearization: &mut [u32],
     tally: &mut Tally,
 ) -> Played
-    ensures exact { λ r. ⌜ record { table = now (table .exit); report = now (report .exit); linearization = now (linearization .exit); result = r }
+    ensures exact { λ r. ⌜ left (now (table .exit)) (now (report .exit)) (now (linearization .exit)) r
         ≡ playedOf (now (file .entry)) (now (table .entry)) (now (report .entry)) (now (linearization .entry)) ⌝ }
     ensures counted { λ r. ⌜ now (tally .exit)
         ≡ tallyLeft (now (file .entry)) (now (table .entry)) (now (report .entry)) (now (linearization .entry)) (now (tally .entry)) ⌝ }

@@ -46,7 +46,8 @@ module _ {file : List ℕ} {checked : Checked} {n rows : ℕ} (lent : List ℕ) 
       }
     where
       shows : buffers heads table report lent 0 mask
-          ≡ buffers (headsFrom (requestsIn file) 0 16) (map encode (fresh (meaning file .job .nodes))) (replicate (4 * length (requestsIn file)) 0) lent 0
+          ≡ buffers (headsFrom (requestsIn file) 0 16) (map encode (fresh (meaning file .job .nodes)))
+          (replicate (4 * length (requestsIn file)) 0) lent 0
           (maskOf (map (workFlag (length (requestsIn file))) (headsFrom (requestsIn file) 0 16)))
       shows = λ i. record {
         heads = is-heads i;

@@ -30,7 +30,7 @@ use Rattle.jobfile.specs.Meaning.{meaning}
 use Rattle.mask.proofs.Laws.{flag-of, left-least}
 use Rattle.rules.specs.Table.{seen, touched}
 use Rattle.rules.specs.Report.{charge, noRow, isFinal}
-use Rattle.rules.specs.State.{State, noRequest, requestAt, seek, resting, hasWork}
+use Rattle.rules.specs.State.{State, seek, resting, hasWork}
 use Rattle.rules.specs.Step.{ready, headAt, advanced, settled, served, passed, step}
 use Rattle.rules.specs.Run.{Happening, happened}
 use Rattle.rules.specs.Run.Happening.{idle}
@@ -82,7 +82,8 @@ module _ {qs : List Request} {n : ℕ} {S : State} {past : List Happening} (inv 
 
 -- ---- what an accepted file says
 
-pub next-small : {file : List ℕ} {requests : ℕ} → Playing file requests → (h from : ℕ) → from ≤ requests → seek (requestsIn file) h from < 65536
+pub next-small : {file : List ℕ} {requests : ℕ} → Playing file requests → (h from : ℕ) → from ≤ requests
+    → seek (requestsIn file) h from < 65536
 next-small {file} playing h from l =
     omega (arith, seek-bound (requestsIn file) h from (omega (arith, playing .count)), playing-admitted playing .few-requests)
 
@@ -112,7 +113,8 @@ module _ {file : List ℕ} {requests h number : ℕ} {b : Buffers} (playing : Pl
 
   -- the mask tells whether the head has work left
   pub work-shown : eqb (b .mask / 2 ^ h % 2) 1 ≡ hasWork qs (headAt S h)
-  work-shown = ap (λ c. eqb (c .mask / 2 ^ h % 2) 1) (here .shows) ∙ flag-of (hasWork qs) (resting 0) (S .heads) h (omega (arith, here .heads))
+  work-shown =
+      ap (λ c. eqb (c .mask / 2 ^ h % 2) 1) (here .shows) ∙ flag-of (hasWork qs) (resting 0) (S .heads) h (omega (arith, here .heads))
 
   -- an idle grant leaves the buffers
   pub idle-shown : eqb (b .mask / 2 ^ h % 2) 1 ≡ false → b ≡ shown qs (step qs S h) lent
@@ -126,17 +128,26 @@ module _ {file : List ℕ} {requests h number : ℕ} {b : Buffers} (playing : Pl
     work = sym work-shown ∙ bit
 
     in-service : Serving qs (meaning file .job .nodes) apart S past h (ready qs (headAt S h))
-    in-service = serving-ready (playing-inside playing) (here .invariant) h (omega (arith, here .heads)) (ltb-true (headAt S h .request) (length qs) work)
+    in-service =
+        serving-ready (playing-inside playing) (here .invariant) h (omega (arith, here .heads))
+        (ltb-true (headAt S h .request) (length qs) work)
 
     pub next-within : getD (b .heads) h (resting 0) .request < requests
     next-within =
-        omega (arith, ap (λ c. getD (c .heads) h (resting 0) .request) (here .shows), ltb-true (headAt S h .request) (length qs) work, playing .count)
+        omega (
+          arith,
+          ap (λ c. getD (c .heads) h (resting 0) .request) (here .shows),
+          ltb-true (headAt S h .request) (length qs) work,
+          playing .count,
+        )
 
     pub mask-least : 2 ^ h ≤ b .mask
-    mask-least = omega (arith, ap (λ c. c .mask) (here .shows), left-least (hasWork qs) (resting 0) (S .heads) h (omega (arith, here .heads)) work)
+    mask-least =
+        omega (arith, ap (λ c. c .mask) (here .shows), left-least (hasWork qs) (resting 0) (S .heads) h (omega (arith, here .heads)) work)
 
     pub entries-small : b .entries < 4294967295
-    entries-small = omega (arith, ap (λ c. c .entries) (here .shows), invariant-few (here .invariant), playing-admitted playing .few-requests)
+    entries-small =
+        omega (arith, ap (λ c. c .entries) (here .shows), invariant-few (here .invariant), playing-admitted playing .few-requests)
 
     module _ (head : Head) (is-head : head ≡ ready qs (getD (b .heads) h (resting 0))) where
       to-head : head ≡ ready qs (headAt S h)
@@ -146,13 +157,15 @@ module _ {file : List ℕ} {requests h number : ℕ} {b : Buffers} (playing : Pl
       raisable = subst (λ k. Raisable (k .stage)) (sym to-head) (head-raisable here h present in-service)
 
       pub touchable-here : (a : Access) → a ≡ accessOf head → Touchable (map decode (b .table)) a
-      touchable-here a e = subst (Touchable (map decode (b .table))) (sym (e ∙ ap accessOf to-head)) (head-touchable here h present in-service)
+      touchable-here a e =
+          subst (Touchable (map decode (b .table))) (sym (e ∙ ap accessOf to-head)) (head-touchable here h present in-service)
 
       pub request-within : head .request < length qs
       request-within = omega (arith, ap (λ k. k .request) to-head, in-service .within)
 
       pub charge-room : 4 * head .request + 4 ≤ length (b .report)
-      charge-room = omega (arith, ap (λ c. length (c .report)) (here .shows), length-rows (S .report), here .invariant .reports, request-within)
+      charge-room =
+          omega (arith, ap (λ c. length (c .report)) (here .shows), length-rows (S .report), here .invariant .reports, request-within)
 
       pub charge-used : number < 4294967296 → rowIn (b .report) (4 * head .request) .used < 4294967295
       charge-used small =
@@ -214,7 +227,9 @@ module _ {file : List ℕ} {requests h number : ℕ} {b : Buffers} (playing : Pl
 
         pub serve-done : (done : Done) → done ≡ record { idle = false; failed = moved .event .failed; linked = moved .event .linked } → done ≡ doneOf (happened qs S h)
         serve-done done is =
-            is ∙ ap (λ m. record { idle = false; failed = m .event .failed; linked = m .event .linked }) (to-moved ∙ moved-here here h present in-service)
+            is
+            ∙ ap (λ m. record { idle = false; failed = m .event .failed; linked = m .event .linked })
+            (to-moved ∙ moved-here here h present in-service)
             ∙ ap doneOf (sym (happened-served qs S h work))
 
 -- ---- what the parts of a ready grant ask

@@ -5,8 +5,8 @@
 -- Main laws: cut-granted, the grants of a cut are for heads; after-next, one grant more of a schedule is the rules' step;
 -- after-invariant, the invariant after any grants for heads; playing-admitted and playing-inside, what an accepted file says;
 -- reached, the buffers that stand show a state with the invariant.
-use mathlib.Core.Path.{_≡_, refl, sym, ap, _∙_, subst}
-use mathlib.Core.List.{List, [], _∷_, _++_, List·Memᴰ, List·Memᴰ·head, List·Memᴰ·tail, Memᴰ·append-left}
+use mathlib.Core.Path.{_≡_, ap, _∙_, subst}
+use mathlib.Core.List.{List, [], _∷_, List·Memᴰ, List·Memᴰ·head, List·Memᴰ·tail, Memᴰ·append-left}
 use Prim.Native.Nat.{ℕ, suc, _+_, _*_, _≤_, _<_}
 use native.Mathlib.Omega.{arith}
 use lib.ListN.{length, getD, take, drop, take-append-drop}

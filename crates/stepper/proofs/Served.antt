@@ -57,7 +57,8 @@ invariant-worded {n = n} inv =
     }
 
 module _ {qs : List Request} {n : ℕ} {b : Buffers} {number : ℕ} {S : State} {past : List Happening} {lent : List ℕ}
-    (here : Reached qs n b number S past lent) (h : ℕ) (present : h < 16) (in-service : Serving qs n apart S past h (ready qs (headAt S h))) where
+    (here : Reached qs n b number S past lent) (h : ℕ) (present : h < 16)
+    (in-service : Serving qs n apart S past h (ready qs (headAt S h))) where
   abbrev head : Head
   head = ready qs (headAt S h)
 
@@ -77,7 +78,8 @@ module _ {qs : List Request} {n : ℕ} {b : Buffers} {number : ℕ} {S : State} 
 
   pub head-touchable : Touchable (map decode (b .table)) (accessOf head)
   head-touchable =
-      subst (λ t. Touchable t (accessOf head)) (sym nodes-shown) (record { node = access-here; worded = invariant-worded (here .invariant) })
+      subst (λ t. Touchable t (accessOf head)) (sym nodes-shown)
+      (record { node = access-here; worded = invariant-worded (here .invariant) })
 
   pub head-raisable : Raisable (head .stage)
   head-raisable =
@@ -88,7 +90,9 @@ module _ {qs : List Request} {n : ℕ} {b : Buffers} {number : ℕ} {S : State} 
   moved-here = ap₂ (λ t g. advanceOf head (seen t (accessOf head)) g) nodes-shown (here .next)
 
   pub row-here : rowIn (b .report) (4 * head .request) ≡ getD (S .report) (head .request) noRow
-  row-here = ap (λ c. rowIn (c .report) (4 * head .request)) (here .shows) ∙ row-shown (S .report) (head .request) (omega (arith, in-service .within, here .invariant .reports))
+  row-here =
+      ap (λ c. rowIn (c .report) (4 * head .request)) (here .shows)
+      ∙ row-shown (S .report) (head .request) (omega (arith, in-service .within, here .invariant .reports))
 
   -- what each part of the grant left
   module _ (moved : Advanced) (table′ report′ linearization′ : List ℕ) (entries′ mask′ : ℕ) (next : Head)
@@ -110,15 +114,19 @@ module _ {qs : List Request} {n : ℕ} {b : Buffers} {number : ℕ} {S : State} 
 
     report-shown : report′ ≡ flatRows (set (S .report) (head .request) (charge (getD (S .report) (head .request) noRow) (suc (S .now)) (advanced S head .event .answer)))
     report-shown =
-        let row : charge (rowIn (b .report) (4 * head .request)) number (moved .event .answer) ≡ charge (getD (S .report) (head .request) noRow) (suc (S .now)) (advanced S head .event .answer) =
-        ap₂ (λ r g. charge r g (moved .event .answer)) row-here (here .next) ∙ ap (λ m. charge (getD (S .report) (head .request) noRow) (suc (S .now)) (m .event .answer)) to-advanced in
+        let old = getD (S .report) (head .request) noRow in
+        let new = charge old (suc (S .now)) (advanced S head .event .answer) in
+        let row : charge (rowIn (b .report) (4 * head .request)) number (moved .event .answer) ≡ new =
+        ap₂ (λ r g. charge r g (moved .event .answer)) row-here (here .next)
+        ∙ ap (λ m. charge old (suc (S .now)) (m .event .answer)) to-advanced in
         is-report ∙ ap₂ (λ c r. stored (c .report) (4 * head .request) r) (here .shows) row
-        ∙ stored-shown (S .report) (head .request) (charge (getD (S .report) (head .request) noRow) (suc (S .now)) (advanced S head .event .answer)) (omega (arith, in-service .within, here .invariant .reports))
+        ∙ stored-shown (S .report) (head .request) new (omega (arith, in-service .within, here .invariant .reports))
 
     linearization-shown : linearization′ ≡ flat (entered (S .entries) (head .request) (advanced S head .event)) ++ drop (2 * length (entered (S .entries) (head .request) (advanced S head .event))) lent
     linearization-shown =
         is-linearization
-        ∙ ap₂ (λ m c. cond (eqb (m .event .point) 0) (c .linearization) (inserted (c .linearization) (c .entries) (m .event .point) (head .request))) to-advanced (here .shows)
+        ∙ ap₂ (λ m c. cond (eqb (m .event .point) 0) (c .linearization)
+        (inserted (c .linearization) (c .entries) (m .event .point) (head .request))) to-advanced (here .shows)
         ∙ entered-shown (S .entries) (head .request) (advanced S head .event) lent
 
     entries-shown : entries′ ≡ length (entered (S .entries) (head .request) (advanced S head .event))

@@ -5,8 +5,8 @@
 -- Main laws: going-start, going-next and going-end; standing-table, standing-report and standing-linearization, the buffers
 -- keep their lengths.
 use mathlib.Core.Path.{_≡_, sym, ap, ap₂, _∙_, subst}
-use mathlib.Core.List.{List, [], map}
-use Prim.Native.Nat.{ℕ, suc, _+_, _*_, _≤_, _<_}
+use mathlib.Core.List.{List, map}
+use Prim.Native.Nat.{ℕ, _+_, _*_, _≤_, _<_}
 use native.Mathlib.Omega.{arith}
 use lib.ListN.{length, getD, take, drop, length-append, length-drop, length-map}
 use lib.Seq.{length-take-le, take-all}
@@ -22,14 +22,14 @@ use Rattle.jobfile.specs.Meaning.{meaning}
 use Rattle.jobfile.proofs.Runs.{granted-longest}
 use Rattle.rules.specs.State.{State, hasWork, tallyOf}
 use Rattle.rules.specs.Step.{step}
-use Rattle.rules.specs.Run.{happened}
-use Rattle.stepper.specs.Shown.{Buffers, doneOf, startOf, stateAfter, requestsIn, Playing, Standing}
+use Rattle.stepper.specs.Shown.{Buffers, startOf, stateAfter, requestsIn, Playing, Standing}
 use Rattle.stepper.proofs.Lists.{length-rows}
 use Rattle.stepper.proofs.Needs.{invariant-few}
 use Rattle.stepper.proofs.Reached.{cut-granted, after-next, playing-admitted, reached}
 use Rattle.turns.specs.declared.Progress.{Progress}
 use Rattle.turns.specs.declared.Ended.{Ended}
-use Rattle.turns.specs.Turns.{runsIn, scheduleIn, stateAt, remaining, countedOf, buffersOf, StandingAt, Turnable, Turned, firstProgress, firstTally, runOf, endAt, endOf, Startable}
+use Rattle.turns.specs.Turns.{runsIn, scheduleIn, stateAt, remaining, countedOf, buffersOf, StandingAt, Turnable, Turned}
+use Rattle.turns.specs.Turns.{firstProgress, firstTally, runOf, endAt, endOf, Startable}
 use Rattle.turns.proofs.Counters.{working-ones, counted-step, Small, counted-small}
 
 pub record Going (file : List ℕ) (requests : ℕ) (lent : List ℕ) (p : Progress) (tally : Tally) (table report linearization : List ℕ) : Type 0 where
@@ -115,7 +115,8 @@ module _ {file : List ℕ} {requests : ℕ} {lent : List ℕ} {p : Progress} {ta
         (counted : tally′ ≡ countedOf tally (p′ .done) (p′ .mask)) where
       standing-after : StandingAt file p′ (buffersOf p′ table′ report′ linearization′) lent
       standing-after =
-          subst (λ k. Standing (meaning file .job) (buffersOf p′ table′ report′ linearization′) (k + 1) (take k schedule) lent) (sym (turned .number))
+          subst (λ k. Standing (meaning file .job) (buffersOf p′ table′ report′ linearization′) (k + 1) (take k schedule) lent)
+          (sym (turned .number))
           (record {
             shows = turned .buffers;
             next = omega (arith, length-take-le (p .number + 1) schedule (omega arith));
@@ -148,7 +149,8 @@ module _ {file : List ℕ} {requests : ℕ} {lent : List ℕ} {p : Progress} {ta
   pub going-end : length schedule ≤ p .number → (ended : Ended) → ended ≡ record { entries = p .entries; tally = tally }
       → record { table = table; report = report; linearization = linearization; ended = ended } ≡ endOf (meaning file .job) lent
   going-end all ended is =
-      let last : stateAt file (p .number) ≡ runOf (meaning file .job) = ap (stateAfter (meaning file .job)) (take-all (p .number) schedule all) in
+      let last : stateAt file (p .number) ≡ runOf (meaning file .job) =
+      ap (stateAfter (meaning file .job)) (take-all (p .number) schedule all) in
       (λ i. record {
         table = g .standing .shows i .table;
         report = g .standing .shows i .report;

@@ -5,7 +5,8 @@ use native.Mathlib.Omega.{arith}
 use borrow.Author.Needs.{needs}
 use Rattle.turns.proofs.Runs.{grants-few}
 use Rattle.turns.proofs.Counters.{small-roomy}
-use Rattle.turns.proofs.Going.{Going, standing-table, standing-report, standing-linearization, going-start, going-turnable, going-next, going-end}
+use Rattle.turns.proofs.Going.{Going, standing-table, standing-report, standing-linearization}
+use Rattle.turns.proofs.Going.{going-start, going-turnable, going-next, going-end}
 use Rattle.turns.proofs.play_grants.Statement.{statement}
 use Rattle.turns.proofs.play_grants.Tie as tie
 
@@ -51,7 +52,8 @@ loop-again c =
     let looped = tested .before .before in
     let start = looped .before .before .before .before .before .before .before in
     let g = looped .loop .inv in
-    going-next g (omega (arith, tested .if1 .taken, start .pre .grants)) (turned .turn .result) (c .counted .result) _ _ _ (turned .turn .ensures _ (g .standing)) (c .counted .ensures)
+    going-next g (omega (arith, tested .if1 .taken, start .pre .grants)) (turned .turn .result) (c .counted .result) _ _ _
+    (turned .turn .ensures _ (g .standing)) (c .counted .ensures)
 
 same-length : tie.Need-same-length Inv-loop μ-loop
 same-length c =
