@@ -21,4 +21,4 @@ isRequest requests q = ltb q requests
 
 -- The heads with work left are kept as a bit mask: one flag a head.
 abbrev pub workFlag : ℕ → Head → Bool
-workFlag requests head = isRequest requests (head .request)
+workFlag requests head = isRequest requests (head .task .request)

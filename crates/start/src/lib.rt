@@ -56,32 +56,11 @@ pub fn first_requests(file: &[u8], requests: u32) -> [u16; 16]
     firsts
 }
 
-// Every head's task before its first request.
-pub fn first_tasks(firsts: [u16; 16]) -> [Task; 16] {
-    let first = Task {
-        x: 0,
-        y: 0,
-        request: 0,
-        waits: NO_WAIT,
-    };
-    let mut tasks = [first; 16];
-    let mut h: usize = 0;
-    while h < 16 {
-        tasks[h] = Task {
-            request: firsts[h],
-            ..first
-        };
-        h += 1;
-    }
-    tasks
-}
-
 // Every head resting before its first request. The loop only stores whole heads, so that the compiler cuts the array into
 // pieces of a register's size and a grant copies it fast (docs/DECISIONS.md, "Heads by value, and speed").
 pub fn resting_heads(firsts: [u16; 16]) -> [Head; 16]
     ensures { λ r. ⌜ r ≡ map resting firsts ⌝ }
 {
-    let tasks = first_tasks(firsts);
     let first = Head {
         stage: Stage::Resting,
         task: Task {
@@ -95,7 +74,12 @@ pub fn resting_heads(firsts: [u16; 16]) -> [Head; 16]
     let mut h: usize = 0;
     while h < 16 {
         heads[h] = Head {
-            task: tasks[h],
+            task: Task {
+                x: 0,
+                y: 0,
+                request: firsts[h],
+                waits: NO_WAIT,
+            },
             ..first
         };
         h += 1;

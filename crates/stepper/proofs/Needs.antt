@@ -12,12 +12,11 @@ use lib.Dec.{eqb, ltb}
 use lib.ListN.{length, getD, set, drop, length-drop}
 use borrow.Author.Tests.{ltb-true, ne-eqb}
 use Rattle.job.specs.declared.Request.{Request}
-use Rattle.word.specs.declared.Node.{Node}
 use Rattle.word.specs.Word.{decode, encode}
-use Rattle.process.specs.declared.Access.{Access}
 use Rattle.process.specs.declared.Head.{Head}
 use Rattle.process.specs.declared.Advanced.{Advanced}
-use Rattle.process.specs.Access.{accessOf, Raisable}
+use Rattle.process.specs.Process.{Raisable, queued}
+use Rattle.process.specs.Access.{accessOf}
 use Rattle.process.specs.Advance.{advanceOf}
 use Rattle.linearization.specs.Partition.{apart}
 use Rattle.linearization.specs.Entry.{occurrences, inserted, Insertable}
@@ -88,12 +87,12 @@ next-small {file} playing h from l =
     omega (arith, seek-bound (requestsIn file) h from (omega (arith, playing .count)), playing-admitted playing .few-requests)
 
 -- the head that has finished its request
-pub settled-final : (qs : List Request) (h : ℕ) (moved : Advanced) (next : ℕ) → isFinal (moved .event .answer) ≡ true → next ≡ seek qs h (moved .head .request + 1)
-    → record { stage = moved .head .stage; x = moved .head .x; y = moved .head .y; request = next } ≡ settled qs h moved
+pub settled-final : (qs : List Request) (h : ℕ) (moved : Advanced) (next : ℕ) → isFinal (moved .event .answer) ≡ true
+    → next ≡ seek qs h (moved .head .task .request + 1) → queued (moved .head) next ≡ settled qs h moved
 settled-final qs h moved next t e =
-    let one : moved .head .request + 1 ≡ suc (moved .head .request) = omega arith in
-    ap (λ k. record { stage = moved .head .stage; x = moved .head .x; y = moved .head .y; request = k }) (e ∙ ap (seek qs h) one)
-    ∙ sym (ap (λ b. cond b (record { stage = moved .head .stage; x = moved .head .x; y = moved .head .y; request = seek qs h (suc (moved .head .request)) }) (moved .head)) t)
+    let one : moved .head .task .request + 1 ≡ suc (moved .head .task .request) = omega arith in
+    ap (queued (moved .head)) (e ∙ ap (seek qs h) one)
+    ∙ sym (ap (λ b. cond b (queued (moved .head) (seek qs h (suc (moved .head .task .request)))) (moved .head)) t)
 
 -- ---- a served grant
 
@@ -130,14 +129,14 @@ module _ {file : List ℕ} {requests h number : ℕ} {b : Buffers} (playing : Pl
     in-service : Serving qs (meaning file .job .nodes) apart S past h (ready qs (headAt S h))
     in-service =
         serving-ready (playing-inside playing) (here .invariant) h (omega (arith, here .heads))
-        (ltb-true (headAt S h .request) (length qs) work)
+        (ltb-true (headAt S h .task .request) (length qs) work)
 
-    pub next-within : getD (b .heads) h (resting 0) .request < requests
+    pub next-within : getD (b .heads) h (resting 0) .task .request < requests
     next-within =
         omega (
           arith,
-          ap (λ c. getD (c .heads) h (resting 0) .request) (here .shows),
-          ltb-true (headAt S h .request) (length qs) work,
+          ap (λ c. getD (c .heads) h (resting 0) .task .request) (here .shows),
+          ltb-true (headAt S h .task .request) (length qs) work,
           playing .count,
         )
 
@@ -156,34 +155,31 @@ module _ {file : List ℕ} {requests h number : ℕ} {b : Buffers} (playing : Pl
       pub raisable : Raisable (head .stage)
       raisable = subst (λ k. Raisable (k .stage)) (sym to-head) (head-raisable here h present in-service)
 
-      pub touchable-here : (a : Access) → a ≡ accessOf head → Touchable (map decode (b .table)) a
-      touchable-here a e =
-          subst (Touchable (map decode (b .table))) (sym (e ∙ ap accessOf to-head)) (head-touchable here h present in-service)
+      pub touchable-here : Touchable (map decode (b .table)) (accessOf head)
+      touchable-here = subst (λ k. Touchable (map decode (b .table)) (accessOf k)) (sym to-head) (head-touchable here h present in-service)
 
-      pub request-within : head .request < length qs
-      request-within = omega (arith, ap (λ k. k .request) to-head, in-service .within)
+      pub request-within : head .task .request < length qs
+      request-within = omega (arith, ap (λ k. k .task .request) to-head, in-service .within)
 
-      pub charge-room : 4 * head .request + 4 ≤ length (b .report)
+      pub charge-room : 4 * head .task .request + 4 ≤ length (b .report)
       charge-room =
           omega (arith, ap (λ c. length (c .report)) (here .shows), length-rows (S .report), here .invariant .reports, request-within)
 
-      pub charge-used : number < 4294967296 → rowIn (b .report) (4 * head .request) .used < 4294967295
+      pub charge-used : number < 4294967296 → rowIn (b .report) (4 * head .task .request) .used < 4294967295
       charge-used small =
-          let row : rowIn (b .report) (4 * head .request) .used ≡ getD (S .report) (ready qs (headAt S h) .request) noRow .used =
-          ap (λ k. rowIn (b .report) (4 * k .request) .used) to-head ∙ ap (λ r. r .used) (row-here here h present in-service) in
-          omega (arith, row, used-bound (here .invariant) (ready qs (headAt S h) .request) (in-service .within), here .next)
+          let row : rowIn (b .report) (4 * head .task .request) .used ≡ getD (S .report) (ready qs (headAt S h) .task .request) noRow .used =
+          ap (λ k. rowIn (b .report) (4 * k .task .request) .used) to-head ∙ ap (λ r. r .used) (row-here here h present in-service) in
+          omega (arith, row, used-bound (here .invariant) (ready qs (headAt S h) .task .request) (in-service .within), here .next)
 
-      module _ (a : Access) (is-access : a ≡ accessOf head) (w : Node) (is-seen : w ≡ seen (map decode (b .table)) a)
-          (moved : Advanced) (is-moved : moved ≡ advanceOf head w number) where
+      module _ (moved : Advanced) (is-moved : moved ≡ advanceOf head (seen (map decode (b .table)) (accessOf head)) number) where
         to-moved : moved ≡ advanceOf (ready qs (headAt S h)) (seen (map decode (b .table)) (accessOf (ready qs (headAt S h)))) number
-        to-moved =
-            is-moved ∙ ap (λ v. advanceOf head v number) (is-seen ∙ ap (seen (map decode (b .table))) is-access)
-            ∙ ap (λ k. advanceOf k (seen (map decode (b .table)) (accessOf k)) number) to-head
+        to-moved = is-moved ∙ ap (λ k. advanceOf k (seen (map decode (b .table)) (accessOf k)) number) to-head
 
-        pub moved-within : moved .head .request < requests
+        pub moved-within : moved .head .task .request < requests
         unfolding advanceOf
         moved-within =
-            omega (arith, ap (λ m. m .head .request) is-moved, advance-keeps head w number (head .stage), request-within, playing .count)
+            let w = seen (map decode (b .table)) (accessOf head) in
+            omega (arith, ap (λ m. m .head .task .request) is-moved, advance-keeps (head .task) w number (head .stage), request-within, playing .count)
 
         -- an entry of this grant has room
         entries-after : eqb (moved .event .point) 0 ≡ false → suc (length (S .entries)) ≤ length qs
@@ -191,7 +187,7 @@ module _ {file : List ℕ} {requests h number : ℕ} {b : Buffers} (playing : Pl
             let S′ = served qs S h (ready qs (headAt S h)) in
             let point : eqb (advanced S (ready qs (headAt S h)) .event .point) 0 ≡ false =
             ap (λ m. eqb (m .event .point) 0) (sym (to-moved ∙ moved-here here h present in-service)) ∙ t in
-            let more : length (S′ .entries) ≡ suc (length (S .entries)) = rw point (length-insert (advanced S (ready qs (headAt S h)) .event .point) (ready qs (headAt S h) .request) (S .entries)) in
+            let more : length (S′ .entries) ≡ suc (length (S .entries)) = rw point (length-insert (advanced S (ready qs (headAt S h)) .event .point) (ready qs (headAt S h) .task .request) (S .entries)) in
             omega (
               arith,
               more,
@@ -207,22 +203,22 @@ module _ {file : List ℕ} {requests h number : ℕ} {b : Buffers} (playing : Pl
             (replayed-rising (here .invariant .entries)))
 
         module _ (table′ report′ linearization′ : List ℕ) (entries′ mask′ : ℕ) (next : Head)
-            (is-table : table′ ≡ map encode (touched (map decode (b .table)) a))
-            (is-report : report′ ≡ stored (b .report) (4 * head .request) (charge (rowIn (b .report) (4 * head .request)) number (moved .event .answer)))
-            (is-linearization : linearization′ ≡ cond (eqb (moved .event .point) 0) (b .linearization) (inserted (b .linearization) (b .entries) (moved .event .point) (head .request)))
+            (is-table : table′ ≡ map encode (touched (map decode (b .table)) (accessOf head)))
+            (is-report : report′ ≡ stored (b .report) (4 * head .task .request) (charge (rowIn (b .report) (4 * head .task .request)) number (moved .event .answer)))
+            (is-linearization : linearization′ ≡ cond (eqb (moved .event .point) 0) (b .linearization) (inserted (b .linearization) (b .entries) (moved .event .point) (head .task .request)))
             (is-entries : entries′ ≡ cond (eqb (moved .event .point) 0) (b .entries) (b .entries + 1))
             (is-next : next ≡ settled qs h moved)
-            (is-mask : mask′ ≡ cond (ltb (next .request) requests) (b .mask) (b .mask - 2 ^ h)) where
+            (is-mask : mask′ ≡ cond (ltb (next .task .request) requests) (b .mask) (b .mask - 2 ^ h)) where
           pub serve-shown :
               record { heads = set (b .heads) h next; table = table′; report = report′; linearization = linearization′; entries = entries′; mask = mask′ }
               ≡ shown qs (step qs S h) lent
           serve-shown =
               served-shown here h present in-service moved table′ report′ linearization′ entries′ mask′ next to-moved
-              (is-table ∙ ap (λ v. map encode (touched (map decode (b .table)) v)) (is-access ∙ ap accessOf to-head))
-              (is-report ∙ ap (λ k. stored (b .report) (4 * k .request) (charge (rowIn (b .report) (4 * k .request)) number (moved .event .answer))) to-head)
-              (is-linearization ∙ ap (λ k. cond (eqb (moved .event .point) 0) (b .linearization) (inserted (b .linearization) (b .entries) (moved .event .point) (k .request))) to-head)
+              (is-table ∙ ap (λ k. map encode (touched (map decode (b .table)) (accessOf k))) to-head)
+              (is-report ∙ ap (λ k. stored (b .report) (4 * k .task .request) (charge (rowIn (b .report) (4 * k .task .request)) number (moved .event .answer))) to-head)
+              (is-linearization ∙ ap (λ k. cond (eqb (moved .event .point) 0) (b .linearization) (inserted (b .linearization) (b .entries) (moved .event .point) (k .task .request))) to-head)
               is-entries is-next
-              (is-mask ∙ ap (λ k. cond (ltb (next .request) k) (b .mask) (b .mask - 2 ^ h)) (playing .count))
+              (is-mask ∙ ap (λ k. cond (ltb (next .task .request) k) (b .mask) (b .mask - 2 ^ h)) (playing .count))
               work
 
         pub serve-done : (done : Done) → done ≡ record { idle = false; failed = moved .event .failed; linked = moved .event .linked } → done ≡ doneOf (happened qs S h)
@@ -235,7 +231,7 @@ module _ {file : List ℕ} {requests h number : ℕ} {b : Buffers} (playing : Pl
 -- ---- what the parts of a ready grant ask
 
 module _ {file : List ℕ} {requests h number : ℕ} {b : Buffers} (r : Ready file requests h number b) (bit : eqb (b .mask / 2 ^ h % 2) 1 ≡ true) where
-  pub ready-next : getD (b .heads) h (resting 0) .request < requests
+  pub ready-next : getD (b .heads) h (resting 0) .task .request < requests
   ready-next = next-within (r .playing) (r .head) (r .standing) bit
 
   pub ready-mask : 2 ^ h ≤ b .mask
@@ -248,19 +244,18 @@ module _ {file : List ℕ} {requests h number : ℕ} {b : Buffers} (r : Ready fi
     pub ready-raisable : Raisable (head .stage)
     ready-raisable = raisable (r .playing) (r .head) (r .standing) bit head is-head
 
-    pub ready-touchable : (a : Access) → a ≡ accessOf head → Touchable (map decode (b .table)) a
+    pub ready-touchable : Touchable (map decode (b .table)) (accessOf head)
     ready-touchable = touchable-here (r .playing) (r .head) (r .standing) bit head is-head
 
-    pub ready-room : 4 * head .request + 4 ≤ length (b .report)
+    pub ready-room : 4 * head .task .request + 4 ≤ length (b .report)
     ready-room = charge-room (r .playing) (r .head) (r .standing) bit head is-head
 
-    pub ready-used : number < 4294967296 → rowIn (b .report) (4 * head .request) .used < 4294967295
+    pub ready-used : number < 4294967296 → rowIn (b .report) (4 * head .task .request) .used < 4294967295
     ready-used = charge-used (r .playing) (r .head) (r .standing) bit head is-head
 
-    module _ (a : Access) (is-access : a ≡ accessOf head) (w : Node) (is-seen : w ≡ seen (map decode (b .table)) a)
-        (moved : Advanced) (is-moved : moved ≡ advanceOf head w number) where
+    module _ (moved : Advanced) (is-moved : moved ≡ advanceOf head (seen (map decode (b .table)) (accessOf head)) number) where
       pub ready-insertable : moved .event .point ≢ 0 → Insertable (b .linearization) (b .entries)
-      ready-insertable = insertable (r .playing) (r .head) (r .standing) bit head is-head a is-access w is-seen moved is-moved
+      ready-insertable = insertable (r .playing) (r .head) (r .standing) bit head is-head moved is-moved
 
-      pub ready-moved : moved .head .request < requests
-      ready-moved = moved-within (r .playing) (r .head) (r .standing) bit head is-head a is-access w is-seen moved is-moved
+      pub ready-moved : moved .head .task .request < requests
+      ready-moved = moved-within (r .playing) (r .head) (r .standing) bit head is-head moved is-moved

@@ -12,7 +12,8 @@ use Rattle.job.specs.declared.Request.{Request}
 use Rattle.word.specs.Word.{decode, encode}
 use Rattle.process.specs.declared.Head.{Head}
 use Rattle.process.specs.declared.Advanced.{Advanced}
-use Rattle.process.specs.Access.{accessOf, Raisable}
+use Rattle.process.specs.Process.{Raisable}
+use Rattle.process.specs.Access.{accessOf}
 use Rattle.process.specs.Advance.{advanceOf}
 use Rattle.forest.proofs.Sound.{rank-limit}
 use Rattle.linearization.specs.Partition.{apart}
@@ -44,7 +45,7 @@ unfolding step
 step-served qs S h t = rw t refl
 
 pub happened-served : (qs : List Request) (S : State) (h : ℕ) → hasWork qs (headAt S h) ≡ true
-    → happened qs S h ≡ serving (ready qs (headAt S h) .request) (actionOf S (ready qs (headAt S h)))
+    → happened qs S h ≡ serving (ready qs (headAt S h) .task .request) (actionOf S (ready qs (headAt S h)))
 unfolding happened
 happened-served qs S h t = rw t refl
 
@@ -66,7 +67,7 @@ module _ {qs : List Request} {n : ℕ} {b : Buffers} {number : ℕ} {S : State} 
   unfolding accessOf
   access-here =
       subst (λ k. Within k (accessOf head)) (sym (here .invariant .nodes))
-      (access-within n (parent (S .table)) (rank (S .table)) (labels qs apart S) (ApartAt qs apart (S .entries) (head .request)) (S .now) _ head (head .stage) (in-service .knows))
+      (access-within n (parent (S .table)) (rank (S .table)) (labels qs apart S) (ApartAt qs apart (S .entries) (head .task .request)) (S .now) _ (head .task) (head .stage) (in-service .knows))
 
   -- the head is as the rules have it
   pub head-shown : ready qs (getD (b .heads) h (resting 0)) ≡ head
@@ -83,26 +84,26 @@ module _ {qs : List Request} {n : ℕ} {b : Buffers} {number : ℕ} {S : State} 
 
   pub head-raisable : Raisable (head .stage)
   head-raisable =
-      stage-raisable n (parent (S .table)) (rank (S .table)) (labels qs apart S) (ApartAt qs apart (S .entries) (head .request)) (S .now) _ head
+      stage-raisable n (parent (S .table)) (rank (S .table)) (labels qs apart S) (ApartAt qs apart (S .entries) (head .task .request)) (S .now) _ (head .task)
       (here .invariant .sound .formed .limit) (head .stage) (in-service .knows)
 
   pub moved-here : advanceOf head (seen (map decode (b .table)) (accessOf head)) number ≡ advanced S head
   moved-here = ap₂ (λ t g. advanceOf head (seen t (accessOf head)) g) nodes-shown (here .next)
 
-  pub row-here : rowIn (b .report) (4 * head .request) ≡ getD (S .report) (head .request) noRow
+  pub row-here : rowIn (b .report) (4 * head .task .request) ≡ getD (S .report) (head .task .request) noRow
   row-here =
-      ap (λ c. rowIn (c .report) (4 * head .request)) (here .shows)
-      ∙ row-shown (S .report) (head .request) (omega (arith, in-service .within, here .invariant .reports))
+      ap (λ c. rowIn (c .report) (4 * head .task .request)) (here .shows)
+      ∙ row-shown (S .report) (head .task .request) (omega (arith, in-service .within, here .invariant .reports))
 
   -- what each part of the grant left
   module _ (moved : Advanced) (table′ report′ linearization′ : List ℕ) (entries′ mask′ : ℕ) (next : Head)
       (is-moved : moved ≡ advanceOf head (seen (map decode (b .table)) (accessOf head)) number)
       (is-table : table′ ≡ map encode (touched (map decode (b .table)) (accessOf head)))
-      (is-report : report′ ≡ stored (b .report) (4 * head .request) (charge (rowIn (b .report) (4 * head .request)) number (moved .event .answer)))
-      (is-linearization : linearization′ ≡ cond (eqb (moved .event .point) 0) (b .linearization) (inserted (b .linearization) (b .entries) (moved .event .point) (head .request)))
+      (is-report : report′ ≡ stored (b .report) (4 * head .task .request) (charge (rowIn (b .report) (4 * head .task .request)) number (moved .event .answer)))
+      (is-linearization : linearization′ ≡ cond (eqb (moved .event .point) 0) (b .linearization) (inserted (b .linearization) (b .entries) (moved .event .point) (head .task .request)))
       (is-entries : entries′ ≡ cond (eqb (moved .event .point) 0) (b .entries) (b .entries + 1))
       (is-next : next ≡ settled qs h moved)
-      (is-mask : mask′ ≡ cond (ltb (next .request) (length qs)) (b .mask) (b .mask - 2 ^ h)) where
+      (is-mask : mask′ ≡ cond (ltb (next .task .request) (length qs)) (b .mask) (b .mask - 2 ^ h)) where
     to-advanced : moved ≡ advanced S head
     to-advanced = is-moved ∙ moved-here
 
@@ -112,32 +113,32 @@ module _ {qs : List Request} {n : ℕ} {b : Buffers} {number : ℕ} {S : State} 
     table-shown : table′ ≡ map encode (touched (S .table) (accessOf head))
     table-shown = is-table ∙ ap (λ t. map encode (touched t (accessOf head))) nodes-shown
 
-    report-shown : report′ ≡ flatRows (set (S .report) (head .request) (charge (getD (S .report) (head .request) noRow) (suc (S .now)) (advanced S head .event .answer)))
+    report-shown : report′ ≡ flatRows (set (S .report) (head .task .request) (charge (getD (S .report) (head .task .request) noRow) (suc (S .now)) (advanced S head .event .answer)))
     report-shown =
-        let old = getD (S .report) (head .request) noRow in
+        let old = getD (S .report) (head .task .request) noRow in
         let new = charge old (suc (S .now)) (advanced S head .event .answer) in
-        let row : charge (rowIn (b .report) (4 * head .request)) number (moved .event .answer) ≡ new =
+        let row : charge (rowIn (b .report) (4 * head .task .request)) number (moved .event .answer) ≡ new =
         ap₂ (λ r g. charge r g (moved .event .answer)) row-here (here .next)
         ∙ ap (λ m. charge old (suc (S .now)) (m .event .answer)) to-advanced in
-        is-report ∙ ap₂ (λ c r. stored (c .report) (4 * head .request) r) (here .shows) row
-        ∙ stored-shown (S .report) (head .request) new (omega (arith, in-service .within, here .invariant .reports))
+        is-report ∙ ap₂ (λ c r. stored (c .report) (4 * head .task .request) r) (here .shows) row
+        ∙ stored-shown (S .report) (head .task .request) new (omega (arith, in-service .within, here .invariant .reports))
 
-    linearization-shown : linearization′ ≡ flat (entered (S .entries) (head .request) (advanced S head .event)) ++ drop (2 * length (entered (S .entries) (head .request) (advanced S head .event))) lent
+    linearization-shown : linearization′ ≡ flat (entered (S .entries) (head .task .request) (advanced S head .event)) ++ drop (2 * length (entered (S .entries) (head .task .request) (advanced S head .event))) lent
     linearization-shown =
         is-linearization
         ∙ ap₂ (λ m c. cond (eqb (m .event .point) 0) (c .linearization)
-        (inserted (c .linearization) (c .entries) (m .event .point) (head .request))) to-advanced (here .shows)
-        ∙ entered-shown (S .entries) (head .request) (advanced S head .event) lent
+        (inserted (c .linearization) (c .entries) (m .event .point) (head .task .request))) to-advanced (here .shows)
+        ∙ entered-shown (S .entries) (head .task .request) (advanced S head .event) lent
 
-    entries-shown : entries′ ≡ length (entered (S .entries) (head .request) (advanced S head .event))
+    entries-shown : entries′ ≡ length (entered (S .entries) (head .task .request) (advanced S head .event))
     entries-shown =
         is-entries ∙ ap₂ (λ m c. cond (eqb (m .event .point) 0) (c .entries) (c .entries + 1)) to-advanced (here .shows)
-        ∙ count-shown (S .entries) (head .request) (advanced S head .event)
+        ∙ count-shown (S .entries) (head .task .request) (advanced S head .event)
 
     -- the head had work left: its bit stays, or is cleared
     mask-shown : hasWork qs (headAt S h) ≡ true → mask′ ≡ maskOf (map (hasWork qs) (set (S .heads) h (settled qs h (advanced S head))))
     mask-shown work =
-        is-mask ∙ ap₂ (λ k c. cond (ltb (k .request) (length qs)) (c .mask) (c .mask - 2 ^ h)) to-next (here .shows)
+        is-mask ∙ ap₂ (λ k c. cond (ltb (k .task .request) (length qs)) (c .mask) (c .mask - 2 ^ h)) to-next (here .shows)
         ∙ split (hasWork qs (settled qs h (advanced S head)))
         (λ t. rw t (sym (mask-kept (hasWork qs) (resting 0) (S .heads) h (settled qs h (advanced S head)) (t ∙ sym work))))
         (λ t. rw t (mask-left (hasWork qs) (resting 0) (S .heads) h (omega (arith, here .heads)) work (settled qs h (advanced S head)) t))

@@ -67,9 +67,9 @@ fn serve(
     let answer = event.answer;
     let next = settled_head(file, requests, h, moved);
     heads[at] = next;
-    let request = head.task.request;
-    charge_row(report, request, number, answer);
-    let listed = enter(linearization, entries, event.point, request as u32);
+    let task = head.task;
+    charge_row(report, task.request, number, answer);
+    let listed = enter(linearization, entries, event.point, task.request as u32);
     Granted {
         heads,
         entries: listed,

@@ -19,7 +19,7 @@ begun-requires c κs = search needs
 
 returns : tie.Need-returns
 returns c =
-    let t = sym (c .before .before .before .before .is-resting .ensures) ∙ c .before .before .before .if1 .taken in
+    let t = sym (c .before .before .before .is-resting .ensures) ∙ c .before .before .if1 .taken in
     c .begun .ensures ∙ simp (t, c .before .request-at .ensures noRequest)
 
 returns-2 : tie.Need-returns-2

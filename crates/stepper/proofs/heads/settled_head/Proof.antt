@@ -22,13 +22,13 @@ next-request-requires c κs = search needs
 
 cast-t13 : tie.Need-cast-t13
 cast-t13 c =
-    let start = c .before .before .before .before .before .before .before in
+    let start = c .before .before .before .before .before .before .before .before in
     let a = start .args in
-    omega (arith, c .next-request .ensures, next-small (start .pre .0) (a .h) (a .moved .head .request + 1) (omega (arith, start .pre .1)))
+    omega (arith, c .next-request .ensures, next-small (start .pre .0) (a .h) (a .moved .head .task .request + 1) (omega (arith, start .pre .1)))
 
 returns : tie.Need-returns
 returns c =
-    let tested = c .before .before in
+    let tested = c .before .before .before in
     let a = tested .before .before .before .before .before .args in
     settled-final (requestsIn (a .file .now)) (a .h) (a .moved) (c .next-request .result)
     (sym (tested .before .is-final .ensures) ∙ tested .if1 .taken) (c .next-request .ensures)
