@@ -56,6 +56,18 @@ pub fn first_requests(file: &[u8], requests: u32) -> [u16; 16]
     firsts
 }
 
+// The task of a head at rest before a request.
+fn resting_task(request: u16) -> Task
+    ensures { λ r. ⌜ r ≡ resting request .task ⌝ }
+{
+    Task {
+        x: 0,
+        y: 0,
+        request,
+        waits: NO_WAIT,
+    }
+}
+
 // Every head resting before its first request. The loop only stores whole heads, so that the compiler cuts the array into
 // pieces of a register's size and a grant copies it fast (docs/DECISIONS.md, "Heads by value, and speed").
 pub fn resting_heads(firsts: [u16; 16]) -> [Head; 16]
@@ -63,23 +75,13 @@ pub fn resting_heads(firsts: [u16; 16]) -> [Head; 16]
 {
     let first = Head {
         stage: Stage::Resting,
-        task: Task {
-            x: 0,
-            y: 0,
-            request: 0,
-            waits: NO_WAIT,
-        },
+        task: resting_task(0),
     };
     let mut heads = [first; 16];
     let mut h: usize = 0;
     while h < 16 {
         heads[h] = Head {
-            task: Task {
-                x: 0,
-                y: 0,
-                request: firsts[h],
-                waits: NO_WAIT,
-            },
+            task: resting_task(firsts[h]),
             ..first
         };
         h += 1;

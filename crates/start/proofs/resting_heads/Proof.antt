@@ -1,10 +1,11 @@
 -- `start::resting_heads`: the heads before h rest before their first requests.
-use mathlib.Core.Path.{_≡_, refl, _∙_}
+use mathlib.Core.Path.{_≡_, refl, ap, _∙_}
 use mathlib.Core.List.{map}
 use borrow.Author.Needs.{needs}
 use native.Mathlib.Omega.{arith}
 use Prim.Native.Nat.{_-_}
 use lib.ListN.{length, getD, length-map}
+use Rattle.process.specs.declared.Stage.the-variants.{Resting}
 use Rattle.rules.specs.State.{resting}
 use Rattle.mask.proofs.Lists.{getD-mapped}
 use Rattle.start.proofs.Loops.{Filled, filled-none, filled-on, filled-all}
@@ -17,14 +18,20 @@ Inv-loop firsts first heads₀ h₀ heads h = Filled (resting 0) (λ j. resting 
 abbrev μ-loop : tie.MeasureT-loop
 μ-loop firsts first heads₀ h₀ heads h = 16 - h
 
+resting-task-requires : tie.Need-resting-task-requires Inv-loop μ-loop
+resting-task-requires c κs = search needs
+
 loop-holds : tie.Need-loop-holds Inv-loop μ-loop
-loop-holds c = filled-none (resting 0) (λ j. resting (getD (c .args .t1) j 0)) 16 _ refl
+loop-holds c = filled-none (resting 0) (λ j. resting (getD (c .before .args .t1) j 0)) 16 _ refl
 
-mul-t8 : tie.Need-mul-t8 Inv-loop μ-loop
-mul-t8 c = search needs
+mul-resting-task : tie.Need-mul-resting-task Inv-loop μ-loop
+mul-resting-task c = search needs
 
-array-read-t11 : tie.Need-array-read-t11 Inv-loop μ-loop
-array-read-t11 c = search needs
+array-read-resting-task : tie.Need-array-read-resting-task Inv-loop μ-loop
+array-read-resting-task c = search needs
+
+resting-task-requires-2 : tie.Need-resting-task-requires-2 Inv-loop μ-loop
+resting-task-requires-2 c κs = search needs
 
 mul-heads : tie.Need-mul-heads Inv-loop μ-loop
 mul-heads c = search needs
@@ -40,15 +47,18 @@ loop-less c = search needs
 
 loop-again : tie.Need-loop-again Inv-loop μ-loop
 loop-again c =
-    let l = c .before .loop in
-    filled-on (resting 0) (λ j. resting (getD (c .before .before .args .t1) j 0)) 16 (l .heads) (l .h) _ (omega arith) refl (l .inv)
+    let l = c .before .before .loop in
+    let firsts = c .before .before .before .before .args .t1 in
+    filled-on (resting 0) (λ j. resting (getD firsts j 0)) 16 (l .heads) (l .h) _ (omega arith)
+    (ap (λ t. record { stage = Resting; task = t }) (c .resting-task2 .ensures)) (l .inv)
 
 returns : tie.Need-returns Inv-loop μ-loop
 returns c =
     let l = c .before .loop in
-    let firsts = c .before .before .args .t1 in
+    let firsts = c .before .before .before .args .t1 in
     let size : length firsts ≡ 16 = search needs in
-    filled-all (resting 0) (λ j. resting (getD firsts j 0)) 16 (l .heads) (map resting firsts) (length-map firsts resting ∙ size) (λ j h. getD-mapped resting firsts j 0 (resting 0) (omega (arith, size))) (l .h) (omega arith) (l .inv)
+    filled-all (resting 0) (λ j. resting (getD firsts j 0)) 16 (l .heads) (map resting firsts) (length-map firsts resting ∙ size)
+    (λ j h. getD-mapped resting firsts j 0 (resting 0) (omega (arith, size))) (l .h) (omega arith) (l .inv)
 
 pub resting-heads-spec : {M : Type 1} → statement M
 resting-heads-spec =
@@ -56,9 +66,11 @@ resting-heads-spec =
     (tie.spec
     Inv-loop
     μ-loop
+    resting-task-requires
     loop-holds
-    mul-t8
-    array-read-t11
+    mul-resting-task
+    array-read-resting-task
+    resting-task-requires-2
     mul-heads
     array-set-from-heads
     add-h
