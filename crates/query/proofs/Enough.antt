@@ -42,8 +42,8 @@ use Rattle.rules.specs.Table.{noNode, at, parent, rank, seen, touched}
 use Rattle.rules.proofs.History.{final-number}
 use Rattle.rules.proofs.Stages.{Above, Knows}
 use Rattle.query.specs.Query.{granted, steps, sameSet}
-use Rattle.query.specs.Ready.{Admitted, Serving}
-use Rattle.query.proofs.Steps.{no-union, serving-goes-on, serving-ranks}
+use Rattle.query.specs.Admitted.{Admitted}
+use Rattle.query.proofs.Steps.{Serving, no-union, serving-goes-on, serving-ranks}
 
 -- ---- how many nodes come after a node
 
@@ -198,8 +198,8 @@ module _ {n : ℕ} {t : List Node} (r : ℕ → ℕ) (admitted : Admitted n t) (
 
       further : parent t (parent t u) ≢ parent t u → higher n r (parent t u) + 1 ≤ higher n r u
       further d =
-          higher-less n r u (parent t u) (admitted .formed .inside u (above .node))
-          (omega (arith, admitted .formed .rising u (above .node) (λ e. d (ap (parent t) e)), ranks u, ranks (parent t u)))
+          higher-less n r u (parent t u) (admitted .inside u (above .node))
+          (omega (arith, admitted .rising u (above .node) (λ e. d (ap (parent t) e)), ranks u, ranks (parent t u)))
 
   read-again : {B : ℕ → ℕ} (k : Kind) (s : Side) (u : ℕ) → Above n (parent t) (rank t) B (nodeAt h s) u
       → Enough n (parent t) r h (ReadAgain k s u) (suc m) → Goes t (moveUp h k s (parent t u))

@@ -1,226 +1,318 @@
--- An enquiry from grant to grant, on words: what holds of it stays, its result stays, and the grants left fall.
+-- The enquiry's grants on plain numbers: where looking at a node and moving on from it lead.
 --
---   Going p               not over: unanswered, with a grant left
---   Carried words p words′ p′   the enquiry p on the words words has become p′ on words′ by one grant or more
+--   swapping node other fromY w above   the head that swaps the node's word from w to the parent `above`
+--   again node other fromY u            the head that reads the word of u again
+--   rereading x y point                 the head that reads x's word again
 --
--- Main laws: carried, one grant carries an enquiry on; rest-over, the result of one that is over; query-refused and
--- query-answered, the whole enquiry.
-use mathlib.Core.Path.{_≡_, refl, sym, ap, ap₂, _∙_, subst}
+-- Main laws, one a grant: look-moves, look-turns, look-meets, look-differs; reread-root, reread-lower; move-reads,
+-- move-swaps, move-ends. On words: spent, told-answer, and the module of one move.
+use mathlib.Core.Path.{_≡_, refl, sym, ap, _∙_, subst}
 use mathlib.Core.Logic.{_≢_}
-use mathlib.Core.Bool.{true, false, cond, true≢false}
+use mathlib.Core.Bool.{Bool, true, false, not}
 use mathlib.Core.List.{List, map}
-use Prim.Native.Nat.{ℕ, zero, suc, _+_, _-_, _≤_, _<_}
+use Prim.Native.Nat.{ℕ, suc, _+_, _-_, _/_, _%_, _≤_, _<_}
 use native.Mathlib.Omega.{arith}
-use lib.Dec.{eqb}
-use lib.ListN.{length}
-use borrow.Author.Tests.{eqb-true, eqb-false, eq-eqb, ne-eqb}
+use lib.ListN.{length, set, length-map}
+use borrow.Author.Tests.{eq-eqb, ne-eqb}
 use Rattle.linearization.proofs.Tests.{split}
-use Rattle.job.specs.declared.Answer.the-variants.{Unfinished}
+use Rattle.mask.proofs.Lists.{set-mapped}
+use Rattle.job.specs.declared.Kind.the-variants.{SameSet}
+use Rattle.job.specs.declared.Answer.{Answer}
+use Rattle.job.specs.declared.Answer.the-variants.{Unfinished, Yes, No}
 use Rattle.job.specs.Job.{answerNumber}
 use Rattle.word.specs.declared.Node.{Node}
-use Rattle.word.specs.Word.{decode, encode}
-use Rattle.process.specs.declared.Access.{Access}
+use Rattle.word.specs.Word.{rankOf, parentOf, decode, encode, same}
+use Rattle.word.proofs.Laws.{same-true, encode-decode}
+use Rattle.process.specs.declared.Access.the-variants.{Cas}
+use Rattle.process.specs.declared.Stage.the-variants.{Halve, ReadAgain, RereadX}
 use Rattle.process.specs.declared.Head.{Head}
-use Rattle.process.specs.declared.Advanced.{Advanced}
-use Rattle.process.specs.Process.{begin}
 use Rattle.process.specs.Access.{accessOf}
 use Rattle.process.specs.Advance.{advanceOf}
-use Rattle.rules.specs.Report.{isFinal}
-use Rattle.rules.specs.Table.{seen, touched}
-use Rattle.table.specs.Touch.{Touchable}
-use Rattle.table.proofs.Words.{decode-words}
-use Rattle.query.specs.declared.Queried.{Queried}
-use Rattle.query.specs.declared.Progress.{Progress}
-use Rattle.query.specs.Query.{refusal, Result, answered, granted, steps, sameSet, queried}
-use Rattle.query.specs.Progress.{isOver, advanced, progressed, tableAfter, rest}
-use Rattle.query.specs.Ready.{Serving, Ready}
-use Rattle.query.proofs.Words.{admitted-worded, words-kept}
+use Rattle.forest.proofs.Halving.{Halving}
+use Rattle.rules.specs.Table.{at, parent, rank, touched}
+use Rattle.rules.proofs.Stages.{Above, own-parent, above-parent}
+use Rattle.table.proofs.Words.{at-decoded, decode-words}
+use Rattle.query.specs.Query.{wordAt, answered, steps}
+use Rattle.query.specs.Admitted.{Admitted}
+use Rattle.query.specs.Numbers.{sideOf, headAt, looking, moving, packed, ended}
+use Rattle.query.proofs.Words.{formed, parent-decoded, rank-decoded, admitted-worded, words-kept}
 use Rattle.query.proofs.Labels.{rootLabel, root-labelled}
-use Rattle.query.proofs.Refusal.{Accepted, accepted, accepted-admitted}
-use Rattle.query.proofs.Steps.{unfinished, serving-step, serving-within, serving-start}
+use Rattle.query.proofs.Halving.{halved-admitted}
+
+abbrev pub swapping : ℕ → ℕ → Bool → Node → ℕ → Head
+swapping node other fromY w above = headAt node other fromY (Halve SameSet (sideOf fromY) (w .rank) (w .parent) above)
+
+abbrev pub again : ℕ → ℕ → Bool → ℕ → Head
+again node other fromY u = headAt node other fromY (ReadAgain SameSet (sideOf fromY) u)
+
+abbrev pub rereading : ℕ → ℕ → ℕ → Head
+rereading x y point = headAt x y false (RereadX point)
 
 -- ---- one grant
 
-pub record Going (p : Progress) : Type 0 where
-  pub unanswered : isFinal (p .answer) ≡ false
-  pub grant : 1 ≤ p .left
+module _ (t : List Node) (node other left used left′ used′ : ℕ) (one : left ≡ suc left′) (next : used′ ≡ suc used) where
+  pub look-moves : (fromY : Bool) → parent t node ≢ node
+      → steps left used (looking node other fromY) t ≡ steps left′ used′ (moving node other fromY (at t node)) t
+  unfolding accessOf advanceOf
+  look-moves false lower = rw (one, next, ne-eqb (parent t node) node lower) refl
+  look-moves true lower = rw (one, next, ne-eqb (parent t node) node lower) refl
 
-pub going : (p : Progress) → isOver p ≡ false → Going p
-going p e =
-    split (isFinal (p .answer))
-    (λ f. absurd (true≢false (sym (rw f refl) ∙ e)))
-    (λ f. record { unanswered = f; grant = omega (arith, eqb-false (p .left) 0 (sym (rw f refl) ∙ e)) })
+  -- the find from x ends, and the find from y begins
+  pub look-turns : parent t node ≡ node → steps left used (looking node other false) t ≡ steps left′ used′ (looking other node true) t
+  unfolding accessOf advanceOf
+  look-turns root = rw (one, next, eq-eqb (parent t node) node root) refl
 
--- the grants left fall
-pub progress-falls : (p : Progress) (t : List Node) → isOver p ≡ false → progressed p t .left < p .left
-unfolding progressed
-progress-falls p t e = rw e (omega (arith, going p e .grant))
+  pub look-meets : parent t node ≡ node → other ≡ node → steps left used (looking node other true) t ≡ answered Yes used′ t
+  unfolding accessOf advanceOf
+  look-meets root e = rw (one, next, eq-eqb (parent t node) node root, eq-eqb other node e) refl
 
-pub progress-keeps : (p : Progress) (t : List Node) → progressed p t .left ≤ p .left
-unfolding progressed
-progress-keeps p t = split (isOver p) (λ e. rw e (omega arith)) (λ e. rw e (omega arith))
+  pub look-differs : parent t node ≡ node → other ≢ node
+      → steps left used (looking node other true) t ≡ steps left′ used′ (rereading other node used′) t
+  unfolding accessOf advanceOf
+  look-differs root d = rw (one, next, eq-eqb (parent t node) node root, ne-eqb other node d) refl
 
--- a grant to an enquiry that is over does nothing
-pub grant-over : (words : List ℕ) (p : Progress) → Ready (map decode words) p → isOver p ≡ true
-    → (p ≡ progressed p (map decode words)) × (words ≡ map encode (tableAfter p (map decode words)))
-unfolding progressed tableAfter
-grant-over words p ready e = rw e (refl, words-kept words (ready .serving .admitted))
+  pub reread-root : (point : ℕ) → parent t node ≡ node → steps left used (rereading node other point) t ≡ answered No used′ t
+  unfolding accessOf advanceOf
+  reread-root point root = rw (one, next, eq-eqb (parent t node) node root) refl
 
--- the access that the head makes is one that it may make
-pub grant-touchable : {t : List Node} (p : Progress) (access : Access) → Ready t p → access ≡ accessOf (p .head) → Touchable t access
-grant-touchable {t} p access ready e =
-    let admitted = ready .serving .admitted in
-    record { node = rw (e, admitted .nodes) (serving-within (ready .serving)); worded = admitted-worded admitted }
+  pub reread-lower : (point : ℕ) → parent t node ≢ node
+      → steps left used (rereading node other point) t ≡ steps left′ used′ (looking node other false) t
+  unfolding accessOf advanceOf
+  reread-lower point lower = rw (one, next, ne-eqb (parent t node) node lower) refl
 
--- a grant is the head's access, and where it leads
-pub grant-made : (words : List ℕ) (p : Progress) (access : Access) (found : Node) (words′ : List ℕ) (next : Advanced) → isOver p ≡ false
-    → access ≡ accessOf (p .head) → found ≡ seen (map decode words) access → words′ ≡ map encode (touched (map decode words) access)
-    → next ≡ advanceOf (p .head) found (p .used + 1)
-    → (record { head = next .head; answer = next .event .answer; used = p .used + 1; left = p .left - 1 } ≡ progressed p (map decode words))
-    × (words′ ≡ map encode (tableAfter p (map decode words)))
-unfolding progressed tableAfter
-grant-made words p access found words′ next more chosen sees leaves made =
-    let number : p .used + 1 ≡ suc (p .used) = omega arith in
-    let word : found ≡ seen (map decode words) (accessOf (p .head)) = sees ∙ ap (seen (map decode words)) chosen in
-    let to : next ≡ granted (p .head) (map decode words) (p .used) = made ∙ ap₂ (advanceOf (p .head)) word number in
-    rw more (
-      λ i. record { head = to i .head; answer = to i .event .answer; used = p .used + 1; left = p .left - 1 },
-      leaves ∙ ap (λ a. map encode (touched (map decode words) a)) chosen,
-    )
+  pub move-reads : (fromY : Bool) (w : Node)
+      → steps left used (moving node other fromY w) t ≡ steps left′ used′ (swapping node other fromY w (parent t (w .parent))) t
+  unfolding accessOf advanceOf
+  move-reads false w = rw (one, next) refl
+  move-reads true w = rw (one, next) refl
 
-pub ready-step : {p : Progress} {t : List Node} → Ready t p → Ready (tableAfter p t) (progressed p t)
-unfolding progressed tableAfter
-ready-step {p} {t} ready = split (isOver p) (λ e. rw e ready) (λ e. rw e (moved (going p e)))
+  pub move-swaps : (fromY : Bool) (w : Node) (above : ℕ)
+      → steps left used (swapping node other fromY w above) t
+      ≡ steps left′ used′ (again node other fromY (w .parent)) (touched t (Cas node w (record { rank = w .rank; parent = above })))
+  unfolding accessOf advanceOf
+  move-swaps false w above = rw (one, next) refl
+  move-swaps true w above = rw (one, next) refl
+
+  pub move-ends : (fromY : Bool) (u : ℕ)
+      → steps left used (again node other fromY u) t ≡ steps left′ used′ (looking (parent t u) other fromY) t
+  unfolding accessOf advanceOf
+  move-ends false u = rw (one, next) refl
+  move-ends true u = rw (one, next) refl
+
+-- ---- the end, on words
+
+module _ (words : List ℕ) {n : ℕ} (admitted : Admitted n (map decode words)) where
+  pub told-answer : (answer : Answer) (used : ℕ) (end : ℕ) → used ≤ 65535 → end ≡ packed (answerNumber answer) used
+      → ended end words ≡ answered answer used (map decode words)
+  told-answer answer used end small e =
+      let first : end / 65536 ≡ answerNumber answer = omega (arith, e) in
+      let rest : end % 65536 ≡ used = omega (arith, e) in
+      λ i. record { queried = record { number = 0; answer = first i; used = rest i }; table = words-kept words admitted i }
+
+  pub spent : (left used : ℕ) (h : Head) (end : ℕ) → left ≡ 0 → used ≤ 65535 → end ≡ packed 0 used
+      → ended end words ≡ steps left used h (map decode words)
+  spent left used h end none small e = told-answer Unfinished used end small e ∙ ap (λ l. steps l used h (map decode words)) (sym none)
+
+-- ---- one look, on words
+
+-- what the code's test of the side tells
+find-from-x : (fromY : Bool) → not fromY ≡ true → fromY ≡ false
+find-from-x true e = sym e
+find-from-x false e = refl
+
+find-from-y : (fromY : Bool) → not fromY ≡ false → fromY ≡ true
+find-from-y true e = refl
+find-from-y false e = sym e
+
+module _ (words : List ℕ) (node other : ℕ) (fromY : Bool) (left used : ℕ) (admitted : Admitted 4096 (map decode words))
+    (inside : node < 4096) (some : left ≢ 0) where
+  size : length words ≡ 4096
+  size = sym (length-map words decode) ∙ admitted .nodes
+
+  own : at (map decode words) node ≡ decode (wordAt words node)
+  own = at-decoded words node (omega (arith, inside, size))
+
+  pub looked-on : parentOf (wordAt words node) ≢ node
+      → steps left used (looking node other fromY) (map decode words)
+      ≡ steps (left - 1) (used + 1) (moving node other fromY (decode (wordAt words node))) (map decode words)
+  looked-on lower =
+      look-moves (map decode words) node other left used (left - 1) (used + 1) (omega (arith, some)) (omega arith) fromY
+      (λ e. lower (sym (ap (λ v. v .parent) own) ∙ e))
+      ∙ ap (λ w. steps (left - 1) (used + 1) (moving node other fromY w) (map decode words)) own
+
+  module _ (found : parentOf (wordAt words node) ≡ node) where
+    root : parent (map decode words) node ≡ node
+    root = ap (λ v. v .parent) own ∙ found
+
+    pub looked-turned : not fromY ≡ true
+        → steps left used (looking node other fromY) (map decode words)
+        ≡ steps (left - 1) (used + 1) (looking other node true) (map decode words)
+    looked-turned e =
+        rw (find-from-x fromY e) (look-turns (map decode words) node other left used (left - 1) (used + 1) (omega (arith, some)) (omega arith) root)
+
+    module _ (second : not fromY ≡ false) where
+      pub looked-met : other ≡ node → (end : ℕ) → used + left ≤ 65535 → end ≡ packed 3 (used + 1)
+          → ended end words ≡ steps left used (looking node other fromY) (map decode words)
+      looked-met e end small p =
+          rw (find-from-y fromY second)
+          (told-answer words admitted Yes (used + 1) end (omega (arith, some, small)) p
+          ∙ sym (look-meets (map decode words) node other left used (left - 1) (used + 1) (omega (arith, some)) (omega arith) root e))
+
+      module _ (apart : other ≢ node) where
+        differs : steps left used (looking node other fromY) (map decode words)
+            ≡ steps (left - 1) (used + 1) (rereading other node (used + 1)) (map decode words)
+        differs =
+            rw (find-from-y fromY second)
+            (look-differs (map decode words) node other left used (left - 1) (used + 1) (omega (arith, some)) (omega arith) root apart)
+
+        pub looked-spent : left ≡ 1 → (end : ℕ) → used + left ≤ 65535 → end ≡ packed 0 (used + 1)
+            → ended end words ≡ steps left used (looking node other fromY) (map decode words)
+        looked-spent one end small p =
+            spent words admitted (left - 1) (used + 1) (rereading other node (used + 1)) end (omega (arith, one)) (omega (arith, one, small)) p
+            ∙ sym differs
+
+        module _ (two : left ≢ 1) (within : other < 4096) where
+          reread : parent (map decode words) other ≡ parentOf (wordAt words other)
+          reread = parent-decoded words other (omega (arith, within, size))
+
+          pub looked-no : parentOf (wordAt words other) ≡ other → (end : ℕ) → used + left ≤ 65535 → end ≡ packed 4 (used + 2)
+              → ended end words ≡ steps left used (looking node other fromY) (map decode words)
+          looked-no still end small p =
+              told-answer words admitted No (used + 2) end (omega (arith, some, two, small)) p
+              ∙ sym (reread-root (map decode words) other node (left - 1) (used + 1) (left - 2) (used + 2)
+              (omega (arith, some, two)) (omega arith) (used + 1) (reread ∙ still))
+              ∙ sym differs
+
+          pub looked-again : parentOf (wordAt words other) ≢ other
+              → steps left used (looking node other fromY) (map decode words)
+              ≡ steps (left - 2) (used + 2) (looking other node false) (map decode words)
+          looked-again moved =
+              differs
+              ∙ reread-lower (map decode words) other node (left - 1) (used + 1) (left - 2) (used + 2)
+              (omega (arith, some, two)) (omega arith) (used + 1) (λ e. moved (sym reread ∙ e))
+
+-- ---- one move, on words
+
+-- the swap leaves an admitted table
+pub swapped-admitted : {n : ℕ} {t : List Node} → Admitted n t → (v : ℕ) → v < n → parent t v ≢ v
+    → Admitted n (touched t (Cas v (at t v) (record { rank = rank t v; parent = parent t (parent t v) })))
+swapped-admitted {n} {t} admitted v node lower =
+    split (same (at t v) (at t v)) (λ e. rw e (halved-admitted admitted may)) (λ e. rw e admitted)
   where
-    moved : Going p → Ready (touched t (accessOf (p .head))) (advanced p t)
-    moved more =
-        let next : suc (p .used) ≡ p .used + 1 = omega arith in
-        record {
-          nodes = ready .nodes;
-          labels = ready .labels;
-          x = ready .x;
-          y = ready .y;
-          serving =
-              subst
-              (λ used. Serving (ready .nodes) (ready .labels) (ready .x) (ready .y) (touched t (accessOf (p .head))) used
-              (granted (p .head) t (p .used) .head) (granted (p .head) t (p .used) .event .answer))
-              next
-              (serving-step (ready .serving) (more .unanswered));
-          room = omega (arith, ready .room, more .grant);
-        }
+    above : Above n (parent t) (rank t) (rootLabel (formed admitted)) v (parent t (parent t v))
+    above =
+        above-parent (formed admitted) (root-labelled (formed admitted))
+        (own-parent (formed admitted) (root-labelled (formed admitted)) v node lower)
 
--- ---- the result
+    may : Halving n (parent t) (rank t) (rootLabel (formed admitted)) v (rank t v) (parent t (parent t v))
+    may = record { node = node; target = above .node; lower = lower; rank = refl; same = above .same; before = above .before }
 
-steps-going : (budget used : ℕ) (h : Head) (t : List Node) → 1 ≤ budget
-    → steps budget used h t
-    ≡ cond (isFinal (granted h t used .event .answer))
-    (answered (granted h t used .event .answer) (used + 1) (touched t (accessOf h)))
-    (steps (budget - 1) (used + 1) (granted h t used .head) (touched t (accessOf h)))
-steps-going zero used h t l = absurd (omega arith)
-steps-going (suc budget) used h t l =
-    let left : suc budget - 1 ≡ budget = omega arith in
-    let next : used + 1 ≡ suc used = omega arith in
-    rw (left, next) refl
+-- a swap that compares words compares their nodes
+module _ (words : List ℕ) (node word above : ℕ) (admitted : Admitted 4096 (map decode words)) (inside : node < 4096)
+    (low : rankOf word ≤ 12) where
+  abbrev new : Node
+  new = record { rank = rankOf word; parent = above }
 
--- one grant leaves the result
-pub rest-step : (p : Progress) (t : List Node) → rest (progressed p t) (tableAfter p t) ≡ rest p t
-unfolding progressed tableAfter rest
-rest-step p t =
-    split (isOver p)
-    (λ e. rw e refl)
-    (λ e. rw (e, going p e .unanswered) (sym (steps-going (p .left) (p .used) (p .head) t (going p e .grant))))
+  within : node < length words
+  within = omega (arith, inside, admitted .nodes, length-map words decode)
 
-pub rest-over : (p : Progress) (t : List Node) → isOver p ≡ true → rest p t ≡ answered (p .answer) (p .used) t
-unfolding rest
-rest-over p t e = split (isFinal (p .answer)) (λ f. rw f refl) (λ f. rw f (spent f))
-  where
-    spent : isFinal (p .answer) ≡ false → steps (p .left) (p .used) (p .head) t ≡ answered (p .answer) (p .used) t
-    spent f =
-        let none : p .left ≡ 0 = eqb-true (p .left) 0 (sym (rw f refl) ∙ e) in
-        ap (λ k. steps k (p .used) (p .head) t) none ∙ ap (λ a. answered a (p .used) t) (sym (unfinished (p .answer) f))
+  found : at (map decode words) node ≡ decode (wordAt words node)
+  found = at-decoded words node within
 
--- an enquiry that is over is told so, and its table stays
-pub told-over : (words : List ℕ) (p : Progress) (told : Queried) → Ready (map decode words) p → isOver p ≡ true
-    → told ≡ record { number = 0; answer = answerNumber (p .answer); used = p .used }
-    → record { queried = told; table = words } ≡ rest p (map decode words)
-told-over words p told ready over e =
-    (λ i. record { queried = e i; table = words-kept words (ready .serving .admitted) i }) ∙ sym (rest-over p (map decode words) over)
+  pub swap-wrote : wordAt words node ≡ word → (stored : ℕ) → stored ≡ encode new
+      → set words node stored ≡ map encode (touched (map decode words) (Cas node (decode word) new))
+  swap-wrote e stored written =
+      rw (found, e, eq-eqb (rankOf word) (rankOf word) refl, eq-eqb (parentOf word) (parentOf word) refl)
+      (ap (set words node) written
+      ∙ ap (λ l. set l node (encode new)) (words-kept words admitted)
+      ∙ set-mapped encode (map decode words) node new)
 
--- ---- one grant, on words
+  pub swap-failed : wordAt words node ≢ word → words ≡ map encode (touched (map decode words) (Cas node (decode word) new))
+  unfolding parentOf
+  swap-failed d =
+      split (same (at (map decode words) node) (decode word))
+      (λ e. absurd (d (same-word (sym found ∙ same-true (at (map decode words) node) (decode word) e))))
+      (λ e. rw e (words-kept words admitted))
+    where
+      same-word : decode (wordAt words node) ≡ decode word → wordAt words node ≡ word
+      same-word e =
+          sym (encode-decode (wordAt words node) (omega (arith, admitted .ranks node inside, ap (λ v. v .rank) found)) (omega arith))
+          ∙ ap encode e
+          ∙ encode-decode word (omega (arith, low)) (omega arith)
 
-pub record Carried (words : List ℕ) (p : Progress) (words′ : List ℕ) (p′ : Progress) : Type 0 where
-  pub ready : Ready (map decode words′) p′
-  pub same : rest p′ (map decode words′) ≡ rest p (map decode words)
-  pub keeps : p′ .left ≤ p .left
-  pub falls : isOver p ≡ false → p′ .left < p .left
+module _ (words : List ℕ) (node other word : ℕ) (fromY : Bool) (admitted : Admitted 4096 (map decode words)) (inside : node < 4096)
+    (read : word ≡ wordAt words node) (lower : parentOf word ≢ node) where
+  long : length words ≡ 4096
+  long = sym (length-map words decode) ∙ admitted .nodes
 
-module _ (words words′ : List ℕ) (p p′ : Progress) (ready : Ready (map decode words) p)
-    (head : p′ ≡ progressed p (map decode words)) (table : words′ ≡ map encode (tableAfter p (map decode words))) where
-  next-nodes : map decode words′ ≡ tableAfter p (map decode words)
-  next-nodes =
-      ap (λ l. map decode l) table
-      ∙ decode-words (tableAfter p (map decode words)) (admitted-worded (ready-step ready .serving .admitted))
+  -- the word read is the node's own
+  word-own : at (map decode words) node ≡ decode word
+  word-own = at-decoded words node (omega (arith, inside, long)) ∙ ap decode (sym read)
 
-  pub carried : Carried words p words′ p′
-  carried =
-      record {
-        ready = rw (next-nodes, head) (ready-step ready);
-        same = rw (next-nodes, head) (rest-step p (map decode words));
-        keeps = rw head (progress-keeps p (map decode words));
-        falls = λ e. rw head (progress-falls p (map decode words) e);
-      }
+  pub own-rank : rankOf word ≤ 12
+  own-rank = omega (arith, admitted .ranks node inside, ap (λ v. v .rank) word-own)
 
--- and the next grant carries it further
-pub carried-on : {words words′ words″ : List ℕ} {p p′ p″ : Progress} → Carried words p words′ p′ → p″ ≡ progressed p′ (map decode words′)
-    → words″ ≡ map encode (tableAfter p′ (map decode words′)) → Carried words p words″ p″
-carried-on {words} {words′} {words″} {p} {p′} {p″} before head table =
-    let next = carried words′ words″ p′ p″ (before .ready) head table in
-    record {
-      ready = next .ready;
-      same = next .same ∙ before .same;
-      keeps = omega (arith, next .keeps, before .keeps);
-      falls = λ e. omega (arith, next .keeps, before .falls e);
-    }
+  pub parent-inside : parentOf word < 4096
+  parent-inside = omega (arith, admitted .inside node inside, ap (λ v. v .parent) word-own)
 
--- ---- the start
+  module _ (above : ℕ) (seen : above ≡ parentOf (wordAt words (parentOf word))) where
+    grandparent : parent (map decode words) (parentOf word) ≡ above
+    grandparent = parent-decoded words (parentOf word) (omega (arith, parent-inside, long)) ∙ sym seen
 
-ready-start : (words : List ℕ) (x y budget : ℕ) (h : Head) → h ≡ begin (sameSet x y) 0 → budget ≤ 65535 → Accepted words x y
-    → Ready (map decode words) (record { head = h; answer = Unfinished; used = 0; left = budget })
-ready-start words x y budget h e small good =
-    record {
-      nodes = length words;
-      labels = rootLabel (accepted-admitted good .formed);
-      x = x;
-      y = y;
-      serving =
-          rw e
-          (serving-start
-          (accepted-admitted good)
-          (root-labelled (accepted-admitted good .formed))
-          (record { x = good .left; y = good .right }));
-      room = omega (arith, small);
-    }
+    pub above-inside : above < 4096
+    above-inside = omega (arith, admitted .inside (parentOf word) parent-inside, grandparent)
 
-module _ (words : List ℕ) (x y number : ℕ) (told : number ≡ refusal words x y) where
-  pub query-refused : number ≢ 0 → (budget : ℕ)
-      → record { queried = record { number = number; answer = 0; used = 0 }; table = words } ≡ queried words x y budget
-  unfolding queried
-  query-refused some budget =
-      let test : eqb (refusal words x y) 0 ≡ false = ne-eqb (refusal words x y) 0 (λ e. some (told ∙ e)) in
-      rw test (λ i. record { queried = record { number = told i; answer = 0; used = 0 }; table = words })
+    abbrev swap : List Node
+    swap = touched (map decode words) (Cas node (decode word) (record { rank = rankOf word; parent = above }))
 
-  module _ (none : number ≡ 0) where
-    pub query-accepted : Accepted words x y
-    query-accepted = accepted words x y (sym told ∙ none)
+    module _ (left used : ℕ) where
+      pub moved-once : 1 ≤ left
+          → steps left used (moving node other fromY (decode word)) (map decode words)
+          ≡ steps (left - 1) (used + 1) (swapping node other fromY (decode word) above) (map decode words)
+      moved-once l =
+          move-reads (map decode words) node other left used (left - 1) (used + 1) (omega arith) (omega arith) fromY (decode word)
+          ∙ ap (λ u. steps (left - 1) (used + 1) (swapping node other fromY (decode word) u) (map decode words)) grandparent
 
-    module _ (budget : ℕ) (h : Head) (begun : h ≡ begin (sameSet x y) 0) where
-      pub query-ready : budget ≤ 65535 → Ready (map decode words) (record { head = h; answer = Unfinished; used = 0; left = budget })
-      query-ready small = ready-start words x y budget h begun small query-accepted
+    module _ (words′ : List ℕ) (swapped : words′ ≡ map encode swap) where
+      swap-admitted : Admitted 4096 swap
+      swap-admitted =
+          let start : (parent (map decode words) node ≡ parentOf word) = ap (λ v. v .parent) word-own in
+          subst
+          (λ w. Admitted 4096 (touched (map decode words) (Cas node w (record { rank = w .rank; parent = above }))))
+          word-own
+          (subst
+          (λ u. Admitted 4096 (touched (map decode words) (Cas node (at (map decode words) node) (record { rank = rank (map decode words) node; parent = u }))))
+          (ap (parent (map decode words)) start ∙ grandparent)
+          (swapped-admitted admitted node inside (λ e. lower (sym start ∙ e))))
 
-      pub query-answered : (result : Result)
-          → result ≡ rest (record { head = h; answer = Unfinished; used = 0; left = budget }) (map decode words)
-          → result ≡ queried words x y budget
-      unfolding queried rest
-      query-answered result e =
-          let test : eqb (refusal words x y) 0 ≡ true = eq-eqb (refusal words x y) 0 (sym told ∙ none) in
-          rw test (e ∙ ap (λ k. steps budget 0 k (map decode words)) begun)
+      nodes′ : map decode words′ ≡ swap
+      nodes′ = ap (map decode) swapped ∙ decode-words swap (admitted-worded swap-admitted)
+
+      pub move-admitted : Admitted 4096 (map decode words′)
+      move-admitted = subst (Admitted 4096) (sym nodes′) swap-admitted
+
+      next-parent : (next : ℕ) → next ≡ parentOf (wordAt words′ (parentOf word)) → parent (map decode words′) (parentOf word) ≡ next
+      next-parent next seen-again =
+          parent-decoded words′ (parentOf word) (omega (arith, parent-inside, sym (length-map words′ decode) ∙ move-admitted .nodes)) ∙ sym seen-again
+
+      pub next-inside : (next : ℕ) → next ≡ parentOf (wordAt words′ (parentOf word)) → next < 4096
+      next-inside next seen-again = omega (arith, move-admitted .inside (parentOf word) parent-inside, next-parent next seen-again)
+
+      module _ (left used : ℕ) where
+        pub moved-twice : 2 ≤ left
+            → steps left used (moving node other fromY (decode word)) (map decode words)
+            ≡ steps (left - 2) (used + 2) (again node other fromY (parentOf word)) (map decode words′)
+        moved-twice l =
+            moved-once left used (omega arith)
+            ∙ move-swaps (map decode words) node other (left - 1) (used + 1) (left - 2) (used + 2) (omega arith) (omega arith) fromY (decode word)
+            above
+            ∙ ap (steps (left - 2) (used + 2) (again node other fromY (parentOf word))) (sym nodes′)
+
+        pub moved : 3 ≤ left → (next : ℕ) → next ≡ parentOf (wordAt words′ (parentOf word))
+            → steps left used (moving node other fromY (decode word)) (map decode words)
+            ≡ steps (left - 3) (used + 3) (looking next other fromY) (map decode words′)
+        moved l next seen-again =
+            moved-twice (omega arith)
+            ∙ move-ends (map decode words′) node other (left - 2) (used + 2) (left - 3) (used + 3) (omega arith) (omega arith) fromY
+            (parentOf word)
+            ∙ ap (λ v. steps (left - 3) (used + 3) (looking v other fromY) (map decode words′)) (next-parent next seen-again)
