@@ -5,7 +5,7 @@ use mathlib.Core.Path.{_≡_, refl, sym, ap, _∙_}
 use mathlib.Core.Logic.{_≢_}
 use mathlib.Core.Bool.{true, false}
 use mathlib.Core.List.{List, _++_, map}
-use Prim.Native.Nat.{ℕ, _-_, _<_, _≤_}
+use Prim.Native.Nat.{ℕ, _-_, _≤_}
 use native.Mathlib.Omega.{arith}
 use lib.Dec.{eqb}
 use lib.ListN.{length, take, replicate, length-map, length-append, length-replicate}
@@ -16,8 +16,7 @@ use Rattle.word.specs.Word.{decode, encode}
 use Rattle.rules.specs.Table.{freshFrom}
 use Rattle.rules.proofs.Table.{length-fresh}
 use Rattle.query.specs.Query.{Result, refusal, steps, queried}
-use Rattle.query.specs.Admitted.{Admitted}
-use Rattle.query.specs.Numbers.{looking, ended, padded}
+use Rattle.query.specs.Numbers.{looking, Ready, ended, padded}
 use Rattle.query.proofs.Refusal.{Accepted, accepted, accepted-admitted}
 use Rattle.query.proofs.Faithful.{steps-ended, start-serving}
 use Rattle.query.proofs.Copies.{filled}
@@ -37,12 +36,6 @@ module _ (words : List ℕ) (x y : ℕ) (none : refusal words x y ≡ 0) where
   pub enquiry-few : length words ≤ 4096
   enquiry-few = good .few
 
-  pub enquiry-x : x < 4096
-  enquiry-x = omega (arith, good .few, good .left)
-
-  pub enquiry-y : y < 4096
-  enquiry-y = omega (arith, good .few, good .right)
-
   -- both loops make the array of zeros the padded one
   pub enquiry-array : (copied array : List ℕ) → copied ≡ sets (replicate 4096 0) 0 words
       → array ≡ sets copied (length words) (map encode (freshFrom (length words) (4096 - length words))) → array ≡ padded words
@@ -51,8 +44,14 @@ module _ (words : List ℕ) (x y : ℕ) (none : refusal words x y ≡ 0) where
       ∙ ap (λ l. sets l (length words) (map encode (freshFrom (length words) (4096 - length words)))) copies
       ∙ filled (replicate 4096 0) words (length-replicate {A = ℕ} 4096 0) (good .few)
 
-  pub enquiry-admitted : (array : List ℕ) → array ≡ padded words → Admitted 4096 (map decode array)
-  enquiry-admitted array e = rw e (padded-admitted words (good .few) (accepted-admitted good))
+  pub enquiry-ready : (array : List ℕ) (budget : ℕ) → array ≡ padded words → budget ≤ 65535 → Ready array x y 0 budget
+  enquiry-ready array budget e small =
+      record {
+        admitted = rw e (padded-admitted words (good .few) (accepted-admitted good));
+        inside = omega (arith, good .few, good .left);
+        within = omega (arith, good .few, good .right);
+        room = omega (arith, small);
+      }
 
   module _ (budget : ℕ) where
     abbrev own : Result

@@ -130,7 +130,9 @@ module _ (words : List ℕ) (x y budget : ℕ) (good : Accepted words x y) where
     ended-faithful enough =
         record {
           nodes = sym (length-map (result .table) decode) ∙ ap length end-nodes ∙ end .admitted .nodes;
-          sets = λ i j inside-i inside-j. subst (λ t. forest.Together (parentsOf words) i j ↔ forest.Together (parent t) i j) (sym end-nodes) (same-sets i j inside-i inside-j);
+          sets = λ i j inside-i inside-j.
+              subst (λ t. forest.Together (parentsOf words) i j ↔ forest.Together (parent t) i j) (sym end-nodes)
+              (same-sets i j inside-i inside-j);
           yes = λ e. label-together (formed (accepted-admitted good)) start-labelled x y (good .left) (good .right) (end .yes e);
           no = λ e z. end .no e (together-label (formed (accepted-admitted good)) start-labelled x y (good .left) (good .right) z);
           within = end .within;

@@ -4,6 +4,8 @@ pub mod Labels
 pub mod Refusal
 pub mod Halving
 pub mod Grants
+pub mod Looks
+pub mod Moves
 pub mod Copies
 pub mod Steps
 pub mod Walk

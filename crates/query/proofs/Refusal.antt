@@ -123,7 +123,10 @@ module _ {words : List ℕ} {x y : ℕ} (accepted : Accepted words x y) where
   rising i l d =
       let above = parentOf (wordAt words i) in
       let inside = sane-at i l .inside in
-      let order = sym (before-key (rankOf (wordAt words above)) above (rankOf (wordAt words i)) i (omega (arith, accepted .few)) (omega (arith, accepted .few))) ∙ sane-at i l .order in
+      let keys =
+      before-key (rankOf (wordAt words above)) above (rankOf (wordAt words i)) i (omega (arith, accepted .few))
+      (omega (arith, accepted .few)) in
+      let order = sym keys ∙ sane-at i l .order in
       omega (
         arith,
         d,

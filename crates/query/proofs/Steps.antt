@@ -23,7 +23,8 @@ use Rattle.word.specs.Word.{same}
 use Rattle.process.specs.declared.Side.{Side}
 use Rattle.process.specs.declared.Side.the-variants.{X, Y}
 use Rattle.process.specs.declared.Stage.{Stage}
-use Rattle.process.specs.declared.Stage.the-variants.{Resting, ReadNode, ReadParent, Halve, ReadAgain, RereadX, ReadRankX, ReadRankY, Link, Raise}
+use Rattle.process.specs.declared.Stage.the-variants.{Resting, ReadNode, ReadParent, Halve, ReadAgain, RereadX}
+use Rattle.process.specs.declared.Stage.the-variants.{ReadRankX, ReadRankY, Link, Raise}
 use Rattle.process.specs.declared.Head.{Head}
 use Rattle.process.specs.declared.Advanced.{Advanced}
 use Rattle.process.specs.Process.{isResting, restingAt, nodeAt, staged, movedTo, restart, begin}
@@ -34,14 +35,16 @@ use Rattle.forest.proofs.Halving as forest-halving
 use Rattle.linearization.proofs.Tests.{split}
 use Rattle.rules.specs.Report.{isFinal}
 use Rattle.rules.specs.Table.{at, parent, rank, seen, touched}
-use Rattle.rules.proofs.Stages.{Inside, Finding, ReadingParent, Halving, ReadingAgain, Rereading, Knows, side-node, own-parent, above-parent, knows-later, finding-begin}
+use Rattle.rules.proofs.Stages.{Inside, Finding, ReadingParent, Halving, ReadingAgain, Rereading, Knows}
+use Rattle.rules.proofs.Stages.{side-node, own-parent, above-parent, knows-later, finding-begin}
 use Rattle.rules.proofs.Steps.{ends-one, ends-two, finding-moved}
 use Rattle.table.specs.Touch.{Within}
 use Rattle.table.proofs.Within.{access-within}
 use Rattle.query.specs.Query.{granted, sameSet}
 use Rattle.query.specs.Admitted.{Admitted}
 use Rattle.query.proofs.Words.{formed}
-use Rattle.query.proofs.Halving.{halved-ranks, halved-labelled, halved-later, halved, halved-parents, halved-each-rank, halved-admitted}
+use Rattle.query.proofs.Halving.{halved-ranks, halved-labelled, halved-later}
+use Rattle.query.proofs.Halving.{halved, halved-parents, halved-each-rank, halved-admitted}
 
 abbrev pub Says : (ℕ → ℕ) → ℕ → ℕ → Answer → Type 0
 Says B x y Unfinished = Unit {0}
@@ -127,7 +130,11 @@ module _ {n : ℕ} {t : List Node} {B : ℕ → ℕ} {a b : ℕ} (admitted : Adm
       (λ e. rw e (find-ended k s f (eqb-true (parent t v) v e)))
       (λ e. rw e
       (read-on (staged h (ReadParent k s (rank t v) (parent t v))) refl
-      (record { finding = f; parent = own-parent (formed admitted) labelled v (side-node h f s) (eqb-false (parent t v) v e); rank = refl })))
+      (record {
+        finding = f;
+        parent = own-parent (formed admitted) labelled v (side-node h f s) (eqb-false (parent t v) v e);
+        rank = refl;
+      })))
     where
       v : ℕ
       v = nodeAt h s

@@ -5,17 +5,21 @@
 --   headAt node other fromY s     the head of these numbers at stage s
 --   looking node other fromY      the head that looks at the node
 --   moving node other fromY w     the head that moves on from the node, whose word says w
+--   Ready words node other used left   what looking at a node relies on, and moving on from it
+--   Lower words node word         the word read of a node that is no root
 --   packed answer used            the answer's number and the grants used as one number
 --   told end                      what the caller is told of that number
 --   ended end words               the result: that number, and the words of the array
 --   padded words                  the array at the start: the table's words, and past them roots
+use mathlib.Core.Path.{_≡_}
+use mathlib.Core.Logic.{_≢_}
 use mathlib.Core.Bool.{Bool, true, false}
 use mathlib.Core.List.{List, _++_, map}
-use Prim.Native.Nat.{ℕ, _+_, _*_, _-_, _/_, _%_}
+use Prim.Native.Nat.{ℕ, _+_, _*_, _-_, _/_, _%_, _≤_, _<_}
 use lib.ListN.{length}
 use Rattle.job.specs.declared.Kind.the-variants.{SameSet}
 use Rattle.word.specs.declared.Node.{Node}
-use Rattle.word.specs.Word.{encode}
+use Rattle.word.specs.Word.{parentOf, decode, encode}
 use Rattle.process.specs.declared.Side.{Side}
 use Rattle.process.specs.declared.Side.the-variants.{X, Y}
 use Rattle.process.specs.declared.Stage.{Stage}
@@ -23,7 +27,8 @@ use Rattle.process.specs.declared.Stage.the-variants.{ReadNode, ReadParent}
 use Rattle.process.specs.declared.Head.{Head}
 use Rattle.rules.specs.Table.{freshFrom}
 use Rattle.query.specs.declared.Queried.{Queried}
-use Rattle.query.specs.Query.{Result}
+use Rattle.query.specs.Query.{wordAt, Result}
+use Rattle.query.specs.Admitted.{Admitted}
 
 abbrev pub sideOf : Bool → Side
 sideOf false = X
@@ -38,6 +43,18 @@ looking node other fromY = headAt node other fromY (ReadNode SameSet (sideOf fro
 
 abbrev pub moving : ℕ → ℕ → Bool → Node → Head
 moving node other fromY w = headAt node other fromY (ReadParent SameSet (sideOf fromY) (w .rank) (w .parent))
+
+pub record Ready (words : List ℕ) (node other used left : ℕ) : Type 0 where
+  pub admitted : Admitted 4096 (map decode words)
+  pub inside : node < 4096
+  pub within : other < 4096
+  -- no more grants than the largest budget
+  pub room : used + left ≤ 65535
+
+pub record Lower (words : List ℕ) (node word : ℕ) : Type 0 where
+  -- nobody else writes, so it is still the node's word
+  pub read : word ≡ wordAt words node
+  pub lower : parentOf word ≢ node
 
 -- Grants used are below 65,536.
 abbrev pub packed : ℕ → ℕ → ℕ

@@ -1,18 +1,17 @@
 // The counter enquiry of document 01: a same-set alone on a lent table, with a budget of grants; and the walk to a root.
 use word::Node;
 ghost use mathlib.Core.Path.{_≡_};
-ghost use mathlib.Core.Logic.{_≢_};
 ghost use mathlib.Core.List.{map};
-ghost use Prim.Native.Nat.{_+_, _-_, _<_, _≤_};
+ghost use Prim.Native.Nat.{_-_, _<_, _≤_};
 ghost use lib.ListN.{length, take};
 ghost use lib.Seq.{sets};
-ghost use Rattle.word.specs.Word.{rankOf, parentOf, before, decode, encode};
+ghost use Rattle.word.specs.Word.{rankOf, before, decode, encode};
 ghost use Rattle.process.specs.declared.Access.the-variants.{Cas};
 ghost use Rattle.forest.specs.Forest.{Leads};
 ghost use Rattle.rules.specs.Table.{parent, freshFrom, touched};
-ghost use Rattle.query.specs.Query.{wordAt, isFaulty, anyFaulty, refusal, steps, queried};
+ghost use Rattle.query.specs.Query.{isFaulty, anyFaulty, refusal, steps, queried};
 ghost use Rattle.query.specs.Admitted.{Admitted};
-ghost use Rattle.query.specs.Numbers.{looking, moving, packed as Numbers·packed, told as Numbers·told, ended, padded};
+ghost use Rattle.query.specs.Numbers.{looking, moving, Ready, Lower, packed as Numbers·packed, told as Numbers·told, ended};
 ghost use Rattle.query.specs.Faithful.{Faithful};
 
 // What an enquiry is told: 0, its answer (3 yes, 4 no, 0 spent) and the grants used; or a refusal's number and zeros.
@@ -116,7 +115,8 @@ fn told(end: u32) -> Queried
 fn halve(table: &mut [u32; 4096], node: u32, word: u32, above: u32)
     requires { ⌜ Admitted 4096 (map decode (now table)) ⌝ }
     requires { ⌜ (node < 4096) × (rankOf word ≤ 12) × (above < 4096) ⌝ }
-    ensures { λ _. ⌜ now (table .exit) ≡ map encode (touched (map decode (now (table .entry))) (Cas node (decode word) (record { rank = rankOf word; parent = above }))) ⌝ }
+    ensures { λ _. ⌜ now (table .exit) ≡ map encode (touched (map decode (now (table .entry)))
+        (Cas node (decode word) (record { rank = rankOf word; parent = above }))) ⌝ }
 {
     if table[node as usize] == word {
         table[node as usize] = word::encoded(Node {
@@ -129,9 +129,9 @@ fn halve(table: &mut [u32; 4096], node: u32, word: u32, above: u32)
 // Looks at a node: one grant, after which the enquiry moves on from it, or its find ends there. The find from x hands on
 // to the find from y; that one compares, and where the two differ, the next grant reads x's word again.
 fn look(table: &mut [u32; 4096], node: u32, other: u32, from_y: bool, used: u32, left: u32) -> u32
-    requires { ⌜ Admitted 4096 (map decode (now table)) ⌝ }
-    requires { ⌜ (node < 4096) × (other < 4096) × (used + left ≤ 65535) ⌝ }
-    ensures { λ r. ⌜ ended r (now (table .exit)) ≡ steps left used (looking node other «from_y») (map decode (now (table .entry))) ⌝ }
+    requires { ⌜ Ready (now table) node other used left ⌝ }
+    ensures { λ r. ⌜ ended r (now (table .exit))
+        ≡ steps left used (looking node other «from_y») (map decode (now (table .entry))) ⌝ }
 {
     if left == 0 {
         return packed(0, used);
@@ -143,7 +143,7 @@ fn look(table: &mut [u32; 4096], node: u32, other: u32, from_y: bool, used: u32,
     if !from_y {
         return look(table, other, node, true, used + 1, left - 1);
     }
-    if node == other {
+    if other == node {
         return packed(3, used + 1);
     }
     if left == 1 {
@@ -166,10 +166,10 @@ fn move_on(
     used: u32,
     left: u32,
 ) -> u32
-    requires { ⌜ Admitted 4096 (map decode (now table)) ⌝ }
-    requires { ⌜ (node < 4096) × (other < 4096) × (used + left ≤ 65535) ⌝ }
-    requires { ⌜ (word ≡ wordAt (now table) node) × (parentOf word ≢ node) ⌝ }
-    ensures { λ r. ⌜ ended r (now (table .exit)) ≡ steps left used (moving node other «from_y» (decode word)) (map decode (now (table .entry))) ⌝ }
+    requires { ⌜ Ready (now table) node other used left ⌝ }
+    requires { ⌜ Lower (now table) node word ⌝ }
+    ensures { λ r. ⌜ ended r (now (table .exit))
+        ≡ steps left used (moving node other «from_y» (decode word)) (map decode (now (table .entry))) ⌝ }
 {
     if left == 0 {
         return packed(0, used);
@@ -240,7 +240,8 @@ fn enquire(table: &mut [u32], x: u32, y: u32, budget: u16) -> u32
 // the sets stay, and yes and no are right.
 pub fn query(table: &mut [u32], x: u32, y: u32, budget: u16) -> Queried
     ensures exact { λ r. ⌜ record { queried = r; table = now (table .exit) } ≡ queried (now (table .entry)) x y budget ⌝ }
-    ensures faithful { λ r. ⌜ (r .number ≡ 0 → Faithful (now (table .entry)) x y budget (record { queried = r; table = now (table .exit) })) ⌝ }
+    ensures faithful { λ r. ⌜ (r .number ≡ 0
+        → Faithful (now (table .entry)) x y budget (record { queried = r; table = now (table .exit) })) ⌝ }
 {
     let number = refusal_of(table, x, y);
     if number != 0 {

@@ -1,13 +1,10 @@
 -- `query::look` and `query::move_on`: each return is the steps from the head that its numbers stand for; the grants left fall.
-use denote.Ref.{now}
 use mathlib.Core.Path.{refl, sym, _∙_}
 use native.Mathlib.Omega.{arith}
 use borrow.Author.Needs.{needs}
-use Rattle.word.specs.Word.{parentOf, decode}
-use Rattle.query.specs.Numbers.{looking, moving}
-use Rattle.query.proofs.Grants.{swapping, again, spent, looked-on, looked-turned, looked-met, looked-spent, looked-no, looked-again}
-use Rattle.query.proofs.Grants.{own-rank, parent-inside, above-inside, moved-once, move-admitted, next-inside, moved-twice, moved}
-use Prim.Native.Nat.{ℕ, _+_, _-_, _<_}
+use Rattle.query.proofs.Looks.{never, looked-on, looked-turned, looked-met, looked-spent, looked-no, looked-again}
+use Rattle.query.proofs.Moves.{own-rank, up-inside, above-inside, once-spent, twice-spent, moved-ready, moved}
+use Prim.Native.Nat.{ℕ, _<_}
 use borrow.Fn.Kinds.{In}
 use borrow.Fn.PlainCycle.{Measures, is, falls, and}
 use Rattle.query.proofs.look.Reads as look
@@ -71,9 +68,7 @@ look-packed-requires t c κs = search needs
 look-returns : (t : ℕ) → look-lts.Need-returns (look-claims t) (look-at t) look.Post
 look-returns t c =
     let start = c .before .before in
-    let a = start .args in
-    spent (now (a .table)) (start .pre .1 .0) (a .left) (a .used) (looking (a .node) (a .other) (a .from-y)) _ (c .before .if1 .taken)
-    (omega (arith, start .pre .1 .1)) (c .packed .ensures)
+    never _ (start .pre .1) (c .before .if1 .taken) (c .packed .ensures)
 
 look-mul-word : (t : ℕ) → look-lts.Need-mul-word (look-claims t) (look-at t) look.Post
 look-mul-word t c = search needs
@@ -92,27 +87,24 @@ look-sub-move-on t c = search needs
 
 look-move-on-requires : (t : ℕ) → look-lts.Need-move-on-requires (look-claims t) (look-at t) look.Post
 look-move-on-requires t c κs =
-    let start = c .before .before .before .before .before in
-    let a = start .args in
-    let read = c .before .before .parent in (
+    let read = c .before .before in
+    let start = read .before .before .before in
+    let ready = start .pre .1 in (
       omega (arith, start .pre .0),
       (
-        start .pre .1 .0,
-        (
-          (start .pre .1 .1 .0, start .pre .1 .1 .1, omega (arith, start .pre .1 .1)),
-          (refl, λ e. c .before .if2 .taken (read .ensures ∙ e)),
-        ),
+        record { admitted = ready .admitted; inside = ready .inside; within = ready .within; room = omega (arith, ready .room) },
+        record { read = refl; lower = λ e. c .before .if2 .taken (read .parent .ensures ∙ e) },
       ),
     )
 
 look-returns-2 : (t : ℕ) → look-lts.Need-returns-2 (look-claims t) (look-at t) look.Post
 look-returns-2 t c =
-    let start = c .before .before .before .before .before .before in
-    let a = start .args in
+    let lower = c .before .before in
+    let read = lower .before in
+    let some = read .before .before in
+    let start = some .before in
     c .move-on .ensures
-    ∙ sym (looked-on (now (a .table)) (a .node) (a .other) (a .from-y) (a .left) (a .used) (start .pre .1 .0) (start .pre .1 .1 .0)
-    (c .before .before .before .before .before .if1 .left)
-    (λ e. c .before .before .if2 .taken (c .before .before .before .parent .ensures ∙ e)))
+    ∙ sym (looked-on (start .pre .1) (start .args .from-y) (some .if1 .left) (read .parent .ensures) (lower .if2 .taken))
 
 look-add-look : (t : ℕ) → look-lts.Need-add-look (look-claims t) (look-at t) look.Post
 look-add-look t c = search needs
@@ -123,17 +115,21 @@ look-sub-look t c = search needs
 look-look-requires : (t : ℕ) → look-lts.Need-look-requires (look-claims t) (look-at t) look.Post
 look-look-requires t c κs =
     let start = c .before .before .before .before .before .before in
-    let a = start .args in
-    (omega (arith, start .pre .0), (start .pre .1 .0, (start .pre .1 .1 .1, start .pre .1 .1 .0, omega (arith, start .pre .1 .1))))
+    let ready = start .pre .1 in (
+      omega (arith, start .pre .0),
+      record { admitted = ready .admitted; inside = ready .within; within = ready .inside; room = omega (arith, ready .room) },
+    )
 
 look-returns-3 : (t : ℕ) → look-lts.Need-returns-3 (look-claims t) (look-at t) look.Post
 look-returns-3 t c =
-    let start = c .before .before .before .before .before .before .before in
-    let a = start .args in
+    let first = c .before .before in
+    let root = first .before in
+    let read = root .before in
+    let some = read .before .before in
+    let start = some .before in
     c .look .ensures
-    ∙ sym (looked-turned (now (a .table)) (a .node) (a .other) (a .from-y) (a .left) (a .used) (start .pre .1 .0) (start .pre .1 .1 .0)
-    (c .before .before .before .before .before .before .if1 .left) (sym (c .before .before .before .before .parent .ensures) ∙ c .before .before .before .if2 .left)
-    (c .before .before .if3 .taken))
+    ∙ sym (looked-turned (start .pre .1) (start .args .from-y) (some .if1 .left) (read .parent .ensures) (root .if2 .left)
+    (first .if3 .taken))
 
 look-add-packed : (t : ℕ) → look-lts.Need-add-packed (look-claims t) (look-at t) look.Post
 look-add-packed t c = search needs
@@ -143,11 +139,14 @@ look-packed-requires-2 t c κs = search needs
 
 look-returns-4 : (t : ℕ) → look-lts.Need-returns-4 (look-claims t) (look-at t) look.Post
 look-returns-4 t c =
-    let start = c .before .before .before .before .before .before .before in
-    let a = start .args in
-    looked-met (now (a .table)) (a .node) (a .other) (a .from-y) (a .left) (a .used) (start .pre .1 .0) (start .pre .1 .1 .0)
-    (c .before .before .before .before .before .before .if1 .left) (sym (c .before .before .before .before .parent .ensures) ∙ c .before .before .before .if2 .left)
-    (c .before .before .if3 .left) (sym (c .before .if4 .taken)) _ (omega (arith, start .pre .1 .1)) (c .packed2 .ensures)
+    let met = c .before in
+    let second = met .before in
+    let root = second .before in
+    let read = root .before in
+    let some = read .before .before in
+    let start = some .before in
+    looked-met (start .pre .1) (start .args .from-y) (some .if1 .left) (read .parent .ensures) (root .if2 .left)
+    (second .if3 .left) (met .if4 .taken) (c .packed2 .ensures)
 
 look-add-packed-2 : (t : ℕ) → look-lts.Need-add-packed-2 (look-claims t) (look-at t) look.Post
 look-add-packed-2 t c = search needs
@@ -157,12 +156,14 @@ look-packed-requires-3 t c κs = search needs
 
 look-returns-5 : (t : ℕ) → look-lts.Need-returns-5 (look-claims t) (look-at t) look.Post
 look-returns-5 t c =
-    let start = c .before .before .before .before .before .before .before .before in
-    let a = start .args in
-    looked-spent (now (a .table)) (a .node) (a .other) (a .from-y) (a .left) (a .used) (start .pre .1 .0) (start .pre .1 .1 .0)
-    (c .before .before .before .before .before .before .before .if1 .left) (sym (c .before .before .before .before .before .parent .ensures) ∙ c .before .before .before .before .if2 .left)
-    (c .before .before .before .if3 .left) (λ e. c .before .before .if4 .left (sym e)) (c .before .if5 .taken) _ (omega (arith, start .pre .1 .1))
-    (c .packed3 .ensures)
+    let apart = c .before .before in
+    let second = apart .before in
+    let root = second .before in
+    let read = root .before in
+    let some = read .before .before in
+    let start = some .before in
+    looked-spent (start .pre .1) (start .args .from-y) (some .if1 .left) (read .parent .ensures) (root .if2 .left)
+    (second .if3 .left) (apart .if4 .left) (c .before .if5 .taken) (c .packed3 .ensures)
 
 look-mul-parent : (t : ℕ) → look-lts.Need-mul-parent (look-claims t) (look-at t) look.Post
 look-mul-parent t c = search needs
@@ -181,12 +182,16 @@ look-packed-requires-4 t c κs = search needs
 
 look-returns-6 : (t : ℕ) → look-lts.Need-returns-6 (look-claims t) (look-at t) look.Post
 look-returns-6 t c =
-    let start = c .before .before .before .before .before .before .before .before .before .before .before in
-    let a = start .args in
-    looked-no (now (a .table)) (a .node) (a .other) (a .from-y) (a .left) (a .used) (start .pre .1 .0) (start .pre .1 .1 .0)
-    (c .before .before .before .before .before .before .before .before .before .before .if1 .left) (sym (c .before .before .before .before .before .before .before .before .parent .ensures) ∙ c .before .before .before .before .before .before .before .if2 .left)
-    (c .before .before .before .before .before .before .if3 .left) (λ e. c .before .before .before .before .before .if4 .left (sym e)) (c .before .before .before .before .if5 .left) (start .pre .1 .1 .1)
-    (sym (c .before .before .parent2 .ensures) ∙ c .before .if6 .taken) _ (omega (arith, start .pre .1 .1)) (c .packed4 .ensures)
+    let again = c .before .before in
+    let two = again .before .before in
+    let apart = two .before in
+    let second = apart .before in
+    let root = second .before in
+    let read = root .before in
+    let some = read .before .before in
+    let start = some .before in
+    looked-no (start .pre .1) (start .args .from-y) (some .if1 .left) (read .parent .ensures) (root .if2 .left)
+    (second .if3 .left) (apart .if4 .left) (two .if5 .left) (again .parent2 .ensures) (c .before .if6 .taken) (c .packed4 .ensures)
 
 look-add-look-2 : (t : ℕ) → look-lts.Need-add-look-2 (look-claims t) (look-at t) look.Post
 look-add-look-2 t c = search needs
@@ -197,18 +202,25 @@ look-sub-look-2 t c = search needs
 look-look-requires-2 : (t : ℕ) → look-lts.Need-look-requires-2 (look-claims t) (look-at t) look.Post
 look-look-requires-2 t c κs =
     let start = c .before .before .before .before .before .before .before .before .before .before .before in
-    let a = start .args in
-    (omega (arith, start .pre .0), (start .pre .1 .0, (start .pre .1 .1 .1, start .pre .1 .1 .0, omega (arith, start .pre .1 .1))))
+    let ready = start .pre .1 in (
+      omega (arith, start .pre .0),
+      record { admitted = ready .admitted; inside = ready .within; within = ready .inside; room = omega (arith, ready .room) },
+    )
 
 look-returns-7 : (t : ℕ) → look-lts.Need-returns-7 (look-claims t) (look-at t) look.Post
 look-returns-7 t c =
-    let start = c .before .before .before .before .before .before .before .before .before .before .before .before in
-    let a = start .args in
+    let moved = c .before .before in
+    let again = moved .before in
+    let two = again .before .before in
+    let apart = two .before in
+    let second = apart .before in
+    let root = second .before in
+    let read = root .before in
+    let some = read .before .before in
+    let start = some .before in
     c .look2 .ensures
-    ∙ sym (looked-again (now (a .table)) (a .node) (a .other) (a .from-y) (a .left) (a .used) (start .pre .1 .0) (start .pre .1 .1 .0)
-    (c .before .before .before .before .before .before .before .before .before .before .before .if1 .left) (sym (c .before .before .before .before .before .before .before .before .before .parent .ensures) ∙ c .before .before .before .before .before .before .before .before .if2 .left)
-    (c .before .before .before .before .before .before .before .if3 .left) (λ e. c .before .before .before .before .before .before .if4 .left (sym e)) (c .before .before .before .before .before .if5 .left) (start .pre .1 .1 .1)
-    (λ e. c .before .before .if6 .left (c .before .before .before .parent2 .ensures ∙ e)))
+    ∙ sym (looked-again (start .pre .1) (start .args .from-y) (some .if1 .left) (read .parent .ensures) (root .if2 .left)
+    (second .if3 .left) (apart .if4 .left) (two .if5 .left) (again .parent2 .ensures) (moved .if6 .left))
 
 move-on-packed-requires : (t : ℕ) → move-on-lts.Need-packed-requires (move-on-claims t) (move-on-at t) move-on.Post
 move-on-packed-requires t c κs = search needs
@@ -216,9 +228,7 @@ move-on-packed-requires t c κs = search needs
 move-on-returns : (t : ℕ) → move-on-lts.Need-returns (move-on-claims t) (move-on-at t) move-on.Post
 move-on-returns t c =
     let start = c .before .before in
-    let a = start .args in
-    spent (now (a .table)) (start .pre .1 .0) (a .left) (a .used) (moving (a .node) (a .other) (a .from-y) (decode (a .word))) _
-    (c .before .if1 .taken) (omega (arith, start .pre .1 .1)) (c .packed .ensures)
+    never _ (start .pre .1 .0) (c .before .if1 .taken) (c .packed .ensures)
 
 move-on-parent-requires : (t : ℕ) → move-on-lts.Need-parent-requires (move-on-claims t) (move-on-at t) move-on.Post
 move-on-parent-requires t c κs = search needs
@@ -232,13 +242,7 @@ move-on-mul-parent t c = search needs
 move-on-element-copy-out-parent : (t : ℕ) → move-on-lts.Need-element-copy-out-parent (move-on-claims t) (move-on-at t) move-on.Post
 move-on-element-copy-out-parent t c =
     let start = c .before .before in
-    let a = start .args in
-    omega (
-      arith,
-      c .parent .ensures,
-      parent-inside (now (a .table)) (a .node) (a .other) (a .word) (a .from-y) (start .pre .1 .0) (start .pre .1 .1 .0 .0)
-          (start .pre .1 .1 .1 .0) (start .pre .1 .1 .1 .1),
-    )
+    up-inside (start .pre .1 .0) (start .pre .1 .1) (c .parent .ensures)
 
 move-on-parent-requires-2 : (t : ℕ) → move-on-lts.Need-parent-requires-2 (move-on-claims t) (move-on-at t) move-on.Post
 move-on-parent-requires-2 t c κs = search needs
@@ -251,29 +255,22 @@ move-on-packed-requires-2 t c κs = search needs
 
 move-on-returns-2 : (t : ℕ) → move-on-lts.Need-returns-2 (move-on-claims t) (move-on-at t) move-on.Post
 move-on-returns-2 t c =
-    let start = c .before .before .before .before .before .before in
-    let a = start .args in
-    let above = c .before .before .parent2 in
-    spent (now (a .table)) (start .pre .1 .0) (a .left - 1) (a .used + 1)
-    (swapping (a .node) (a .other) (a .from-y) (decode (a .word)) (above .result)) _
-    (omega (arith, c .before .if2 .taken)) (omega (arith, start .pre .1 .1, c .before .if2 .taken)) (c .packed2 .ensures)
-    ∙ sym (moved-once (now (a .table)) (a .node) (a .other) (a .word) (a .from-y) (start .pre .1 .0) (start .pre .1 .1 .0 .0)
-    (start .pre .1 .1 .1 .0) (start .pre .1 .1 .1 .1) (above .result)
-    (rw (c .before .before .before .before .parent .ensures) at (above .ensures)) (a .left) (a .used) (omega (arith, c .before .if2 .taken)))
+    let above = c .before .before in
+    let up = above .before .before in
+    let start = up .before .before in
+    once-spent (start .pre .1 .0) (start .pre .1 .1) (up .parent .ensures) (above .parent2 .ensures) (start .args .from-y)
+    (c .before .if2 .taken)
+    (c .packed2 .ensures)
 
 move-on-halve-requires : (t : ℕ) → move-on-lts.Need-halve-requires (move-on-claims t) (move-on-at t) move-on.Post
 move-on-halve-requires t c κs =
-    let start = c .before .before .before .before .before .before in
-    let a = start .args in
-    let above = c .before .before .parent2 in (
-      start .pre .1 .0,
-      (
-        start .pre .1 .1 .0 .0,
-        own-rank (now (a .table)) (a .node) (a .other) (a .word) (a .from-y) (start .pre .1 .0) (start .pre .1 .1 .0 .0)
-            (start .pre .1 .1 .1 .0) (start .pre .1 .1 .1 .1),
-        above-inside (now (a .table)) (a .node) (a .other) (a .word) (a .from-y) (start .pre .1 .0) (start .pre .1 .1 .0 .0)
-            (start .pre .1 .1 .1 .0) (start .pre .1 .1 .1 .1) (above .result) (rw (c .before .before .before .before .parent .ensures) at (above .ensures)),
-      ),
+    let above = c .before .before in
+    let up = above .before .before in
+    let start = up .before .before in
+    let ready = start .pre .1 .0 in
+    let lower = start .pre .1 .1 in (
+      ready .admitted,
+      (ready .inside, own-rank ready lower (up .parent .ensures), above-inside ready lower (up .parent .ensures) (above .parent2 .ensures)),
     )
 
 move-on-add-packed-2 : (t : ℕ) → move-on-lts.Need-add-packed-2 (move-on-claims t) (move-on-at t) move-on.Post
@@ -284,16 +281,12 @@ move-on-packed-requires-3 t c κs = search needs
 
 move-on-returns-3 : (t : ℕ) → move-on-lts.Need-returns-3 (move-on-claims t) (move-on-at t) move-on.Post
 move-on-returns-3 t c =
-    let start = c .before .before .before .before .before .before .before .before .before in
-    let a = start .args in
-    spent (c .before .before .halve .last .0) (move-admitted (now (a .table)) (a .node) (a .other) (a .word) (a .from-y) (start .pre .1 .0) (start .pre .1 .1 .0 .0)
-    (start .pre .1 .1 .1 .0) (start .pre .1 .1 .1 .1) (c .before .before .before .before .before .parent2 .result)
-    (rw (c .before .before .before .before .before .before .before .parent .ensures) at (c .before .before .before .before .before .parent2 .ensures)) (c .before .before .halve .last .0) (c .before .before .halve .ensures)) (a .left - 2) (a .used + 2)
-    (again (a .node) (a .other) (a .from-y) (parentOf (a .word))) _ (omega (arith, c .before .if3 .taken))
-    (omega (arith, start .pre .1 .1 .0, c .before .if3 .taken)) (c .packed3 .ensures)
-    ∙ sym (moved-twice (now (a .table)) (a .node) (a .other) (a .word) (a .from-y) (start .pre .1 .0) (start .pre .1 .1 .0 .0)
-    (start .pre .1 .1 .1 .0) (start .pre .1 .1 .1 .1) (c .before .before .before .before .before .parent2 .result)
-    (rw (c .before .before .before .before .before .before .before .parent .ensures) at (c .before .before .before .before .before .parent2 .ensures)) (c .before .before .halve .last .0) (c .before .before .halve .ensures) (a .left) (a .used) (omega (arith, c .before .if3 .taken)))
+    let halved = c .before .before in
+    let above = halved .before .before .before in
+    let up = above .before .before in
+    let start = up .before .before in
+    twice-spent (start .pre .1 .0) (start .pre .1 .1) (up .parent .ensures) (above .parent2 .ensures) (halved .halve .ensures)
+    (start .args .from-y) (c .before .if3 .taken) (c .packed3 .ensures)
 
 move-on-cast-parent-2 : (t : ℕ) → move-on-lts.Need-cast-parent-2 (move-on-claims t) (move-on-at t) move-on.Post
 move-on-cast-parent-2 t c = search needs
@@ -303,14 +296,9 @@ move-on-mul-parent-2 t c = search needs
 
 move-on-element-copy-out-parent-2 : (t : ℕ) → move-on-lts.Need-element-copy-out-parent-2 (move-on-claims t) (move-on-at t) move-on.Post
 move-on-element-copy-out-parent-2 t c =
-    let start = c .before .before .before .before .before .before .before .before in
-    let a = start .args in
-    omega (
-      arith,
-      c .before .before .before .before .before .before .parent .ensures,
-      parent-inside (now (a .table)) (a .node) (a .other) (a .word) (a .from-y) (start .pre .1 .0) (start .pre .1 .1 .0 .0)
-          (start .pre .1 .1 .1 .0) (start .pre .1 .1 .1 .1),
-    )
+    let up = c .before .before .before .before .before .before in
+    let start = up .before .before in
+    up-inside (start .pre .1 .0) (start .pre .1 .1) (up .parent .ensures)
 
 move-on-parent-requires-3 : (t : ℕ) → move-on-lts.Need-parent-requires-3 (move-on-claims t) (move-on-at t) move-on.Post
 move-on-parent-requires-3 t c κs = search needs
@@ -323,34 +311,25 @@ move-on-sub-look t c = search needs
 
 move-on-look-requires : (t : ℕ) → move-on-lts.Need-look-requires (move-on-claims t) (move-on-at t) move-on.Post
 move-on-look-requires t c κs =
-    let start = c .before .before .before .before .before .before .before .before .before .before .before in
-    let a = start .args in
-    let next = c .before .parent3 in
-    let read = rw (c .before .before .before .before .before .before .before .before .before .parent .ensures) at (next .ensures) in (
-      omega (arith, start .pre .0),
-      (
-        move-admitted (now (a .table)) (a .node) (a .other) (a .word) (a .from-y) (start .pre .1 .0) (start .pre .1 .1 .0 .0)
-            (start .pre .1 .1 .1 .0) (start .pre .1 .1 .1 .1) (c .before .before .before .before .before .before .before .parent2 .result)
-            (rw (c .before .before .before .before .before .before .before .before .before .parent .ensures) at (c .before .before .before .before .before .before .before .parent2 .ensures)) (c .before .before .before .before .halve .last .0) (c .before .before .before .before .halve .ensures),
-        (
-          next-inside (now (a .table)) (a .node) (a .other) (a .word) (a .from-y) (start .pre .1 .0) (start .pre .1 .1 .0 .0)
-              (start .pre .1 .1 .1 .0) (start .pre .1 .1 .1 .1) (c .before .before .before .before .before .before .before .parent2 .result)
-              (rw (c .before .before .before .before .before .before .before .before .before .parent .ensures) at (c .before .before .before .before .before .before .before .parent2 .ensures)) (c .before .before .before .before .halve .last .0) (c .before .before .before .before .halve .ensures) (next .result) read,
-          start .pre .1 .1 .0 .1,
-          omega (arith, start .pre .1 .1 .0),
-        ),
-      ),
-    )
+    let next = c .before in
+    let halved = next .before .before .before in
+    let above = halved .before .before .before in
+    let up = above .before .before in
+    let start = up .before .before in
+    let ready = moved-ready (start .pre .1 .0) (start .pre .1 .1) (up .parent .ensures) (above .parent2 .ensures) (halved .halve .ensures)
+    (next .parent3 .ensures) (omega arith) in
+    (omega (arith, start .pre .0), ready)
 
 move-on-returns-4 : (t : ℕ) → move-on-lts.Need-returns-4 (move-on-claims t) (move-on-at t) move-on.Post
 move-on-returns-4 t c =
-    let start = c .before .before .before .before .before .before .before .before .before .before .before .before in
-    let a = start .args in
-    let next = c .before .before .parent3 in
-    let read = rw (c .before .before .before .before .before .before .before .before .before .before .parent .ensures) at (next .ensures) in
-    c .look .ensures ∙ sym (moved (now (a .table)) (a .node) (a .other) (a .word) (a .from-y) (start .pre .1 .0) (start .pre .1 .1 .0 .0)
-    (start .pre .1 .1 .1 .0) (start .pre .1 .1 .1 .1) (c .before .before .before .before .before .before .before .before .parent2 .result)
-    (rw (c .before .before .before .before .before .before .before .before .before .before .parent .ensures) at (c .before .before .before .before .before .before .before .before .parent2 .ensures)) (c .before .before .before .before .before .halve .last .0) (c .before .before .before .before .before .halve .ensures) (a .left) (a .used) (omega arith) (next .result) read)
+    let next = c .before .before in
+    let halved = next .before .before .before in
+    let above = halved .before .before .before in
+    let up = above .before .before in
+    let start = up .before .before in
+    c .look .ensures
+    ∙ sym (moved (start .pre .1 .0) (start .pre .1 .1) (up .parent .ensures) (above .parent2 .ensures) (halved .halve .ensures)
+    (next .parent3 .ensures) (omega arith) (start .args .from-y))
 
 pub +look+move-on-spec : {M : Type 1} → statement M
 +look+move-on-spec = close μ-look μ-move-on (λ t. look-lts.spec (look-claims t)

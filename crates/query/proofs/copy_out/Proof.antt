@@ -41,8 +41,10 @@ loop-again : tie.Need-loop-again Inv-loop μ-loop
 loop-again c =
     let start = c .before .before .before in
     let turn = c .before .before .loop .inv in
-    let all = length-take-le (length (now (start .args .table))) (now (start .args .nodes)) (omega (arith, start .pre)) in
-    copying-on turn _ (omega (arith, all, turn .size)) (sym (getD-take (length (now (start .args .table))) (now (start .args .nodes)) _ 0 (omega (arith, turn .size))))
+    let n = length (now (start .args .table)) in
+    let nodes = now (start .args .nodes) in
+    let all = length-take-le n nodes (omega (arith, start .pre)) in
+    copying-on turn _ (omega (arith, all, turn .size)) (sym (getD-take n nodes _ 0 (omega (arith, turn .size))))
 
 same-length : tie.Need-same-length Inv-loop μ-loop
 same-length c = c .before .loop .inv .size
@@ -51,9 +53,10 @@ returns : tie.Need-returns Inv-loop μ-loop
 returns c =
     let start = c .before .before in
     let end = c .before .loop .inv in
-    let words = take (length (now (start .args .table))) (now (start .args .nodes)) in
-    let all = length-take-le (length (now (start .args .table))) (now (start .args .nodes)) (omega (arith, start .pre)) in
-    copying-done end (omega (arith, all, end .size)) ∙ sets-all (now (start .args .table)) words all
+    let n = length (now (start .args .table)) in
+    let nodes = now (start .args .nodes) in
+    let all = length-take-le n nodes (omega (arith, start .pre)) in
+    copying-done end (omega (arith, all, end .size)) ∙ sets-all (now (start .args .table)) (take n nodes) all
 
 pub copy-out-spec : {M : Type 1} → statement M
 copy-out-spec =

@@ -1,10 +1,10 @@
 -- `query::enquire` fills its array, looks at x, and gives the array's front back.
 use denote.Ref.{now}
-use mathlib.Core.Path.{sym, ap, _∙_}
+use mathlib.Core.Path.{ap, _∙_}
 use native.Mathlib.Omega.{arith}
 use borrow.Author.Needs.{needs}
 use Rattle.query.specs.Numbers.{ended}
-use Rattle.query.proofs.Enquiry.{enquiry-few, enquiry-x, enquiry-y, enquiry-array, enquiry-admitted, enquiry-size, enquired}
+use Rattle.query.proofs.Enquiry.{enquiry-few, enquiry-array, enquiry-ready, enquiry-size, enquired}
 use Rattle.query.proofs.enquire.Statement.{statement}
 use Rattle.query.proofs.enquire.Tie as tie
 
@@ -21,22 +21,23 @@ pad-requires c κs =
 look-requires : tie.Need-look-requires
 look-requires c κs =
     let pad = c .before .pad in
-    let copy = c .before .before .before .copy-in in
-    let start = c .before .before .before .before .before .before .before in
+    let copied = c .before .before .before in
+    let start = copied .before .before .before .before in
     let words = now (start .args .table) in
+    let copy = copied .copy-in in
     let x = start .args .x in
-    let y = start .args .y in (
-      enquiry-admitted words x y (start .pre) (pad .last .0)
-          (enquiry-array words x y (start .pre) (copy .last .0) (pad .last .0) (copy .ensures) (pad .ensures)),
-      (enquiry-x words x y (start .pre), enquiry-y words x y (start .pre), omega (arith, start .fits .budget)),
-    )
+    let y = start .args .y in
+    let array = enquiry-array words x y (start .pre) (copy .last .0) (pad .last .0) (copy .ensures) (pad .ensures) in
+    enquiry-ready words x y (start .pre) (pad .last .0) _ array (omega (arith, start .fits .budget))
 
 copy-out-requires : tie.Need-copy-out-requires
 copy-out-requires c κs =
-    let look = c .before .before .look in
-    let pad = c .before .before .before .before .pad in
-    let copy = c .before .before .before .before .before .before .copy-in in
-    let start = c .before .before .before .before .before .before .before .before .before .before in
+    let looked = c .before .before in
+    let look = looked .look in
+    let pad = looked .before .before .pad in
+    let copied = looked .before .before .before .before in
+    let copy = copied .copy-in in
+    let start = copied .before .before .before .before in
     let words = now (start .args .table) in
     let x = start .args .x in
     let y = start .args .y in
@@ -54,8 +55,9 @@ returns c =
     let looked = c .before .before .before .before .before in
     let look = looked .look in
     let pad = looked .before .before .pad in
-    let copy = looked .before .before .before .before .copy-in in
-    let start = looked .before .before .before .before .before .before .before .before in
+    let copied = looked .before .before .before .before in
+    let copy = copied .copy-in in
+    let start = copied .before .before .before .before in
     let words = now (start .args .table) in
     let x = start .args .x in
     let y = start .args .y in

@@ -1,7 +1,7 @@
 -- `query::halve` writes only if the word is still the one read.
 use denote.Ref.{now}
 use borrow.Author.Needs.{needs}
-use Rattle.query.proofs.Grants.{swap-wrote, swap-failed}
+use Rattle.query.proofs.Moves.{swap-wrote, swap-failed}
 use Rattle.query.proofs.halve.Statement.{statement}
 use Rattle.query.proofs.halve.Tie as tie
 
@@ -33,7 +33,8 @@ returns : tie.Need-returns
 returns c =
     let start = c .before .before .before .before in
     let a = start .args in
-    swap-wrote (now (a .table)) (a .node) (a .word) (a .above) (start .pre .0) (start .pre .1 .0) (start .pre .1 .1) (c .before .before .if1 .taken) _
+    swap-wrote (now (a .table)) (a .node) (a .word) (a .above) (start .pre .0) (start .pre .1 .0) (start .pre .1 .1)
+    (c .before .before .if1 .taken) _
     (rw (c .before .rank .ensures) at (c .encoded .ensures))
 
 returns-2 : tie.Need-returns-2
