@@ -15,7 +15,7 @@ use native.Mathlib.Omega.{arith}
 use borrow.Author.Tests.{eq-eqb, ne-eqb}
 use Rattle.job.specs.declared.Kind.the-variants.{SameSet}
 use Rattle.job.specs.declared.Answer.{Answer}
-use Rattle.job.specs.declared.Answer.the-variants.{Unfinished, Yes, No}
+use Rattle.job.specs.declared.Answer.the-variants.{Unfinished, Joined, Together, Yes, No}
 use Rattle.job.specs.Job.{answerNumber}
 use Rattle.word.specs.declared.Node.{Node}
 use Rattle.word.specs.Word.{decode}
@@ -92,14 +92,22 @@ module _ (t : List Node) (node other left used left′ used′ : ℕ) (one : lef
 
 -- ---- the end, on words
 
+-- answers have the report's numbers
+pub answer-small : (answer : Answer) → answerNumber answer ≤ 4
+answer-small Unfinished = omega arith
+answer-small Joined = omega arith
+answer-small Together = omega arith
+answer-small Yes = omega arith
+answer-small No = omega arith
+
 module _ (words : List ℕ) {n : ℕ} (admitted : Admitted n (map decode words)) where
-  pub told-answer : (answer : Answer) (used end : ℕ) → used ≤ 65535 → end ≡ packed (answerNumber answer) used
+  pub told-answer : (answer : Answer) (used end : ℕ) → used ≤ 65535 → end ≡ packed answer used
       → ended end words ≡ answered answer used (map decode words)
   told-answer answer used end small e =
       let first : end / 65536 ≡ answerNumber answer = omega (arith, e) in
       let rest : end % 65536 ≡ used = omega (arith, e) in
       λ i. record { queried = record { number = 0; answer = first i; used = rest i }; table = words-kept words admitted i }
 
-  pub spent : (left used : ℕ) (h : Head) (end : ℕ) → left ≡ 0 → used ≤ 65535 → end ≡ packed 0 used
+  pub spent : (left used : ℕ) (h : Head) (end : ℕ) → left ≡ 0 → used ≤ 65535 → end ≡ packed Unfinished used
       → ended end words ≡ steps left used h (map decode words)
   spent left used h end none small e = told-answer Unfinished used end small e ∙ ap (λ l. steps l used h (map decode words)) (sym none)

@@ -8,7 +8,7 @@ use mathlib.Core.List.{List, map}
 use Prim.Native.Nat.{ℕ, _+_, _-_, _<_}
 use native.Mathlib.Omega.{arith}
 use lib.ListN.{length, length-map}
-use Rattle.job.specs.declared.Answer.the-variants.{Yes, No}
+use Rattle.job.specs.declared.Answer.the-variants.{Unfinished, Yes, No}
 use Rattle.word.specs.declared.Node.{Node}
 use Rattle.word.specs.Word.{parentOf, decode}
 use Rattle.process.specs.declared.Head.{Head}
@@ -20,7 +20,7 @@ use Rattle.query.proofs.Grants.{rereading, look-moves, look-turns, look
 use Rattle.query.proofs.Grants.{told-answer, spent}
 
 -- no grant is left, for looking or for moving on
-pub never : {words : List ℕ} {node other used left end : ℕ} (h : Head) → Ready words node other used left → left ≡ 0 → end ≡ packed 0 used
+pub never : {words : List ℕ} {node other used left end : ℕ} (h : Head) → Ready words node other used left → left ≡ 0 → end ≡ packed Unfinished used
     → ended end words ≡ steps left used h (map decode words)
 never {words} {used = used} {left = left} {end = end} h ready none told =
     spent words (ready .admitted) left used h end none (omega (arith, ready .room)) told
@@ -62,7 +62,7 @@ module _ {words : List ℕ} {node other used left : ℕ} (ready : Ready words no
         (look-turns t node other left used (left - 1) (used + 1) (omega (arith, some)) (omega arith) root)
 
     module _ (second : not fromY ≡ false) where
-      pub looked-met : {end : ℕ} → other ≡ node → end ≡ packed 3 (used + 1) → ended end words ≡ looks
+      pub looked-met : {end : ℕ} → other ≡ node → end ≡ packed Yes (used + 1) → ended end words ≡ looks
       looked-met {end} e told =
           rw (find-from-y fromY second)
           (told-answer words (ready .admitted) Yes (used + 1) end (omega (arith, some, ready .room)) told
@@ -74,7 +74,7 @@ module _ {words : List ℕ} {node other used left : ℕ} (ready : Ready words no
             rw (find-from-y fromY second)
             (look-differs t node other left used (left - 1) (used + 1) (omega (arith, some)) (omega arith) root apart)
 
-        pub looked-spent : {end : ℕ} → left ≡ 1 → end ≡ packed 0 (used + 1) → ended end words ≡ looks
+        pub looked-spent : {end : ℕ} → left ≡ 1 → end ≡ packed Unfinished (used + 1) → ended end words ≡ looks
         looked-spent {end} one told =
             spent words (ready .admitted) (left - 1) (used + 1) (rereading other node (used + 1)) end (omega (arith, one))
             (omega (arith, one, ready .room)) told
@@ -84,7 +84,7 @@ module _ {words : List ℕ} {node other used left : ℕ} (ready : Ready words no
           reread : {up′ : ℕ} → up′ ≡ parentOf (wordAt words other) → parent t other ≡ up′
           reread its′ = ap (λ v. v .parent) (own other (ready .within)) ∙ sym its′
 
-          pub looked-no : {up′ end : ℕ} → up′ ≡ parentOf (wordAt words other) → up′ ≡ other → end ≡ packed 4 (used + 2)
+          pub looked-no : {up′ end : ℕ} → up′ ≡ parentOf (wordAt words other) → up′ ≡ other → end ≡ packed No (used + 2)
               → ended end words ≡ looks
           looked-no {end = end} its′ still told =
               told-answer words (ready .admitted) No (used + 2) end (omega (arith, some, two, ready .room)) told

@@ -11,6 +11,7 @@ use lib.ListN.{length, set, length-map}
 use borrow.Author.Tests.{eq-eqb}
 use Rattle.linearization.proofs.Tests.{split}
 use Rattle.mask.proofs.Lists.{set-mapped}
+use Rattle.job.specs.declared.Answer.the-variants.{Unfinished}
 use Rattle.word.specs.declared.Node.{Node}
 use Rattle.word.specs.Word.{rankOf, parentOf, decode, encode, same}
 use Rattle.word.proofs.Laws.{same-true, encode-decode}
@@ -117,7 +118,7 @@ module _ {words : List ℕ} {node other used left : ℕ} (ready : Ready words no
         ∙ ap (λ u. steps (left - 1) (used + 1) (swapping node other fromY (decode word) (parent t u)) t) (sym its)
         ∙ ap (λ u. steps (left - 1) (used + 1) (swapping node other fromY (decode word) u) t) grandparent
 
-    pub once-spent : {end : ℕ} (fromY : Bool) → left ≡ 1 → end ≡ packed 0 (used + 1)
+    pub once-spent : {end : ℕ} (fromY : Bool) → left ≡ 1 → end ≡ packed Unfinished (used + 1)
         → ended end words ≡ steps left used (moving node other fromY (decode word)) t
     once-spent {end} fromY one told =
         spent words (ready .admitted) (left - 1) (used + 1) (swapping node other fromY (decode word) above) end (omega (arith, one))
@@ -151,7 +152,7 @@ module _ {words : List ℕ} {node other used left : ℕ} (ready : Ready words no
           ∙ ap (λ u. steps (left - 2) (used + 2) (again node other fromY u) swapped) (sym its)
           ∙ ap (steps (left - 2) (used + 2) (again node other fromY up)) (sym nodes′)
 
-      pub twice-spent : {end : ℕ} (fromY : Bool) → left ≡ 2 → end ≡ packed 0 (used + 2)
+      pub twice-spent : {end : ℕ} (fromY : Bool) → left ≡ 2 → end ≡ packed Unfinished (used + 2)
           → ended end words′ ≡ steps left used (moving node other fromY (decode word)) t
       twice-spent {end} fromY two told =
           spent words′ admitted′ (left - 2) (used + 2) (again node other fromY up) end (omega (arith, two))

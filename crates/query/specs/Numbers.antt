@@ -18,6 +18,8 @@ use mathlib.Core.List.{List, _++_, map}
 use Prim.Native.Nat.{ℕ, _+_, _*_, _-_, _/_, _%_, _≤_, _<_}
 use lib.ListN.{length}
 use Rattle.job.specs.declared.Kind.the-variants.{SameSet}
+use Rattle.job.specs.declared.Answer.{Answer}
+use Rattle.job.specs.Job.{answerNumber}
 use Rattle.word.specs.declared.Node.{Node}
 use Rattle.word.specs.Word.{parentOf, decode, encode}
 use Rattle.process.specs.declared.Side.{Side}
@@ -57,8 +59,8 @@ pub record Lower (words : List ℕ) (node word : ℕ) : Type 0 where
   pub lower : parentOf word ≢ node
 
 -- Grants used are below 65,536.
-abbrev pub packed : ℕ → ℕ → ℕ
-packed answer used = answer * 65536 + used
+abbrev pub packed : Answer → ℕ → ℕ
+packed answer used = answerNumber answer * 65536 + used
 
 abbrev pub told : ℕ → Queried
 told end = record { number = 0; answer = end / 65536; used = end % 65536 }

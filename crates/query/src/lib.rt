@@ -1,4 +1,5 @@
 // The counter enquiry of document 01: a same-set alone on a lent table, with a budget of grants; and the walk to a root.
+use job::Answer;
 use word::Node;
 ghost use mathlib.Core.Path.{_≡_};
 ghost use mathlib.Core.List.{map};
@@ -93,11 +94,11 @@ fn refusal_of(table: &[u32], x: u32, y: u32) -> u32
 }
 
 // The end of an enquiry as one number: the answer's number and the grants used.
-fn packed(answer: u32, used: u32) -> u32
-    requires { ⌜ (answer ≤ 4) × (used ≤ 65535) ⌝ }
+fn packed(answer: Answer, used: u32) -> u32
+    requires { ⌜ used ≤ 65535 ⌝ }
     ensures { λ r. ⌜ r ≡ Numbers·packed answer used ⌝ }
 {
-    answer * 65536 + used
+    job::answer_number(answer) * 65536 + used
 }
 
 // What an enquiry is told of its end.
@@ -134,7 +135,7 @@ fn look(table: &mut [u32; 4096], node: u32, other: u32, from_y: bool, used: u32,
         ≡ steps left used (looking node other «from_y») (map decode (now (table .entry))) ⌝ }
 {
     if left == 0 {
-        return packed(0, used);
+        return packed(Answer::Unfinished, used);
     }
     let word = table[node as usize];
     if word::parent(word) != node {
@@ -144,13 +145,13 @@ fn look(table: &mut [u32; 4096], node: u32, other: u32, from_y: bool, used: u32,
         return look(table, other, node, true, used + 1, left - 1);
     }
     if other == node {
-        return packed(3, used + 1);
+        return packed(Answer::Yes, used + 1);
     }
     if left == 1 {
-        return packed(0, used + 1);
+        return packed(Answer::Unfinished, used + 1);
     }
     if word::parent(table[other as usize]) == other {
-        return packed(4, used + 2);
+        return packed(Answer::No, used + 2);
     }
     look(table, other, node, false, used + 2, left - 2)
 }
@@ -172,16 +173,16 @@ fn move_on(
         ≡ steps left used (moving node other «from_y» (decode word)) (map decode (now (table .entry))) ⌝ }
 {
     if left == 0 {
-        return packed(0, used);
+        return packed(Answer::Unfinished, used);
     }
     let parent = word::parent(word);
     let above = word::parent(table[parent as usize]);
     if left == 1 {
-        return packed(0, used + 1);
+        return packed(Answer::Unfinished, used + 1);
     }
     halve(table, node, word, above);
     if left == 2 {
-        return packed(0, used + 2);
+        return packed(Answer::Unfinished, used + 2);
     }
     let next = word::parent(table[parent as usize]);
     look(table, next, other, from_y, used + 3, left - 3)
