@@ -29,7 +29,8 @@ use Rattle.word.specs.Word.{key, same}
 use Rattle.process.specs.declared.Side.{Side}
 use Rattle.process.specs.declared.Side.the-variants.{X, Y}
 use Rattle.process.specs.declared.Stage.{Stage}
-use Rattle.process.specs.declared.Stage.the-variants.{Resting, ReadNode, ReadParent, Halve, ReadAgain, RereadX, ReadRankX, ReadRankY, Link, Raise}
+use Rattle.process.specs.declared.Stage.the-variants.{Resting, ReadNode, ReadParent, Halve, ReadAgain, RereadX}
+use Rattle.process.specs.declared.Stage.the-variants.{ReadRankX, ReadRankY, Link, Raise}
 use Rattle.process.specs.declared.Head.{Head}
 use Rattle.process.specs.declared.Advanced.{Advanced}
 use Rattle.process.specs.Process.{restingAt, nodeAt, staged, begin}
@@ -42,8 +43,8 @@ use Rattle.rules.specs.Table.{noNode, at, parent, rank, seen, touched}
 use Rattle.rules.proofs.History.{final-number}
 use Rattle.rules.proofs.Stages.{Above, Knows}
 use Rattle.query.specs.Query.{granted, steps, sameSet}
-use Rattle.query.specs.Ready.{Admitted, Serving}
-use Rattle.query.proofs.Steps.{no-union, serving-goes-on, serving-ranks}
+use Rattle.query.specs.Admitted.{Admitted}
+use Rattle.query.proofs.Steps.{Serving, no-union, serving-goes-on, serving-ranks}
 
 -- ---- how many nodes come after a node
 
@@ -166,7 +167,8 @@ module _ {n : ℕ} {t : List Node} (r : ℕ → ℕ) (admitted : Admitted n t) (
       root-need e = rw e refl
 
       climbs : eqb (parent t (nodeAt h s)) (nodeAt h s) ≡ false
-          → Enough n (parent t) r (staged h (ReadParent k s (rank t (nodeAt h s)) (parent t (nodeAt h s)))) (ReadParent k s (rank t (nodeAt h s)) (parent t (nodeAt h s))) m
+          → Enough n (parent t) r (staged h (ReadParent k s (rank t (nodeAt h s)) (parent t (nodeAt h s))))
+          (ReadParent k s (rank t (nodeAt h s)) (parent t (nodeAt h s))) m
       climbs e =
           let need : findNeed n (parent t) r (nodeAt h s) ≡ 2 * higher n r (nodeAt h s) + 3 = rw e refl in
           record { fixed = needs .fixed; enough = omega (arith, need, needs .enough) }
@@ -198,8 +200,8 @@ module _ {n : ℕ} {t : List Node} (r : ℕ → ℕ) (admitted : Admitted n t) (
 
       further : parent t (parent t u) ≢ parent t u → higher n r (parent t u) + 1 ≤ higher n r u
       further d =
-          higher-less n r u (parent t u) (admitted .formed .inside u (above .node))
-          (omega (arith, admitted .formed .rising u (above .node) (λ e. d (ap (parent t) e)), ranks u, ranks (parent t u)))
+          higher-less n r u (parent t u) (admitted .inside u (above .node))
+          (omega (arith, admitted .rising u (above .node) (λ e. d (ap (parent t) e)), ranks u, ranks (parent t u)))
 
   read-again : {B : ℕ → ℕ} (k : Kind) (s : Side) (u : ℕ) → Above n (parent t) (rank t) B (nodeAt h s) u
       → Enough n (parent t) r h (ReadAgain k s u) (suc m) → Goes t (moveUp h k s (parent t u))
@@ -217,7 +219,9 @@ module _ {n : ℕ} {t : List Node} (r : ℕ → ℕ) (admitted : Admitted n t) (
   stage-enough B a b (ReadParent k s rank u) busy knows needs = λ f. record { fixed = needs .fixed; enough = omega (arith, needs .enough) }
   stage-enough B a b (Halve k s rank u w) busy knows needs =
       λ f. record {
-        fixed = halve-fixed s (record { rank = rank; parent = u }) (record { rank = rank; parent = w }) (knows .parent .lower) (needs .fixed);
+        fixed =
+            halve-fixed s (record { rank = rank; parent = u }) (record { rank = rank; parent = w }) (knows .parent .lower)
+            (needs .fixed);
         enough = omega (arith, needs .enough);
       }
   stage-enough B a b (ReadAgain k s u) busy knows needs = read-again k s u (knows .parent) needs

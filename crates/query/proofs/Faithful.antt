@@ -26,13 +26,13 @@ use Rattle.forest.proofs.Forest.{Labelled, together-label, label-together}
 use Rattle.rules.specs.Report.{isFinal}
 use Rattle.rules.specs.Table.{parent, rank, touched}
 use Rattle.query.specs.Query.{Result, answered, granted, steps, sameSet, refusal, queried}
-use Rattle.query.specs.Ready.{Admitted, Says, Serving}
+use Rattle.query.specs.Admitted.{Admitted}
 use Rattle.query.specs.Faithful.{parentsOf, Faithful}
 use Rattle.table.proofs.Words.{decode-words}
 use Rattle.query.proofs.Labels.{rootLabel, root-labelled}
 use Rattle.query.proofs.Refusal.{Accepted, accepted, accepted-admitted}
-use Rattle.query.proofs.Steps.{serving-step, serving-goes-on, serving-start}
-use Rattle.query.proofs.Words.{admitted-worded}
+use Rattle.query.proofs.Steps.{Says, Serving, serving-step, serving-goes-on, serving-start}
+use Rattle.query.proofs.Words.{formed, admitted-worded}
 use Rattle.query.proofs.Enough.{steps-enough, start-enough}
 
 pub record Ended (n : ℕ) (B : ℕ → ℕ) (x y limit : ℕ) (result : Result) : Type 0 where
@@ -85,7 +85,7 @@ module _ {n : ℕ} {B : ℕ → ℕ} {x y : ℕ} where
         spent = λ e. all (zero-unfinished answer e);
       }
 
-  steps-ended : (budget used limit : ℕ) (h : Head) (t : List Node) → used + budget ≡ limit → Serving n B x y t used h Unfinished
+  pub steps-ended : (budget used limit : ℕ) (h : Head) (t : List Node) → used + budget ≡ limit → Serving n B x y t used h Unfinished
       → Ended n B x y limit (steps budget used h t)
   steps-ended zero used limit h t sum serving =
       answered-ended Unfinished used limit h t serving (omega (arith, sum)) (λ e. omega (arith, sum))
@@ -101,16 +101,16 @@ module _ {n : ℕ} {B : ℕ → ℕ} {x y : ℕ} where
 -- ---- from labels to sets
 
 module _ (words : List ℕ) (x y budget : ℕ) (good : Accepted words x y) where
-  abbrev start : List Node
+  abbrev pub start : List Node
   start = map decode words
 
-  abbrev labels : ℕ → ℕ
-  labels = rootLabel (accepted-admitted good .formed)
+  abbrev pub labels : ℕ → ℕ
+  labels = rootLabel (formed (accepted-admitted good))
 
   start-labelled : Labelled (length words) (parent start) labels
-  start-labelled = root-labelled (accepted-admitted good .formed)
+  start-labelled = root-labelled (formed (accepted-admitted good))
 
-  start-serving : Serving (length words) labels x y start 0 (begin (sameSet x y) 0) Unfinished
+  pub start-serving : Serving (length words) labels x y start 0 (begin (sameSet x y) 0) Unfinished
   start-serving = serving-start (accepted-admitted good) start-labelled (record { x = good .left; y = good .right })
 
   module _ (result : Result) (end : Ended (length words) labels x y budget result) where
@@ -120,19 +120,21 @@ module _ (words : List ℕ) (x y budget : ℕ) (good : Accepted words x y) where
     same-sets : (i j : ℕ) → i < length words → j < length words
         → forest.Together (parentsOf words) i j ↔ forest.Together (parent (end .nodes)) i j
     same-sets i j inside-i inside-j = (
-      λ z. label-together (end .admitted .formed) (end .labelled) i j inside-i inside-j
-          (together-label (accepted-admitted good .formed) start-labelled i j inside-i inside-j z),
-      λ z. label-together (accepted-admitted good .formed) start-labelled i j inside-i inside-j
-          (together-label (end .admitted .formed) (end .labelled) i j inside-i inside-j z),
+      λ z. label-together (formed (end .admitted)) (end .labelled) i j inside-i inside-j
+          (together-label (formed (accepted-admitted good)) start-labelled i j inside-i inside-j z),
+      λ z. label-together (formed (accepted-admitted good)) start-labelled i j inside-i inside-j
+          (together-label (formed (end .admitted)) (end .labelled) i j inside-i inside-j z),
     )
 
     ended-faithful : (4 * length words + 3 ≤ budget → result .queried .answer ≢ 0) → Faithful words x y budget result
     ended-faithful enough =
         record {
           nodes = sym (length-map (result .table) decode) ∙ ap length end-nodes ∙ end .admitted .nodes;
-          sets = λ i j inside-i inside-j. subst (λ t. forest.Together (parentsOf words) i j ↔ forest.Together (parent t) i j) (sym end-nodes) (same-sets i j inside-i inside-j);
-          yes = λ e. label-together (accepted-admitted good .formed) start-labelled x y (good .left) (good .right) (end .yes e);
-          no = λ e z. end .no e (together-label (accepted-admitted good .formed) start-labelled x y (good .left) (good .right) z);
+          sets = λ i j inside-i inside-j.
+              subst (λ t. forest.Together (parentsOf words) i j ↔ forest.Together (parent t) i j) (sym end-nodes)
+              (same-sets i j inside-i inside-j);
+          yes = λ e. label-together (formed (accepted-admitted good)) start-labelled x y (good .left) (good .right) (end .yes e);
+          no = λ e z. end .no e (together-label (formed (accepted-admitted good)) start-labelled x y (good .left) (good .right) z);
           within = end .within;
           spent = end .spent;
           enough = enough;

@@ -3,9 +3,14 @@ pub mod Words
 pub mod Labels
 pub mod Refusal
 pub mod Halving
-pub mod Steps
 pub mod Grants
+pub mod Looks
+pub mod Moves
+pub mod Copies
+pub mod Steps
 pub mod Walk
 pub mod Enough
 pub mod Faithful
+pub mod Padded
+pub mod Enquiry
 pub mod Cases

@@ -20,7 +20,7 @@ use Rattle.word.specs.Word.{rankOf, parentOf, decode, before, key}
 use Rattle.word.proofs.Laws.{before-key}
 use Rattle.rules.specs.Table.{parent, rank}
 use Rattle.query.specs.Query.{wordAt, isFaulty, anyFaulty, refusal}
-use Rattle.query.specs.Ready.{Admitted}
+use Rattle.query.specs.Admitted.{Admitted}
 use Rattle.query.proofs.Words.{parent-decoded, rank-decoded}
 
 -- ---- chains of tests
@@ -123,7 +123,10 @@ module _ {words : List ℕ} {x y : ℕ} (accepted : Accepted words x y) where
   rising i l d =
       let above = parentOf (wordAt words i) in
       let inside = sane-at i l .inside in
-      let order = sym (before-key (rankOf (wordAt words above)) above (rankOf (wordAt words i)) i (omega (arith, accepted .few)) (omega (arith, accepted .few))) ∙ sane-at i l .order in
+      let keys =
+      before-key (rankOf (wordAt words above)) above (rankOf (wordAt words i)) i (omega (arith, accepted .few))
+      (omega (arith, accepted .few)) in
+      let order = sym keys ∙ sane-at i l .order in
       omega (
         arith,
         d,
@@ -139,10 +142,8 @@ module _ {words : List ℕ} {x y : ℕ} (accepted : Accepted words x y) where
   accepted-admitted =
       record {
         nodes = length-map words decode;
-        formed = record {
-          limit = omega (arith, accepted .few);
-          inside = λ i l. omega (arith, parent-decoded words i l, sane-at i l .inside);
-          rising = rising;
-        };
+        few = accepted .few;
+        inside = λ i l. omega (arith, parent-decoded words i l, sane-at i l .inside);
         ranks = λ i l. omega (arith, rank-decoded words i l, sane-at i l .rank);
+        rising = rising;
       }

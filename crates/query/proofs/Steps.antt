@@ -11,7 +11,7 @@ use mathlib.Core.List.{List}
 use Prim.Native.Nat.{ℕ, suc}
 use native.Mathlib.Omega.{arith}
 use lib.Dec.{eqb}
-use lib.ListN.{set, length-set}
+use lib.ListN.{set}
 use borrow.Author.Tests.{eqb-true, eqb-false}
 use Rattle.job.specs.declared.Kind.{Kind}
 use Rattle.job.specs.declared.Kind.the-variants.{Union, SameSet}
@@ -23,26 +23,46 @@ use Rattle.word.specs.Word.{same}
 use Rattle.process.specs.declared.Side.{Side}
 use Rattle.process.specs.declared.Side.the-variants.{X, Y}
 use Rattle.process.specs.declared.Stage.{Stage}
-use Rattle.process.specs.declared.Stage.the-variants.{Resting, ReadNode, ReadParent, Halve, ReadAgain, RereadX, ReadRankX, ReadRankY, Link, Raise}
+use Rattle.process.specs.declared.Stage.the-variants.{Resting, ReadNode, ReadParent, Halve, ReadAgain, RereadX}
+use Rattle.process.specs.declared.Stage.the-variants.{ReadRankX, ReadRankY, Link, Raise}
 use Rattle.process.specs.declared.Head.{Head}
 use Rattle.process.specs.declared.Advanced.{Advanced}
 use Rattle.process.specs.Process.{isResting, restingAt, nodeAt, staged, movedTo, restart, begin}
-use Rattle.process.specs.Access.{accessAt, accessOf, Raisable}
+use Rattle.process.specs.Access.{accessAt, accessOf}
 use Rattle.process.specs.Advance.{ended, readNode, moveUp, reread, attempt, continue, advanceAt, advanceOf}
 use Rattle.forest.proofs.Forest.{Labelled}
-use Rattle.forest.proofs.Writes.{Changed}
 use Rattle.forest.proofs.Halving as forest-halving
 use Rattle.linearization.proofs.Tests.{split}
 use Rattle.rules.specs.Report.{isFinal}
 use Rattle.rules.specs.Table.{at, parent, rank, seen, touched}
-use Rattle.rules.proofs.Table.{parent-changed, rank-changed}
-use Rattle.rules.proofs.Stages.{Inside, Finding, ReadingParent, Halving, ReadingAgain, Rereading, Knows, side-node, own-parent, above-parent, knows-later, finding-begin}
+use Rattle.rules.proofs.Stages.{Inside, Finding, ReadingParent, Halving, ReadingAgain, Rereading, Knows}
+use Rattle.rules.proofs.Stages.{side-node, own-parent, above-parent, knows-later, finding-begin}
 use Rattle.rules.proofs.Steps.{ends-one, ends-two, finding-moved}
 use Rattle.table.specs.Touch.{Within}
 use Rattle.table.proofs.Within.{access-within}
 use Rattle.query.specs.Query.{granted, sameSet}
-use Rattle.query.specs.Ready.{Admitted, Says, Serving}
-use Rattle.query.proofs.Halving.{halved-ranks, halved-formed, halved-labelled, halved-later}
+use Rattle.query.specs.Admitted.{Admitted}
+use Rattle.query.proofs.Words.{formed}
+use Rattle.query.proofs.Halving.{halved-ranks, halved-labelled, halved-later}
+use Rattle.query.proofs.Halving.{halved, halved-parents, halved-each-rank, halved-admitted}
+
+abbrev pub Says : (ℕ → ℕ) → ℕ → ℕ → Answer → Type 0
+Says B x y Unfinished = Unit {0}
+Says B x y Joined = ⊥
+Says B x y Together = ⊥
+Says B x y Yes = B x ≡ B y
+Says B x y No = B x ≢ B y
+
+pub record Serving (n : ℕ) (B : ℕ → ℕ) (x y : ℕ) (t : List Node) (used : ℕ) (h : Head) (answer : Answer) : Type 0 where
+  pub admitted : Admitted n t
+  pub labelled : Labelled n (parent t) B
+  -- the enquiry is about nodes
+  pub inside : Inside n (sameSet x y)
+  -- what the head knows at its stage; nobody else writes, so the two sets are apart at every point or at none
+  pub knows : Knows n (parent t) (rank t) B (λ point. B x ≢ B y) used (sameSet x y) h (h .stage)
+  -- the head rests when it has answered
+  pub rests : isResting h ≡ isFinal answer
+  pub says : Says B x y answer
 
 -- an answer that is not final is none
 pub unfinished : (answer : Answer) → isFinal answer ≡ false → answer ≡ Unfinished
@@ -110,7 +130,11 @@ module _ {n : ℕ} {t : List Node} {B : ℕ → ℕ} {a b : ℕ} (admitted : Adm
       (λ e. rw e (find-ended k s f (eqb-true (parent t v) v e)))
       (λ e. rw e
       (read-on (staged h (ReadParent k s (rank t v) (parent t v))) refl
-      (record { finding = f; parent = own-parent (admitted .formed) labelled v (side-node h f s) (eqb-false (parent t v) v e); rank = refl })))
+      (record {
+        finding = f;
+        parent = own-parent (formed admitted) labelled v (side-node h f s) (eqb-false (parent t v) v e);
+        rank = refl;
+      })))
     where
       v : ℕ
       v = nodeAt h s
@@ -123,15 +147,12 @@ module _ {n : ℕ} {t : List Node} {B : ℕ → ℕ} {a b : ℕ} (admitted : Adm
       (record {
         finding = knows .finding;
         parent = knows .parent;
-        grandparent = above-parent (admitted .formed) labelled (knows .parent);
+        grandparent = above-parent (formed admitted) labelled (knows .parent);
         rank = knows .rank;
       })
 
   module _ (k : Kind) (s : Side) (r u w : ℕ)
       (knows : Halving n (parent t) (rank t) B (sameSet a b) k (h .x) (h .y) (nodeAt h s) r u w) where
-    abbrev halved : List Node
-    halved = set t (nodeAt h s) (record { rank = r; parent = w })
-
     may : forest-halving.Halving n (parent t) (rank t) B (nodeAt h s) r w
     may =
         record {
@@ -143,28 +164,14 @@ module _ {n : ℕ} {t : List Node} {B : ℕ → ℕ} {a b : ℕ} (admitted : Adm
           before = knows .grandparent .before;
         }
 
-    parents : Changed (parent t) (parent halved) (nodeAt h s) w
-    parents = parent-changed t (nodeAt h s) (record { rank = r; parent = w }) (omega (arith, may .node, admitted .nodes))
-
-    ranks : Changed (rank t) (rank halved) (nodeAt h s) r
-    ranks = rank-changed t (nodeAt h s) (record { rank = r; parent = w }) (omega (arith, may .node, admitted .nodes))
-
-    halved-admitted : Admitted n halved
-    halved-admitted =
-        record {
-          nodes = length-set t (nodeAt h s) (record { rank = r; parent = w }) ∙ admitted .nodes;
-          formed = halved-formed (admitted .formed) may parents ranks;
-          ranks = λ i l. omega (arith, admitted .ranks i l, halved-ranks (admitted .formed) may parents ranks i);
-        }
-
-    wrote : Serving n B a b halved (suc used) (staged h (ReadAgain k s u)) Unfinished
+    wrote : Serving n B a b (halved admitted may) (suc used) (staged h (ReadAgain k s u)) Unfinished
     wrote =
         record {
-          admitted = halved-admitted;
-          labelled = halved-labelled (admitted .formed) may parents ranks labelled;
+          admitted = halved-admitted admitted may;
+          labelled = halved-labelled (formed admitted) may (halved-parents admitted may) (halved-each-rank admitted may) labelled;
           inside = inside;
           knows =
-              knows-later (halved-later (admitted .formed) may parents ranks) inside
+              knows-later (halved-later (formed admitted) may (halved-parents admitted may) (halved-each-rank admitted may)) inside
               {Apart = λ point. B a ≢ B b} {Apart′ = λ point. B a ≢ B b} {now = used} {now′ = suc used}
               (omega arith) (λ point l z. z) h (ReadAgain k s u)
               (record { finding = knows .finding; parent = knows .parent });
@@ -172,7 +179,7 @@ module _ {n : ℕ} {t : List Node} {B : ℕ → ℕ} {a b : ℕ} (admitted : Adm
           says = tt;
         }
 
-    halve : Next (cond (same (at t (nodeAt h s)) (record { rank = r; parent = u })) halved t)
+    halve : Next (cond (same (at t (nodeAt h s)) (record { rank = r; parent = u })) (halved admitted may) t)
         (attempt h (ReadAgain k s u) (at t (nodeAt h s)) (record { rank = r; parent = u }))
     halve =
         split (same (at t (nodeAt h s)) (record { rank = r; parent = u }))
@@ -180,17 +187,17 @@ module _ {n : ℕ} {t : List Node} {B : ℕ → ℕ} {a b : ℕ} (admitted : Adm
         (λ e. rw e (read-on (staged h (ReadAgain k s u)) refl (record { finding = knows .finding; parent = knows .parent })))
 
     -- the swap keeps every rank
-    halve-ranks : (i : ℕ) → rank (cond (same (at t (nodeAt h s)) (record { rank = r; parent = u })) halved t) i ≡ rank t i
+    halve-ranks : (i : ℕ) → rank (cond (same (at t (nodeAt h s)) (record { rank = r; parent = u })) (halved admitted may) t) i ≡ rank t i
     halve-ranks i =
         split (same (at t (nodeAt h s)) (record { rank = r; parent = u }))
-        (λ e. rw e (halved-ranks (admitted .formed) may parents ranks i))
+        (λ e. rw e (halved-ranks (formed admitted) may (halved-parents admitted may) (halved-each-rank admitted may) i))
         (λ e. rw e refl)
 
   read-again : (k : Kind) (s : Side) (u : ℕ)
       → ReadingAgain n (parent t) (rank t) B (sameSet a b) k (h .x) (h .y) (nodeAt h s) u → Next t (moveUp h k s (parent t u))
   read-again k s u knows =
       read-on (staged (movedTo h s (parent t u)) (ReadNode k s)) refl
-      (finding-moved h s (parent t u) (knows .finding) (admitted .formed .inside u (knows .parent .node))
+      (finding-moved h s (parent t u) (knows .finding) (admitted .inside u (knows .parent .node))
       (labelled .along u (knows .parent .node) ∙ knows .parent .same))
 
   reread-x : (point : ℕ) → Rereading n (parent t) B (λ point. B a ≢ B b) used (sameSet a b) (h .x) (h .y) point
@@ -247,21 +254,6 @@ module _ {n : ℕ} {t : List Node} {B : ℕ → ℕ} {a b used : ℕ} {h : Head}
   unfolding accessOf
   serving-within =
       access-within n (parent t) (rank t) B (λ point. B a ≢ B b) used (sameSet a b) h (h .stage) (serving .knows)
-
-  raisable-at : (stage : Stage) → Knows n (parent t) (rank t) B (λ point. B a ≢ B b) used (sameSet a b) h stage → Raisable stage
-  raisable-at Resting knows = tt
-  raisable-at (ReadNode k s) knows = tt
-  raisable-at (ReadParent k s r u) knows = tt
-  raisable-at (Halve k s r u w) knows = tt
-  raisable-at (ReadAgain k s u) knows = tt
-  raisable-at (RereadX point) knows = tt
-  raisable-at ReadRankX knows = tt
-  raisable-at (ReadRankY r) knows = tt
-  raisable-at (Link r e) knows = tt
-  raisable-at (Raise r) knows = no-union (knows .kind)
-
-  pub serving-raisable : Raisable (h .stage)
-  serving-raisable = raisable-at (h .stage) (serving .knows)
 
 -- the enquiry goes on where the step gave no answer
 pub serving-goes-on : {n : ℕ} {t : List Node} {B : ℕ → ℕ} {a b used : ℕ} {h : Head} → Serving n B a b t used h Unfinished

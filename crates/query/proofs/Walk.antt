@@ -11,7 +11,7 @@ use Rattle.word.specs.Word.{parentOf, decode, key, nodeLimit}
 use Rattle.forest.specs.Forest.{Leads, root, up}
 use Rattle.rules.specs.Table.{parent, rank}
 use Rattle.query.specs.Query.{wordAt}
-use Rattle.query.specs.Ready.{Admitted}
+use Rattle.query.specs.Admitted.{Admitted}
 use Rattle.query.proofs.Words.{parent-decoded}
 
 abbrev pub height : List ℕ → ℕ → ℕ
@@ -23,7 +23,7 @@ module _ (words : List ℕ) (node : ℕ) (admitted : Admitted (length words) (ma
   parent-read = parent-decoded words node inside ∙ sym read
 
   pub walk-inside : above < length words
-  walk-inside = omega (arith, parent-read, admitted .formed .inside node inside)
+  walk-inside = omega (arith, parent-read, admitted .inside node inside)
 
   pub walk-ends : above ≡ node → Leads (parent (map decode words)) node node
   walk-ends e = root node (parent-read ∙ e)
@@ -38,9 +38,9 @@ module _ (words : List ℕ) (node : ℕ) (admitted : Admitted (length words) (ma
         walk-inside,
         parent-read,
         ap (rank (map decode words)) parent-read,
-        admitted .formed .rising node inside (no-root d),
+        admitted .rising node inside (no-root d),
         admitted .ranks above walk-inside,
-        admitted .formed .limit,
+        admitted .few,
       )
 
   pub walk-goes-on : above ≢ node → (end : ℕ) → Leads (parent (map decode words)) above end → Leads (parent (map decode words)) node end

@@ -8,11 +8,12 @@ use native.Mathlib.Omega.{arith}
 use lib.ListN.{length}
 use Rattle.word.specs.declared.Node.{Node}
 use Rattle.word.specs.Word.{rankOf, parentOf, decode, encode}
+use Rattle.forest.proofs.Forest.{WellFormed}
 use Rattle.rules.specs.Table.{parent, rank}
 use Rattle.table.specs.Touch.{Worded}
 use Rattle.table.proofs.Words.{at-decoded, encode-words}
 use Rattle.query.specs.Query.{wordAt}
-use Rattle.query.specs.Ready.{Admitted}
+use Rattle.query.specs.Admitted.{Admitted}
 
 module _ (words : List ℕ) (i : ℕ) (inside : i < length words) where
   pub parent-decoded : parent (map decode words) i ≡ parentOf (wordAt words i)
@@ -21,11 +22,15 @@ module _ (words : List ℕ) (i : ℕ) (inside : i < length words) where
   pub rank-decoded : rank (map decode words) i ≡ rankOf (wordAt words i)
   rank-decoded = ap (λ v. v .rank) (at-decoded words i inside)
 
+-- what the laws of forests ask
+pub formed : {n : ℕ} {t : List Node} → Admitted n t → WellFormed n (parent t) (rank t)
+formed admitted = record { limit = omega (arith, admitted .few); inside = admitted .inside; rising = admitted .rising }
+
 pub admitted-worded : {n : ℕ} {t : List Node} → Admitted n t → Worded t
 admitted-worded admitted =
     record {
       rank = λ i l. omega (arith, admitted .ranks i (omega (arith, admitted .nodes)));
-      parent = λ i l. omega (arith, admitted .formed .limit, admitted .formed .inside i (omega (arith, admitted .nodes)));
+      parent = λ i l. omega (arith, admitted .few, admitted .inside i (omega (arith, admitted .nodes)));
     }
 
 pub words-kept : (words : List ℕ) {n : ℕ} → Admitted n (map decode words) → words ≡ map encode (map decode words)

@@ -1,5 +1,6 @@
--- The counter enquiry: its refusals, its steps and its result; and what its inner functions carry and rely on.
+-- The counter enquiry: its refusals, its steps and its result; what its inner functions' numbers stand for; cases.
 pub mod Query
-pub mod Progress
-pub mod Ready
+pub mod Admitted
+pub mod Numbers
 pub mod Faithful
+pub mod Cases

@@ -1,21 +1,19 @@
 // The counter enquiry of document 01: a same-set alone on a lent table, with a budget of grants; and the walk to a root.
 use job::Answer;
-use job::Kind;
-use job::Request;
-use process::Head;
-use process::Stage;
+use word::Node;
 ghost use mathlib.Core.Path.{_≡_};
 ghost use mathlib.Core.List.{map};
-ghost use Prim.Native.Nat.{_<_, _≤_};
-ghost use lib.ListN.{length};
-ghost use Rattle.job.specs.Job.{answerNumber};
-ghost use Rattle.word.specs.Word.{before, decode, encode};
+ghost use Prim.Native.Nat.{_-_, _<_, _≤_};
+ghost use lib.ListN.{length, take};
+ghost use lib.Seq.{sets};
+ghost use Rattle.word.specs.Word.{rankOf, before, decode, encode};
+ghost use Rattle.process.specs.declared.Access.the-variants.{Cas};
 ghost use Rattle.forest.specs.Forest.{Leads};
-ghost use Rattle.rules.specs.Table.{parent};
-ghost use Rattle.query.specs.Query.{isFaulty, anyFaulty, refusal, queried};
-ghost use Rattle.query.specs.Progress.{isOver, isClimbing, progressed, tableAfter, rest};
+ghost use Rattle.rules.specs.Table.{parent, freshFrom, touched};
+ghost use Rattle.query.specs.Query.{isFaulty, anyFaulty, refusal, steps, queried};
+ghost use Rattle.query.specs.Admitted.{Admitted};
+ghost use Rattle.query.specs.Numbers.{looking, moving, Ready, Lower, packed as Numbers·packed, told as Numbers·told, ended};
 ghost use Rattle.query.specs.Faithful.{Faithful};
-ghost use Rattle.query.specs.Ready.{Admitted, Ready};
 
 // What an enquiry is told: 0, its answer (3 yes, 4 no, 0 spent) and the grants used; or a refusal's number and zeros.
 #[repr(C)]
@@ -23,14 +21,6 @@ pub struct Queried {
     pub number: u32,
     pub answer: u32,
     pub used: u32,
-}
-
-// An enquiry between two grants: its head, its answer so far, the grants used and the grants left.
-pub struct Progress {
-    pub head: Head,
-    pub answer: Answer,
-    pub used: u32,
-    pub left: u16,
 }
 
 // The order of nodes, on ranks that are not yet known to be admitted.
@@ -103,108 +93,156 @@ fn refusal_of(table: &[u32], x: u32, y: u32) -> u32
     0
 }
 
-// Whether an enquiry is answered or has no grant left.
-fn is_over(progress: Progress) -> bool
-    ensures { λ r. ⌜ r ≡ isOver progress ⌝ }
+// The end of an enquiry as one number: the answer's number and the grants used.
+fn packed(answer: Answer, used: u32) -> u32
+    requires { ⌜ used ≤ 65535 ⌝ }
+    ensures { λ r. ⌜ r ≡ Numbers·packed answer used ⌝ }
 {
-    let answer = progress.answer;
-    if rules::is_final(answer) {
-        true
-    } else {
-        progress.left == 0
-    }
+    job::answer_number(answer) * 65536 + used
 }
 
-// Whether a head has read a node that is no root, and is about to read its parent.
-fn is_climbing(head: Head) -> bool
-    ensures { λ r. ⌜ r ≡ isClimbing head ⌝ }
+// What an enquiry is told of its end.
+fn told(end: u32) -> Queried
+    ensures { λ r. ⌜ r ≡ Numbers·told end ⌝ }
 {
-    let stage = head.stage;
-    match stage {
-        Stage::Resting => false,
-        Stage::ReadNode(_, _) => false,
-        Stage::ReadParent(_, _, _, _) => true,
-        Stage::Halve(_, _, _, _, _) => false,
-        Stage::ReadAgain(_, _, _) => false,
-        Stage::RereadX(_) => false,
-        Stage::ReadRankX => false,
-        Stage::ReadRankY(_) => false,
-        Stage::Link(_, _) => false,
-        Stage::Raise(_) => false,
-    }
-}
-
-// One grant more, unless the enquiry is over.
-fn grant(table: &mut [u32], progress: Progress) -> Progress
-    requires { ⌜ Ready (map decode (now table)) progress ⌝ }
-    ensures makes { λ r. ⌜ r ≡ progressed progress (map decode (now (table .entry))) ⌝ }
-    ensures leaves { λ _. ⌜ now (table .exit) ≡ map encode (tableAfter progress (map decode (now (table .entry)))) ⌝ }
-{
-    if is_over(progress) {
-        return progress;
-    }
-    let head = progress.head;
-    let access = process::next_access(head);
-    let found = table::touch(table, access);
-    let advanced = process::advance(head, found, progress.used + 1);
-    let next = advanced.head;
-    let event = advanced.event;
-    let answer = event.answer;
-    Progress {
-        head: next,
-        answer,
-        used: progress.used + 1,
-        left: progress.left - 1,
-    }
-}
-
-// What an enquiry that is over is told.
-fn told(progress: Progress) -> Queried
-    ensures { λ r. ⌜ r ≡ record { number = 0; answer = answerNumber (progress .answer); used = progress .used } ⌝ }
-{
-    let answer = progress.answer;
     Queried {
         number: 0,
-        answer: job::answer_number(answer),
-        used: progress.used,
+        answer: end / 65536,
+        used: end % 65536,
     }
 }
 
-// Looks at the node at hand: one grant, after which the enquiry is over, moves on from the node, or looks at the next.
-fn look(table: &mut [u32], progress: Progress) -> Queried
-    requires { ⌜ Ready (map decode (now table)) progress ⌝ }
-    ensures { λ r. ⌜ record { queried = r; table = now (table .exit) } ≡ rest progress (map decode (now (table .entry))) ⌝ }
+// A find's swap, from the word read to the same rank with the parent `above`.
+fn halve(table: &mut [u32; 4096], node: u32, word: u32, above: u32)
+    requires { ⌜ Admitted 4096 (map decode (now table)) ⌝ }
+    requires { ⌜ (node < 4096) × (rankOf word ≤ 12) × (above < 4096) ⌝ }
+    ensures { λ _. ⌜ now (table .exit) ≡ map encode (touched (map decode (now (table .entry)))
+        (Cas node (decode word) (record { rank = rankOf word; parent = above }))) ⌝ }
 {
-    if is_over(progress) {
-        return told(progress);
+    if table[node as usize] == word {
+        table[node as usize] = word::encoded(Node {
+            rank: word::rank(word) as u8,
+            parent: above as u16,
+        });
     }
-    let next = grant(table, progress);
-    let head = next.head;
-    if is_climbing(head) {
-        return move_on(table, next);
-    }
-    look(table, next)
 }
 
-// Moves on from the node at hand, which is no root: reads its parent, swaps, reads the parent again, and looks there.
-fn move_on(table: &mut [u32], progress: Progress) -> Queried
-    requires { ⌜ Ready (map decode (now table)) progress ⌝ }
-    ensures { λ r. ⌜ record { queried = r; table = now (table .exit) } ≡ rest progress (map decode (now (table .entry))) ⌝ }
+// Looks at a node: one grant, after which the enquiry moves on from it, or its find ends there. The find from x hands on
+// to the find from y; that one compares, and where the two differ, the next grant reads x's word again.
+fn look(table: &mut [u32; 4096], node: u32, other: u32, from_y: bool, used: u32, left: u32) -> u32
+    requires { ⌜ Ready (now table) node other used left ⌝ }
+    ensures { λ r. ⌜ ended r (now (table .exit))
+        ≡ steps left used (looking node other «from_y») (map decode (now (table .entry))) ⌝ }
 {
-    if is_over(progress) {
-        return told(progress);
+    if left == 0 {
+        return packed(Answer::Unfinished, used);
     }
-    let read = grant(table, progress);
-    let swapped = grant(table, read);
-    let moved = grant(table, swapped);
-    look(table, moved)
+    let word = table[node as usize];
+    if word::parent(word) != node {
+        return move_on(table, node, other, from_y, word, used + 1, left - 1);
+    }
+    if !from_y {
+        return look(table, other, node, true, used + 1, left - 1);
+    }
+    if other == node {
+        return packed(Answer::Yes, used + 1);
+    }
+    if left == 1 {
+        return packed(Answer::Unfinished, used + 1);
+    }
+    if word::parent(table[other as usize]) == other {
+        return packed(Answer::No, used + 2);
+    }
+    look(table, other, node, false, used + 2, left - 2)
+}
+
+// Moves on from a node whose word was read and is no root's: reads its parent's word, swaps, reads the parent's word
+// again, and looks at the node that it names. The grants may end before each of the three.
+fn move_on(
+    table: &mut [u32; 4096],
+    node: u32,
+    other: u32,
+    from_y: bool,
+    word: u32,
+    used: u32,
+    left: u32,
+) -> u32
+    requires { ⌜ Ready (now table) node other used left ⌝ }
+    requires { ⌜ Lower (now table) node word ⌝ }
+    ensures { λ r. ⌜ ended r (now (table .exit))
+        ≡ steps left used (moving node other «from_y» (decode word)) (map decode (now (table .entry))) ⌝ }
+{
+    if left == 0 {
+        return packed(Answer::Unfinished, used);
+    }
+    let parent = word::parent(word);
+    let above = word::parent(table[parent as usize]);
+    if left == 1 {
+        return packed(Answer::Unfinished, used + 1);
+    }
+    halve(table, node, word, above);
+    if left == 2 {
+        return packed(Answer::Unfinished, used + 2);
+    }
+    let next = word::parent(table[parent as usize]);
+    look(table, next, other, from_y, used + 3, left - 3)
+}
+
+// Copies a table's words to the front of the array.
+fn copy_in(nodes: &mut [u32; 4096], table: &[u32])
+    requires { ⌜ length (now table) ≤ 4096 ⌝ }
+    ensures { λ _. ⌜ now (nodes .exit) ≡ sets (now (nodes .entry)) 0 (now (table .entry)) ⌝ }
+{
+    let mut i = 0;
+    while i < table.len() {
+        nodes[i] = table[i];
+        i += 1;
+    }
+}
+
+// Makes each node of the array, from one on, a root.
+fn pad(nodes: &mut [u32; 4096], from: usize)
+    requires { ⌜ from ≤ 4096 ⌝ }
+    ensures { λ _. ⌜ now (nodes .exit) ≡ sets (now (nodes .entry)) from (map encode (freshFrom from (4096 - from))) ⌝ }
+{
+    let mut i = from;
+    while i < 4096 {
+        nodes[i] = i as u32;
+        i += 1;
+    }
+}
+
+// Copies the array's front back to the table.
+fn copy_out(table: &mut [u32], nodes: &[u32; 4096])
+    requires { ⌜ (length (now table) ≤ 4096) × (length (now nodes) ≡ 4096) ⌝ }
+    ensures { λ _. ⌜ now (table .exit) ≡ take (length (now (table .entry))) (now (nodes .entry)) ⌝ }
+{
+    let mut i = 0;
+    while i < table.len() {
+        table[i] = nodes[i];
+        i += 1;
+    }
+}
+
+// Makes the enquiry on an array of its own, and gives the words back.
+fn enquire(table: &mut [u32], x: u32, y: u32, budget: u16) -> u32
+    requires { ⌜ refusal (now table) x y ≡ 0 ⌝ }
+    ensures { λ r. ⌜ ended r (now (table .exit)) ≡ queried (now (table .entry)) x y budget ⌝ }
+{
+    let mut nodes = [0u32; 4096];
+    copy_in(&mut nodes, table);
+    pad(&mut nodes, table.len());
+    let end = look(&mut nodes, x, y, false, 0, budget as u32);
+    copy_out(table, &nodes);
+    end
 }
 
 // Makes an enquiry: are x and y in one set, within a budget of grants? Refused, it writes nothing. Whatever the budget,
 // the sets stay, and yes and no are right.
 pub fn query(table: &mut [u32], x: u32, y: u32, budget: u16) -> Queried
     ensures exact { λ r. ⌜ record { queried = r; table = now (table .exit) } ≡ queried (now (table .entry)) x y budget ⌝ }
-    ensures faithful { λ r. ⌜ (r .number ≡ 0 → Faithful (now (table .entry)) x y budget (record { queried = r; table = now (table .exit) })) ⌝ }
+    ensures faithful { λ r. ⌜ (r .number ≡ 0
+        → Faithful (now (table .entry)) x y budget (record { queried = r; table = now (table .exit) })) ⌝ }
 {
     let number = refusal_of(table, x, y);
     if number != 0 {
@@ -214,22 +252,7 @@ pub fn query(table: &mut [u32], x: u32, y: u32, budget: u16) -> Queried
             used: 0,
         };
     }
-    let request = Request {
-        head: 0,
-        kind: Kind::SameSet,
-        x: x as u16,
-        y: y as u16,
-    };
-    let head = process::begun(request, 0);
-    look(
-        table,
-        Progress {
-            head,
-            answer: Answer::Unfinished,
-            used: 0,
-            left: budget,
-        },
-    )
+    told(enquire(table, x, y, budget))
 }
 
 // The root that a node of an admitted table leads to, by a plain walk.

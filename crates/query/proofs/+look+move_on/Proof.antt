@@ -1,9 +1,9 @@
--- `query::look` and `query::move_on` call each other: every grant leaves the enquiry's result, and the grants left fall.
-use denote.Ref.{now}
-use mathlib.Core.Path.{sym, _∙_}
+-- `query::look` and `query::move_on`: each return is the steps from the head that its numbers stand for; the grants left fall.
+use mathlib.Core.Path.{refl, sym, _∙_}
 use native.Mathlib.Omega.{arith}
 use borrow.Author.Needs.{needs}
-use Rattle.query.proofs.Grants.{told-over, carried, carried-on}
+use Rattle.query.proofs.Looks.{never, looked-on, looked-turned, looked-met, looked-spent, looked-no, looked-again}
+use Rattle.query.proofs.Moves.{own-rank, up-inside, above-inside, once-spent, twice-spent, moved-ready, moved}
 use Prim.Native.Nat.{ℕ, _<_}
 use borrow.Fn.Kinds.{In}
 use borrow.Fn.PlainCycle.{Measures, is, falls, and}
@@ -13,18 +13,17 @@ use Rattle.query.proofs.+look+move_on.Lts-look as look-lts
 use Rattle.query.proofs.move_on.Reads as move-on
 use Rattle.query.proofs.move_on.Kinds as move-on-kinds
 use Rattle.query.proofs.+look+move_on.Lts-move_on as move-on-lts
-use Rattle.query.proofs.grant.Reads as grant-reads
-use Rattle.query.proofs.is_climbing.Reads as is-climbing-reads
-use Rattle.query.proofs.is_over.Reads as is-over-reads
-use Rattle.query.proofs.told.Reads as told-reads
+use Rattle.query.proofs.halve.Reads as halve-reads
+use Rattle.query.proofs.packed.Reads as packed-reads
+use Rattle.word.proofs.parent.Reads as parent-reads
 use Rattle.query.proofs.+look+move_on.{statement}
 use Rattle.query.proofs.+look+move_on.Tie.{close}
 
 abbrev μ-look : Measures 1 look-kinds.ps ℕ
-μ-look κs a = a .1 .0 .left
+μ-look κs a = a .1 .1 .1 .1 .1 .0
 
 abbrev μ-move-on : Measures 1 move-on-kinds.ps ℕ
-μ-move-on κs a = a .1 .0 .left
+μ-move-on κs a = a .1 .1 .1 .1 .1 .1 .0
 
 abbrev look-at : ℕ → In 1 look-kinds.ps
 look-at t = and 1 look-kinds.ps (is 1 look-kinds.ps μ-look t) look.Pre
@@ -41,14 +40,10 @@ move-on-below t = and 1 move-on-kinds.ps (falls 1 move-on-kinds.ps _<_ μ-move-o
 -- what is claimed of the functions that each calls: their own contracts, and for the two of the cycle at fewer grants left
 abbrev look-claims : ℕ → look-lts.Claims
 look-claims t = (
-  is-over-reads.Asked,
-  is-over-reads.Learnt,
-  told-reads.Asked,
-  told-reads.Learnt,
-  grant-reads.Asked,
-  grant-reads.Learnt,
-  is-climbing-reads.Asked,
-  is-climbing-reads.Learnt,
+  packed-reads.Asked,
+  packed-reads.Learnt,
+  parent-reads.Asked,
+  parent-reads.Learnt,
   move-on-below t,
   move-on.Post,
   look-below t,
@@ -57,153 +52,340 @@ look-claims t = (
 
 abbrev move-on-claims : ℕ → move-on-lts.Claims
 move-on-claims t = (
-  is-over-reads.Asked,
-  is-over-reads.Learnt,
-  told-reads.Asked,
-  told-reads.Learnt,
-  grant-reads.Asked,
-  grant-reads.Learnt,
+  packed-reads.Asked,
+  packed-reads.Learnt,
+  parent-reads.Asked,
+  parent-reads.Learnt,
+  halve-reads.Asked,
+  halve-reads.Learnt,
   look-below t,
   look.Post,
 )
 
-look-is-over-requires : (t : ℕ) → look-lts.Need-is-over-requires (look-claims t) (look-at t) look.Post
-look-is-over-requires t c κs = search needs
-
-look-told-requires : (t : ℕ) → look-lts.Need-told-requires (look-claims t) (look-at t) look.Post
-look-told-requires t c κs = search needs
+look-packed-requires : (t : ℕ) → look-lts.Need-packed-requires (look-claims t) (look-at t) look.Post
+look-packed-requires t c κs = search needs
 
 look-returns : (t : ℕ) → look-lts.Need-returns (look-claims t) (look-at t) look.Post
 look-returns t c =
-    let tested = c .before in
-    let start = tested .before .before .before in
-    told-over (now (start .args .table)) (start .args .progress) (c .told .result) (start .pre .1)
-    (sym (tested .before .is-over .ensures) ∙ tested .if1 .taken) (c .told .ensures)
+    let start = c .before .before in
+    never _ (start .pre .1) (c .before .if1 .taken) (c .packed .ensures)
 
-look-grant-requires : (t : ℕ) → look-lts.Need-grant-requires (look-claims t) (look-at t) look.Post
-look-grant-requires t c κs = c .before .before .before .before .pre .1
+look-mul-word : (t : ℕ) → look-lts.Need-mul-word (look-claims t) (look-at t) look.Post
+look-mul-word t c = search needs
 
-look-is-climbing-requires : (t : ℕ) → look-lts.Need-is-climbing-requires (look-claims t) (look-at t) look.Post
-look-is-climbing-requires t c κs = search needs
+look-element-copy-out-word : (t : ℕ) → look-lts.Need-element-copy-out-word (look-claims t) (look-at t) look.Post
+look-element-copy-out-word t c = search needs
+
+look-parent-requires : (t : ℕ) → look-lts.Need-parent-requires (look-claims t) (look-at t) look.Post
+look-parent-requires t c κs = search needs
+
+look-add-move-on : (t : ℕ) → look-lts.Need-add-move-on (look-claims t) (look-at t) look.Post
+look-add-move-on t c = search needs
+
+look-sub-move-on : (t : ℕ) → look-lts.Need-sub-move-on (look-claims t) (look-at t) look.Post
+look-sub-move-on t c = search needs
 
 look-move-on-requires : (t : ℕ) → look-lts.Need-move-on-requires (look-claims t) (look-at t) look.Post
 look-move-on-requires t c κs =
-    let granted = c .before .before .before .before .before .before in
-    let tested = granted .before .before in
-    let start = tested .before .before .before in
-    let on = carried (now (start .args .table)) _ (start .args .progress) _ (start .pre .1) (granted .grant .ensures .0) (granted .grant .ensures .1) in
-    (omega (arith, start .pre .0, on .falls (sym (tested .before .is-over .ensures) ∙ tested .if1 .left)), on .ready)
-
-look-same-length : (t : ℕ) → look-lts.Need-same-length (look-claims t) (look-at t) look.Post
-look-same-length t c = search needs
+    let read = c .before .before in
+    let start = read .before .before .before in
+    let ready = start .pre .1 in (
+      omega (arith, start .pre .0),
+      (
+        record { admitted = ready .admitted; inside = ready .inside; within = ready .within; room = omega (arith, ready .room) },
+        record { read = refl; lower = λ e. c .before .if2 .taken (read .parent .ensures ∙ e) },
+      ),
+    )
 
 look-returns-2 : (t : ℕ) → look-lts.Need-returns-2 (look-claims t) (look-at t) look.Post
 look-returns-2 t c =
-    let granted = c .before .before .before .before .before .before .before .before .before in
-    let start = granted .before .before .before .before .before in
-    let on = carried (now (start .args .table)) _ (start .args .progress) _ (start .pre .1) (granted .grant .ensures .0) (granted .grant .ensures .1) in
-    c .before .before .move-on .ensures ∙ on .same
+    let lower = c .before .before in
+    let read = lower .before in
+    let some = read .before .before in
+    let start = some .before in
+    c .move-on .ensures
+    ∙ sym (looked-on (start .pre .1) (start .args .from-y) (some .if1 .left) (read .parent .ensures) (lower .if2 .taken))
+
+look-add-look : (t : ℕ) → look-lts.Need-add-look (look-claims t) (look-at t) look.Post
+look-add-look t c = search needs
+
+look-sub-look : (t : ℕ) → look-lts.Need-sub-look (look-claims t) (look-at t) look.Post
+look-sub-look t c = search needs
 
 look-look-requires : (t : ℕ) → look-lts.Need-look-requires (look-claims t) (look-at t) look.Post
 look-look-requires t c κs =
-    let granted = c .before .before .before .before .before .before in
-    let tested = granted .before .before in
-    let start = tested .before .before .before in
-    let on = carried (now (start .args .table)) _ (start .args .progress) _ (start .pre .1) (granted .grant .ensures .0) (granted .grant .ensures .1) in
-    (omega (arith, start .pre .0, on .falls (sym (tested .before .is-over .ensures) ∙ tested .if1 .left)), on .ready)
-
-look-same-length-2 : (t : ℕ) → look-lts.Need-same-length-2 (look-claims t) (look-at t) look.Post
-look-same-length-2 t c = search needs
+    let start = c .before .before .before .before .before .before in
+    let ready = start .pre .1 in (
+      omega (arith, start .pre .0),
+      record { admitted = ready .admitted; inside = ready .within; within = ready .inside; room = omega (arith, ready .room) },
+    )
 
 look-returns-3 : (t : ℕ) → look-lts.Need-returns-3 (look-claims t) (look-at t) look.Post
 look-returns-3 t c =
-    let granted = c .before .before .before .before .before .before .before .before .before in
-    let start = granted .before .before .before .before .before in
-    let on = carried (now (start .args .table)) _ (start .args .progress) _ (start .pre .1) (granted .grant .ensures .0) (granted .grant .ensures .1) in
-    c .before .before .look .ensures ∙ on .same
+    let first = c .before .before in
+    let root = first .before in
+    let read = root .before in
+    let some = read .before .before in
+    let start = some .before in
+    c .look .ensures
+    ∙ sym (looked-turned (start .pre .1) (start .args .from-y) (some .if1 .left) (read .parent .ensures) (root .if2 .left)
+    (first .if3 .taken))
 
-move-on-is-over-requires : (t : ℕ) → move-on-lts.Need-is-over-requires (move-on-claims t) (move-on-at t) move-on.Post
-move-on-is-over-requires t c κs = search needs
+look-add-packed : (t : ℕ) → look-lts.Need-add-packed (look-claims t) (look-at t) look.Post
+look-add-packed t c = search needs
 
-move-on-told-requires : (t : ℕ) → move-on-lts.Need-told-requires (move-on-claims t) (move-on-at t) move-on.Post
-move-on-told-requires t c κs = search needs
+look-packed-requires-2 : (t : ℕ) → look-lts.Need-packed-requires-2 (look-claims t) (look-at t) look.Post
+look-packed-requires-2 t c κs = search needs
+
+look-returns-4 : (t : ℕ) → look-lts.Need-returns-4 (look-claims t) (look-at t) look.Post
+look-returns-4 t c =
+    let met = c .before in
+    let second = met .before in
+    let root = second .before in
+    let read = root .before in
+    let some = read .before .before in
+    let start = some .before in
+    looked-met (start .pre .1) (start .args .from-y) (some .if1 .left) (read .parent .ensures) (root .if2 .left)
+    (second .if3 .left) (met .if4 .taken) (c .packed2 .ensures)
+
+look-add-packed-2 : (t : ℕ) → look-lts.Need-add-packed-2 (look-claims t) (look-at t) look.Post
+look-add-packed-2 t c = search needs
+
+look-packed-requires-3 : (t : ℕ) → look-lts.Need-packed-requires-3 (look-claims t) (look-at t) look.Post
+look-packed-requires-3 t c κs = search needs
+
+look-returns-5 : (t : ℕ) → look-lts.Need-returns-5 (look-claims t) (look-at t) look.Post
+look-returns-5 t c =
+    let apart = c .before .before in
+    let second = apart .before in
+    let root = second .before in
+    let read = root .before in
+    let some = read .before .before in
+    let start = some .before in
+    looked-spent (start .pre .1) (start .args .from-y) (some .if1 .left) (read .parent .ensures) (root .if2 .left)
+    (second .if3 .left) (apart .if4 .left) (c .before .if5 .taken) (c .packed3 .ensures)
+
+look-mul-parent : (t : ℕ) → look-lts.Need-mul-parent (look-claims t) (look-at t) look.Post
+look-mul-parent t c = search needs
+
+look-element-copy-out-parent : (t : ℕ) → look-lts.Need-element-copy-out-parent (look-claims t) (look-at t) look.Post
+look-element-copy-out-parent t c = search needs
+
+look-parent-requires-2 : (t : ℕ) → look-lts.Need-parent-requires-2 (look-claims t) (look-at t) look.Post
+look-parent-requires-2 t c κs = search needs
+
+look-add-packed-3 : (t : ℕ) → look-lts.Need-add-packed-3 (look-claims t) (look-at t) look.Post
+look-add-packed-3 t c = search needs
+
+look-packed-requires-4 : (t : ℕ) → look-lts.Need-packed-requires-4 (look-claims t) (look-at t) look.Post
+look-packed-requires-4 t c κs = search needs
+
+look-returns-6 : (t : ℕ) → look-lts.Need-returns-6 (look-claims t) (look-at t) look.Post
+look-returns-6 t c =
+    let again = c .before .before in
+    let two = again .before .before in
+    let apart = two .before in
+    let second = apart .before in
+    let root = second .before in
+    let read = root .before in
+    let some = read .before .before in
+    let start = some .before in
+    looked-no (start .pre .1) (start .args .from-y) (some .if1 .left) (read .parent .ensures) (root .if2 .left)
+    (second .if3 .left) (apart .if4 .left) (two .if5 .left) (again .parent2 .ensures) (c .before .if6 .taken) (c .packed4 .ensures)
+
+look-add-look-2 : (t : ℕ) → look-lts.Need-add-look-2 (look-claims t) (look-at t) look.Post
+look-add-look-2 t c = search needs
+
+look-sub-look-2 : (t : ℕ) → look-lts.Need-sub-look-2 (look-claims t) (look-at t) look.Post
+look-sub-look-2 t c = search needs
+
+look-look-requires-2 : (t : ℕ) → look-lts.Need-look-requires-2 (look-claims t) (look-at t) look.Post
+look-look-requires-2 t c κs =
+    let start = c .before .before .before .before .before .before .before .before .before .before .before in
+    let ready = start .pre .1 in (
+      omega (arith, start .pre .0),
+      record { admitted = ready .admitted; inside = ready .within; within = ready .inside; room = omega (arith, ready .room) },
+    )
+
+look-returns-7 : (t : ℕ) → look-lts.Need-returns-7 (look-claims t) (look-at t) look.Post
+look-returns-7 t c =
+    let moved = c .before .before in
+    let again = moved .before in
+    let two = again .before .before in
+    let apart = two .before in
+    let second = apart .before in
+    let root = second .before in
+    let read = root .before in
+    let some = read .before .before in
+    let start = some .before in
+    c .look2 .ensures
+    ∙ sym (looked-again (start .pre .1) (start .args .from-y) (some .if1 .left) (read .parent .ensures) (root .if2 .left)
+    (second .if3 .left) (apart .if4 .left) (two .if5 .left) (again .parent2 .ensures) (moved .if6 .left))
+
+move-on-packed-requires : (t : ℕ) → move-on-lts.Need-packed-requires (move-on-claims t) (move-on-at t) move-on.Post
+move-on-packed-requires t c κs = search needs
 
 move-on-returns : (t : ℕ) → move-on-lts.Need-returns (move-on-claims t) (move-on-at t) move-on.Post
 move-on-returns t c =
-    let tested = c .before in
-    let start = tested .before .before .before in
-    told-over (now (start .args .table)) (start .args .progress) (c .told .result) (start .pre .1)
-    (sym (tested .before .is-over .ensures) ∙ tested .if1 .taken) (c .told .ensures)
+    let start = c .before .before in
+    never _ (start .pre .1 .0) (c .before .if1 .taken) (c .packed .ensures)
 
-move-on-grant-requires : (t : ℕ) → move-on-lts.Need-grant-requires (move-on-claims t) (move-on-at t) move-on.Post
-move-on-grant-requires t c κs = c .before .before .before .before .pre .1
+move-on-parent-requires : (t : ℕ) → move-on-lts.Need-parent-requires (move-on-claims t) (move-on-at t) move-on.Post
+move-on-parent-requires t c κs = search needs
 
-move-on-grant-requires-2 : (t : ℕ) → move-on-lts.Need-grant-requires-2 (move-on-claims t) (move-on-at t) move-on.Post
-move-on-grant-requires-2 t c κs =
-    let granted = c .before .before .before in
-    let start = granted .before .before .before .before .before in
-    let read = carried (now (start .args .table)) _ (start .args .progress) _ (start .pre .1) (granted .grant .ensures .0) (granted .grant .ensures .1) in
-    read .ready
+move-on-cast-parent : (t : ℕ) → move-on-lts.Need-cast-parent (move-on-claims t) (move-on-at t) move-on.Post
+move-on-cast-parent t c = search needs
 
-move-on-grant-requires-3 : (t : ℕ) → move-on-lts.Need-grant-requires-3 (move-on-claims t) (move-on-at t) move-on.Post
-move-on-grant-requires-3 t c κs =
-    let second = c .before .before .before in
-    let granted = second .before .before .before .before in
-    let start = granted .before .before .before .before .before in
-    let read = carried (now (start .args .table)) _ (start .args .progress) _ (start .pre .1) (granted .grant .ensures .0) (granted .grant .ensures .1) in
-    let swapped = carried-on read (second .grant2 .ensures .0) (second .grant2 .ensures .1) in
-    swapped .ready
+move-on-mul-parent : (t : ℕ) → move-on-lts.Need-mul-parent (move-on-claims t) (move-on-at t) move-on.Post
+move-on-mul-parent t c = search needs
 
-move-on-look-requires : (t : ℕ) → move-on-lts.Need-look-requires (move-on-claims t) (move-on-at t) move-on.Post
-move-on-look-requires t c κs =
-    let third = c .before .before .before in
-    let second = third .before .before .before .before in
-    let granted = second .before .before .before .before in
-    let tested = granted .before .before in
-    let start = tested .before .before .before in
-    let read = carried (now (start .args .table)) _ (start .args .progress) _ (start .pre .1) (granted .grant .ensures .0) (granted .grant .ensures .1) in
-    let swapped = carried-on read (second .grant2 .ensures .0) (second .grant2 .ensures .1) in
-    let moved = carried-on swapped (third .grant3 .ensures .0) (third .grant3 .ensures .1) in
-    (omega (arith, start .pre .0, moved .falls (sym (tested .before .is-over .ensures) ∙ tested .if1 .left)), moved .ready)
+move-on-element-copy-out-parent : (t : ℕ) → move-on-lts.Need-element-copy-out-parent (move-on-claims t) (move-on-at t) move-on.Post
+move-on-element-copy-out-parent t c =
+    let start = c .before .before in
+    up-inside (start .pre .1 .0) (start .pre .1 .1) (c .parent .ensures)
 
-move-on-same-length : (t : ℕ) → move-on-lts.Need-same-length (move-on-claims t) (move-on-at t) move-on.Post
-move-on-same-length t c = search needs
+move-on-parent-requires-2 : (t : ℕ) → move-on-lts.Need-parent-requires-2 (move-on-claims t) (move-on-at t) move-on.Post
+move-on-parent-requires-2 t c κs = search needs
+
+move-on-add-packed : (t : ℕ) → move-on-lts.Need-add-packed (move-on-claims t) (move-on-at t) move-on.Post
+move-on-add-packed t c = search needs
+
+move-on-packed-requires-2 : (t : ℕ) → move-on-lts.Need-packed-requires-2 (move-on-claims t) (move-on-at t) move-on.Post
+move-on-packed-requires-2 t c κs = search needs
 
 move-on-returns-2 : (t : ℕ) → move-on-lts.Need-returns-2 (move-on-claims t) (move-on-at t) move-on.Post
 move-on-returns-2 t c =
-    let third = c .before .before .before .before .before .before in
-    let second = third .before .before .before .before in
-    let granted = second .before .before .before .before in
-    let start = granted .before .before .before .before .before in
-    let read = carried (now (start .args .table)) _ (start .args .progress) _ (start .pre .1) (granted .grant .ensures .0) (granted .grant .ensures .1) in
-    let swapped = carried-on read (second .grant2 .ensures .0) (second .grant2 .ensures .1) in
-    let moved = carried-on swapped (third .grant3 .ensures .0) (third .grant3 .ensures .1) in
-    c .before .before .look .ensures ∙ moved .same
+    let above = c .before .before in
+    let up = above .before .before in
+    let start = up .before .before in
+    once-spent (start .pre .1 .0) (start .pre .1 .1) (up .parent .ensures) (above .parent2 .ensures) (start .args .from-y)
+    (c .before .if2 .taken)
+    (c .packed2 .ensures)
+
+move-on-halve-requires : (t : ℕ) → move-on-lts.Need-halve-requires (move-on-claims t) (move-on-at t) move-on.Post
+move-on-halve-requires t c κs =
+    let above = c .before .before in
+    let up = above .before .before in
+    let start = up .before .before in
+    let ready = start .pre .1 .0 in
+    let lower = start .pre .1 .1 in (
+      ready .admitted,
+      (ready .inside, own-rank ready lower (up .parent .ensures), above-inside ready lower (up .parent .ensures) (above .parent2 .ensures)),
+    )
+
+move-on-add-packed-2 : (t : ℕ) → move-on-lts.Need-add-packed-2 (move-on-claims t) (move-on-at t) move-on.Post
+move-on-add-packed-2 t c = search needs
+
+move-on-packed-requires-3 : (t : ℕ) → move-on-lts.Need-packed-requires-3 (move-on-claims t) (move-on-at t) move-on.Post
+move-on-packed-requires-3 t c κs = search needs
+
+move-on-returns-3 : (t : ℕ) → move-on-lts.Need-returns-3 (move-on-claims t) (move-on-at t) move-on.Post
+move-on-returns-3 t c =
+    let halved = c .before .before in
+    let above = halved .before .before .before in
+    let up = above .before .before in
+    let start = up .before .before in
+    twice-spent (start .pre .1 .0) (start .pre .1 .1) (up .parent .ensures) (above .parent2 .ensures) (halved .halve .ensures)
+    (start .args .from-y) (c .before .if3 .taken) (c .packed3 .ensures)
+
+move-on-cast-parent-2 : (t : ℕ) → move-on-lts.Need-cast-parent-2 (move-on-claims t) (move-on-at t) move-on.Post
+move-on-cast-parent-2 t c = search needs
+
+move-on-mul-parent-2 : (t : ℕ) → move-on-lts.Need-mul-parent-2 (move-on-claims t) (move-on-at t) move-on.Post
+move-on-mul-parent-2 t c = search needs
+
+move-on-element-copy-out-parent-2 : (t : ℕ) → move-on-lts.Need-element-copy-out-parent-2 (move-on-claims t) (move-on-at t) move-on.Post
+move-on-element-copy-out-parent-2 t c =
+    let up = c .before .before .before .before .before .before in
+    let start = up .before .before in
+    up-inside (start .pre .1 .0) (start .pre .1 .1) (up .parent .ensures)
+
+move-on-parent-requires-3 : (t : ℕ) → move-on-lts.Need-parent-requires-3 (move-on-claims t) (move-on-at t) move-on.Post
+move-on-parent-requires-3 t c κs = search needs
+
+move-on-add-look : (t : ℕ) → move-on-lts.Need-add-look (move-on-claims t) (move-on-at t) move-on.Post
+move-on-add-look t c = search needs
+
+move-on-sub-look : (t : ℕ) → move-on-lts.Need-sub-look (move-on-claims t) (move-on-at t) move-on.Post
+move-on-sub-look t c = search needs
+
+move-on-look-requires : (t : ℕ) → move-on-lts.Need-look-requires (move-on-claims t) (move-on-at t) move-on.Post
+move-on-look-requires t c κs =
+    let next = c .before in
+    let halved = next .before .before .before in
+    let above = halved .before .before .before in
+    let up = above .before .before in
+    let start = up .before .before in
+    let ready = moved-ready (start .pre .1 .0) (start .pre .1 .1) (up .parent .ensures) (above .parent2 .ensures) (halved .halve .ensures)
+    (next .parent3 .ensures) (omega arith) in
+    (omega (arith, start .pre .0), ready)
+
+move-on-returns-4 : (t : ℕ) → move-on-lts.Need-returns-4 (move-on-claims t) (move-on-at t) move-on.Post
+move-on-returns-4 t c =
+    let next = c .before .before in
+    let halved = next .before .before .before in
+    let above = halved .before .before .before in
+    let up = above .before .before in
+    let start = up .before .before in
+    c .look .ensures
+    ∙ sym (moved (start .pre .1 .0) (start .pre .1 .1) (up .parent .ensures) (above .parent2 .ensures) (halved .halve .ensures)
+    (next .parent3 .ensures) (omega arith) (start .args .from-y))
 
 pub +look+move-on-spec : {M : Type 1} → statement M
 +look+move-on-spec = close μ-look μ-move-on (λ t. look-lts.spec (look-claims t)
     (look-at t)
     look.Post
-    (look-is-over-requires t)
-    (look-told-requires t)
+    (look-packed-requires t)
     (look-returns t)
-    (look-grant-requires t)
-    (look-is-climbing-requires t)
+    (look-mul-word t)
+    (look-element-copy-out-word t)
+    (look-parent-requires t)
+    (look-add-move-on t)
+    (look-sub-move-on t)
     (look-move-on-requires t)
-    (look-same-length t)
     (look-returns-2 t)
+    (look-add-look t)
+    (look-sub-look t)
     (look-look-requires t)
-    (look-same-length-2 t)
-    (look-returns-3 t))
+    (look-returns-3 t)
+    (look-add-packed t)
+    (look-packed-requires-2 t)
+    (look-returns-4 t)
+    (look-add-packed-2 t)
+    (look-packed-requires-3 t)
+    (look-returns-5 t)
+    (look-mul-parent t)
+    (look-element-copy-out-parent t)
+    (look-parent-requires-2 t)
+    (look-add-packed-3 t)
+    (look-packed-requires-4 t)
+    (look-returns-6 t)
+    (look-add-look-2 t)
+    (look-sub-look-2 t)
+    (look-look-requires-2 t)
+    (look-returns-7 t))
     λ t. move-on-lts.spec (move-on-claims t)
     (move-on-at t)
     move-on.Post
-    (move-on-is-over-requires t)
-    (move-on-told-requires t)
+    (move-on-packed-requires t)
     (move-on-returns t)
-    (move-on-grant-requires t)
-    (move-on-grant-requires-2 t)
-    (move-on-grant-requires-3 t)
-    (move-on-look-requires t)
-    (move-on-same-length t)
+    (move-on-parent-requires t)
+    (move-on-cast-parent t)
+    (move-on-mul-parent t)
+    (move-on-element-copy-out-parent t)
+    (move-on-parent-requires-2 t)
+    (move-on-add-packed t)
+    (move-on-packed-requires-2 t)
     (move-on-returns-2 t)
+    (move-on-halve-requires t)
+    (move-on-add-packed-2 t)
+    (move-on-packed-requires-3 t)
+    (move-on-returns-3 t)
+    (move-on-cast-parent-2 t)
+    (move-on-mul-parent-2 t)
+    (move-on-element-copy-out-parent-2 t)
+    (move-on-parent-requires-3 t)
+    (move-on-add-look t)
+    (move-on-sub-look t)
+    (move-on-look-requires t)
+    (move-on-returns-4 t)

@@ -46,7 +46,11 @@ root-of-root-of-requires t c κs =
     let start = c .before .before .before .before in
     let words = now (start .args .table) in
     let above = c .before .parent in (
-      omega (arith, start .pre .0, walk-falls words (start .args .node) (start .pre .1 .0) (start .pre .1 .1) (above .result) (above .ensures) (c .if1 .left)),
+      omega (
+        arith,
+        start .pre .0,
+        walk-falls words (start .args .node) (start .pre .1 .0) (start .pre .1 .1) (above .result) (above .ensures) (c .if1 .left),
+      ),
       (start .pre .1 .0, walk-inside words (start .args .node) (start .pre .1 .0) (start .pre .1 .1) (above .result) (above .ensures)),
     )
 
