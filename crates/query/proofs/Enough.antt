@@ -4,15 +4,16 @@
 --
 --   higher n r v             how many nodes come after v
 --   findNeed n p r v         the grants that a find from v needs at most
---   tailNeed n r y s         the grants that are needed at most after the find of side s
---   Fixed p x s              in the find from y, x is a root
+--   stepNeed n p r v s       the same from its step s on
+--   tailNeed n r y x         the grants that are needed at most after the find, the one from x or the one from y
+--   Fixed p a x              in the find from y, the node a is a root
 --   Needs Root need m        at most m grants are needed, with what is known of x
---   Enough n p r h stage m   m grants are enough from this stage on
+--   Enough n p r k stage m   m grants are enough for the task k from this stage on
 --
 -- Main law: steps-enough, an enquiry with enough grants is answered.
 use mathlib.Core.Path.{_≡_, refl, sym, ap, _∙_}
 use mathlib.Core.Logic.{_≢_}
-use mathlib.Core.Bool.{true, false, cond, true≢false}
+use mathlib.Core.Bool.{Bool, true, false, cond, true≢false}
 use mathlib.Core.List.{List}
 use Prim.Native.Nat.{ℕ, zero, suc, _+_, _*_, _≤_, _<_}
 use native.Mathlib.Omega.{arith}
@@ -26,25 +27,36 @@ use Rattle.job.specs.declared.Kind.the-variants.{Union, SameSet}
 use Rattle.job.specs.declared.Answer.the-variants.{Unfinished}
 use Rattle.word.specs.declared.Node.{Node}
 use Rattle.word.specs.Word.{key, same}
-use Rattle.process.specs.declared.Side.{Side}
-use Rattle.process.specs.declared.Side.the-variants.{X, Y}
+use Rattle.process.specs.declared.Step.{Step}
+use Rattle.process.specs.declared.Step.the-variants.{ReadNode, ReadParent, Halve, ReadAgain}
+use Rattle.process.specs.declared.Errand.{Errand}
+use Rattle.process.specs.declared.Errand.the-variants.{UnionX, UnionY, SameX, SameY}
 use Rattle.process.specs.declared.Stage.{Stage}
-use Rattle.process.specs.declared.Stage.the-variants.{Resting, ReadNode, ReadParent, Halve, ReadAgain, RereadX}
-use Rattle.process.specs.declared.Stage.the-variants.{ReadRankX, ReadRankY, Link, Raise}
+use Rattle.process.specs.declared.Stage.the-variants.{Resting, Find, RereadX, ReadRankX, ReadRankY, Link, Raise}
+use Rattle.process.specs.declared.Task.{Task}
 use Rattle.process.specs.declared.Head.{Head}
 use Rattle.process.specs.declared.Advanced.{Advanced}
-use Rattle.process.specs.Process.{restingAt, nodeAt, staged, begin}
+use Rattle.process.specs.Process.{traitsOf, kindOf, servesX, nextErrand, nodeAt, restart, begin}
+use Rattle.process.specs.Find.{findAccess, walked}
 use Rattle.process.specs.Access.{accessAt, accessOf}
-use Rattle.process.specs.Advance.{ended, readNode, moveUp, reread, advanceAt, advanceOf}
+use Rattle.process.specs.Advance.{continue, compared, followed, reread, advanceAt, advanceOf}
 use Rattle.forest.specs.Forest.{count}
 use Rattle.forest.proofs.Count.{count-le, count-positive, count-sum}
 use Rattle.rules.specs.Report.{isFinal}
 use Rattle.rules.specs.Table.{noNode, at, parent, rank, seen, touched}
 use Rattle.rules.proofs.History.{final-number}
-use Rattle.rules.proofs.Stages.{Above, Knows}
+use Rattle.rules.proofs.Finds.{Above, FindKnows}
+use Rattle.rules.proofs.Stages.{Knows}
 use Rattle.query.specs.Query.{granted, steps, sameSet}
 use Rattle.query.specs.Admitted.{Admitted}
 use Rattle.query.proofs.Steps.{Serving, no-union, serving-goes-on, serving-ranks}
+
+-- the find from y follows the find from x
+next-serves : (e : Errand) → servesX e ≡ true → servesX (nextErrand e) ≡ false
+next-serves UnionX first = refl
+next-serves UnionY first = absurd (true≢false (sym first))
+next-serves SameX first = refl
+next-serves SameY first = absurd (true≢false (sym first))
 
 -- ---- how many nodes come after a node
 
@@ -93,29 +105,34 @@ higher-below n r v inside =
 abbrev findNeed : ℕ → (ℕ → ℕ) → (ℕ → ℕ) → ℕ → ℕ
 findNeed n p r v = cond (eqb (p v) v) 1 (2 * higher n r v + 3)
 
-abbrev tailNeed : ℕ → (ℕ → ℕ) → ℕ → Side → ℕ
-tailNeed n r y X = 2 * higher n r y + 4
-tailNeed n r y Y = 1
+-- what a find needs from its step on
+abbrev stepNeed : ℕ → (ℕ → ℕ) → (ℕ → ℕ) → ℕ → Step → ℕ
+stepNeed n p r v ReadNode = findNeed n p r v
+stepNeed n p r v (ReadParent rank t) = 2 * higher n r v + 2
+stepNeed n p r v (Halve rank t u) = 2 * higher n r v + 1
+stepNeed n p r v (ReadAgain t) = 2 * higher n r v
 
-abbrev Fixed : (ℕ → ℕ) → ℕ → Side → Type 0
-Fixed p x X = Unit {0}
-Fixed p x Y = p x ≡ x
+-- and what comes after it, by whether it is the find from x
+abbrev tailNeed : ℕ → (ℕ → ℕ) → ℕ → Bool → ℕ
+tailNeed n r y true = 2 * higher n r y + 4
+tailNeed n r y false = 1
+
+abbrev Fixed : (ℕ → ℕ) → ℕ → Bool → Type 0
+Fixed p x true = Unit {0}
+Fixed p x false = p x ≡ x
 
 pub record Needs (Root : Type 0) (need m : ℕ) : Type 0 where
   pub fixed : Root
   pub enough : need ≤ m
 
-abbrev pub Enough : ℕ → (ℕ → ℕ) → (ℕ → ℕ) → Head → Stage → ℕ → Type 0
-Enough n p r h Resting m = Unit {0}
-Enough n p r h (ReadNode k s) m = Needs (Fixed p (h .x) s) (findNeed n p r (nodeAt h s) + tailNeed n r (h .y) s) m
-Enough n p r h (ReadParent k s rank t) m = Needs (Fixed p (h .x) s) (2 * higher n r (nodeAt h s) + 2 + tailNeed n r (h .y) s) m
-Enough n p r h (Halve k s rank t u) m = Needs (Fixed p (h .x) s) (2 * higher n r (nodeAt h s) + 1 + tailNeed n r (h .y) s) m
-Enough n p r h (ReadAgain k s t) m = Needs (Fixed p (h .x) s) (2 * higher n r (nodeAt h s) + tailNeed n r (h .y) s) m
-Enough n p r h (RereadX point) m = Needs (p (h .x) ≡ h .x) 1 m
-Enough n p r h ReadRankX m = Unit {0}
-Enough n p r h (ReadRankY rank) m = Unit {0}
-Enough n p r h (Link rank e) m = Unit {0}
-Enough n p r h (Raise rank) m = Unit {0}
+abbrev pub Enough : ℕ → (ℕ → ℕ) → (ℕ → ℕ) → Task → Stage → ℕ → Type 0
+Enough n p r k Resting m = Unit {0}
+Enough n p r k (Find e s) m = Needs (Fixed p (k .x) (servesX e)) (stepNeed n p r (nodeAt k e) s + tailNeed n r (k .y) (servesX e)) m
+Enough n p r k (RereadX point) m = Needs (p (k .x) ≡ k .x) 1 m
+Enough n p r k ReadRankX m = Unit {0}
+Enough n p r k (ReadRankY rank) m = Unit {0}
+Enough n p r k (Link rank e) m = Unit {0}
+Enough n p r k (Raise rank) m = Unit {0}
 
 module _ (n : ℕ) (p r : ℕ → ℕ) where
   find-least : (v : ℕ) → 1 ≤ findNeed n p r v
@@ -124,66 +141,82 @@ module _ (n : ℕ) (p r : ℕ → ℕ) where
   find-most : (v : ℕ) → findNeed n p r v ≤ 2 * higher n r v + 3
   find-most v = split (eqb (p v) v) (λ e. rw e (omega arith)) (λ e. rw e (omega arith))
 
-  tail-least : (y : ℕ) (s : Side) → 1 ≤ tailNeed n r y s
-  tail-least y X = omega arith
-  tail-least y Y = omega arith
+  tail-least : (y : ℕ) (x : Bool) → 1 ≤ tailNeed n r y x
+  tail-least y true = omega arith
+  tail-least y false = omega arith
+
+  step-least : (v : ℕ) (s : Step) (tail : ℕ) → 1 ≤ tail → 1 ≤ stepNeed n p r v s + tail
+  step-least v ReadNode tail l = omega arith
+  step-least v (ReadParent rank t) tail l = omega arith
+  step-least v (Halve rank t u) tail l = omega arith
+  step-least v (ReadAgain t) tail l = omega arith
 
 -- ---- one step uses one grant of what is enough
 
 module _ {n : ℕ} {t : List Node} (r : ℕ → ℕ) (admitted : Admitted n t) (ranks : (i : ℕ) → rank t i ≡ r i)
-    (used : ℕ) (h : Head) (m : ℕ) where
+    (used : ℕ) (k : Task) (m : ℕ) where
   -- enough for what comes next, if anything does
   abbrev Goes : List Node → Advanced → Type 0
-  Goes t′ next = isFinal (next .event .answer) ≡ false → Enough n (parent t′) r (next .head) (next .head .stage) m
+  Goes t′ next = isFinal (next .event .answer) ≡ false → Enough n (parent t′) r (next .head .task) (next .head .stage) m
 
-  two-roots : (k : Kind) → SameSet ≡ k → parent t (h .x) ≡ h .x → 1 ≤ m → eqb (h .x) (h .y) ≡ false → Goes t (ended h k Y (suc used))
+  -- ---- the end of a find
+
+  two-roots : (kind : Kind) → SameSet ≡ kind → parent t (k .x) ≡ k .x → 1 ≤ m → eqb (k .x) (k .y) ≡ false → Goes t (compared k kind (suc used))
   two-roots Union kind root l e = no-union kind
   two-roots SameSet kind root l e = rw e (λ f. record { fixed = root; enough = l })
 
-  one-root : (k : Kind) → SameSet ≡ k → eqb (h .x) (h .y) ≡ true → Goes t (ended h k Y (suc used))
+  one-root : (kind : Kind) → SameSet ≡ kind → eqb (k .x) (k .y) ≡ true → Goes t (compared k kind (suc used))
   one-root Union kind e = no-union kind
   one-root SameSet kind e = rw e (λ f. absurd (true≢false f))
 
-  find-ended : (k : Kind) (s : Side) → SameSet ≡ k → parent t (nodeAt h s) ≡ nodeAt h s
-      → Needs (Fixed (parent t) (h .x) s) (tailNeed n r (h .y) s) m → Goes t (ended h k s (suc used))
-  find-ended k X kind root needs =
-      λ f. record { fixed = root; enough = omega (arith, find-most n (parent t) r (h .y), needs .enough) }
-  find-ended k Y kind root needs =
-      split (eqb (h .x) (h .y)) (λ e. one-root k kind e) (λ e. two-roots k kind (needs .fixed) (needs .enough) e)
+  -- the find from y, with x a root
+  from-y : (e : Errand) → servesX e ≡ false → parent t (k .x) ≡ k .x → findNeed n (parent t) r (k .y) + 1 ≤ m
+      → Enough n (parent t) r k (Find e ReadNode) m
+  from-y e second root l = rw second (record { fixed = root; enough = l })
 
-  read-node : (k : Kind) (s : Side) → SameSet ≡ k → Enough n (parent t) r h (ReadNode k s) (suc m)
-      → Goes t (readNode h k s (at t (nodeAt h s)) (suc used))
-  read-node k s kind needs =
-      split (eqb (parent t v) v)
-      (λ e. rw e
-      (find-ended k s kind (eqb-true (parent t v) v e)
-      (record { fixed = needs .fixed; enough = omega (arith, root-need e, needs .enough) })))
-      (λ e. rw e (λ f. climbs e))
-    where
-      v : ℕ
-      v = nodeAt h s
+  find-ended : (e : Errand) (x : Bool) → servesX e ≡ x → SameSet ≡ kindOf e → parent t (cond x (k .x) (k .y)) ≡ cond x (k .x) (k .y)
+      → Needs (Fixed (parent t) (k .x) x) (tailNeed n r (k .y) x) m
+      → Goes t (cond x (continue k (Find (nextErrand e) ReadNode)) (compared k (kindOf e) (suc used)))
+  find-ended e true first kind root needs =
+      λ f. from-y (nextErrand e) (next-serves e first) root (omega (arith, find-most n (parent t) r (k .y), needs .enough))
+  find-ended e false second kind root needs =
+      split (eqb (k .x) (k .y)) (λ one. one-root (kindOf e) kind one) (λ two. two-roots (kindOf e) kind (needs .fixed) (needs .enough) two)
 
-      root-need : eqb (parent t (nodeAt h s)) (nodeAt h s) ≡ true → findNeed n (parent t) r (nodeAt h s) ≡ 1
-      root-need e = rw e refl
+  -- ---- the four grants of a move
 
-      climbs : eqb (parent t (nodeAt h s)) (nodeAt h s) ≡ false
-          → Enough n (parent t) r (staged h (ReadParent k s (rank t (nodeAt h s)) (parent t (nodeAt h s))))
-          (ReadParent k s (rank t (nodeAt h s)) (parent t (nodeAt h s))) m
-      climbs e =
-          let need : findNeed n (parent t) r (nodeAt h s) ≡ 2 * higher n r (nodeAt h s) + 3 = rw e refl in
-          record { fixed = needs .fixed; enough = omega (arith, need, needs .enough) }
+  read-node : (e : Errand) → SameSet ≡ kindOf e → Enough n (parent t) r k (Find e ReadNode) (suc m)
+      → Goes t (followed k e (suc used) (walked (nodeAt k e) (at t (nodeAt k e)) ReadNode))
+  read-node e kind needs =
+      split (eqb (parent t (nodeAt k e)) (nodeAt k e))
+      (λ root.
+      let need : findNeed n (parent t) r (nodeAt k e) ≡ 1 = rw root refl in
+      rw root
+      (find-ended e (servesX e) refl kind (eqb-true (parent t (nodeAt k e)) (nodeAt k e) root)
+      (record { fixed = needs .fixed; enough = omega (arith, need, needs .enough) })))
+      (λ none.
+      let need : findNeed n (parent t) r (nodeAt k e) ≡ 2 * higher n r (nodeAt k e) + 3 = rw none refl in
+      rw none (λ f. record { fixed = needs .fixed; enough = omega (arith, need, needs .enough) }))
 
   -- the halving of a node that is no root leaves x a root
-  halve-fixed : (s : Side) (expected new : Node) → parent t (nodeAt h s) ≢ nodeAt h s → Fixed (parent t) (h .x) s
-      → Fixed (parent (cond (same (at t (nodeAt h s)) expected) (set t (nodeAt h s) new) t)) (h .x) s
-  halve-fixed X expected new lower fixed = tt
-  halve-fixed Y expected new lower fixed =
-      split (same (at t (h .y)) expected)
-      (λ e. rw e (ap (λ w. w .parent) (getD-set-other t (h .y) (h .x) new noNode apart) ∙ fixed))
+  halve-fixed : (x : Bool) (expected new : Node) → parent t (cond x (k .x) (k .y)) ≢ cond x (k .x) (k .y) → Fixed (parent t) (k .x) x
+      → Fixed (parent (cond (same (at t (cond x (k .x) (k .y))) expected) (set t (cond x (k .x) (k .y)) new) t)) (k .x) x
+  halve-fixed true expected new lower fixed = tt
+  halve-fixed false expected new lower fixed =
+      split (same (at t (k .y)) expected)
+      (λ e. rw e (ap (λ w. w .parent) (getD-set-other t (k .y) (k .x) new noNode apart) ∙ fixed))
       (λ e. rw e fixed)
     where
-      apart : h .x ≢ h .y
+      apart : k .x ≢ k .y
       apart e = lower (sym (ap (parent t) e) ∙ fixed ∙ e)
+
+  halve-goes : (e : Errand) (rank u w : ℕ) → parent t (nodeAt k e) ≢ nodeAt k e → Enough n (parent t) r k (Find e (Halve rank u w)) (suc m)
+      → Goes (touched t (findAccess (nodeAt k e) (Halve rank u w))) (followed k e (suc used) (walked (nodeAt k e) (at t (nodeAt k e)) (Halve rank u w)))
+  halve-goes e rank u w lower needs =
+      let expected : Node = record { rank = rank; parent = u } in
+      let fixed = halve-fixed (servesX e) expected (record { rank = rank; parent = w }) lower (needs .fixed) in
+      split (same (at t (nodeAt k e)) expected)
+      (λ s. rw s (λ f. record { fixed = rw s at fixed; enough = omega (arith, needs .enough) }))
+      (λ s. rw s (λ f. record { fixed = needs .fixed; enough = omega (arith, needs .enough) }))
 
   -- x goes up by two nodes, or to a root
   moved-need : {B : ℕ → ℕ} (v u : ℕ) → Above n (parent t) (rank t) B v u → findNeed n (parent t) r (parent t u) + 1 ≤ 2 * higher n r v
@@ -203,28 +236,33 @@ module _ {n : ℕ} {t : List Node} (r : ℕ → ℕ) (admitted : Admitted n t) (
           higher-less n r u (parent t u) (admitted .inside u (above .node))
           (omega (arith, admitted .rising u (above .node) (λ e. d (ap (parent t) e)), ranks u, ranks (parent t u)))
 
-  read-again : {B : ℕ → ℕ} (k : Kind) (s : Side) (u : ℕ) → Above n (parent t) (rank t) B (nodeAt h s) u
-      → Enough n (parent t) r h (ReadAgain k s u) (suc m) → Goes t (moveUp h k s (parent t u))
-  read-again k X u above needs f = record { fixed = tt; enough = omega (arith, moved-need (h .x) u above, needs .enough) }
-  read-again k Y u above needs f = record { fixed = needs .fixed; enough = omega (arith, moved-need (h .y) u above, needs .enough) }
+  -- the node that the find has moved to
+  moved-enough : (x : Bool) (u need : ℕ) → Needs (Fixed (parent t) (k .x) x) (need + tailNeed n r (k .y) x) (suc m)
+      → findNeed n (parent t) r u + 1 ≤ need
+      → Needs (Fixed (parent t) (cond x u (k .x)) x)
+      (findNeed n (parent t) r (cond x (cond x u (k .x)) (cond x (k .y) u)) + tailNeed n r (cond x (k .y) u) x) m
+  moved-enough true u need needs l = record { fixed = tt; enough = omega (arith, l, needs .enough) }
+  moved-enough false u need needs l = record { fixed = needs .fixed; enough = omega (arith, l, needs .enough) }
 
-  reread-x : (point : ℕ) → Enough n (parent t) r h (RereadX point) (suc m) → Goes t (reread h point (at t (h .x)))
-  reread-x point needs = rw (eq-eqb (parent t (h .x)) (h .x) (needs .fixed)) (λ f. absurd (true≢false f))
+  reread-x : (point : ℕ) → Enough n (parent t) r k (RereadX point) (suc m) → Goes t (reread k point (at t (k .x)))
+  reread-x point needs = rw (eq-eqb (parent t (k .x)) (k .x) (needs .fixed)) (λ f. absurd (true≢false f))
 
-  stage-enough : (B : ℕ → ℕ) (a b : ℕ) (stage : Stage) → restingAt stage ≡ false
-      → Knows n (parent t) (rank t) B (λ point. B a ≢ B b) used (sameSet a b) h stage → Enough n (parent t) r h stage (suc m)
-      → Goes (touched t (accessAt h stage)) (advanceAt h (seen t (accessAt h stage)) (suc used) stage)
+  -- ---- every stage
+
+  find-enough : (B : ℕ → ℕ) (e : Errand) (s : Step) → SameSet ≡ kindOf e → FindKnows n (parent t) (rank t) B (nodeAt k e) s
+      → Enough n (parent t) r k (Find e s) (suc m)
+      → Goes (touched t (findAccess (nodeAt k e) s)) (followed k e (suc used) (walked (nodeAt k e) (seen t (findAccess (nodeAt k e) s)) s))
+  find-enough B e ReadNode kind knows needs = read-node e kind needs
+  find-enough B e (ReadParent rank u) kind knows needs = λ f. record { fixed = needs .fixed; enough = omega (arith, needs .enough) }
+  find-enough B e (Halve rank u w) kind knows needs = halve-goes e rank u w (knows .parent .lower) needs
+  find-enough B e (ReadAgain u) kind knows needs =
+      λ f. moved-enough (servesX e) (parent t u) (2 * higher n r (nodeAt k e)) needs (moved-need (nodeAt k e) u knows)
+
+  stage-enough : (B : ℕ → ℕ) (a b : ℕ) (stage : Stage) → traitsOf stage .resting ≡ false
+      → Knows n (parent t) (rank t) B (λ point. B a ≢ B b) used (sameSet a b) k stage → Enough n (parent t) r k stage (suc m)
+      → Goes (touched t (accessAt k stage)) (advanceAt k (seen t (accessAt k stage)) (suc used) stage)
   stage-enough B a b Resting busy knows needs = absurd (true≢false busy)
-  stage-enough B a b (ReadNode k s) busy knows needs = read-node k s (knows .kind) needs
-  stage-enough B a b (ReadParent k s rank u) busy knows needs = λ f. record { fixed = needs .fixed; enough = omega (arith, needs .enough) }
-  stage-enough B a b (Halve k s rank u w) busy knows needs =
-      λ f. record {
-        fixed =
-            halve-fixed s (record { rank = rank; parent = u }) (record { rank = rank; parent = w }) (knows .parent .lower)
-            (needs .fixed);
-        enough = omega (arith, needs .enough);
-      }
-  stage-enough B a b (ReadAgain k s u) busy knows needs = read-again k s u (knows .parent) needs
+  stage-enough B a b (Find e s) busy knows needs = find-enough B e s (knows .finding .kind) (knows .find) needs
   stage-enough B a b (RereadX point) busy knows needs = reread-x point needs
   stage-enough B a b ReadRankX busy knows needs = no-union (knows .finding .kind)
   stage-enough B a b (ReadRankY rank) busy knows needs = no-union (knows .finding .kind)
@@ -234,33 +272,29 @@ module _ {n : ℕ} {t : List Node} (r : ℕ → ℕ) (admitted : Admitted n t) (
 -- ---- the whole enquiry
 
 -- a head that has not answered needs a grant
-enough-positive : (n : ℕ) (p r : ℕ → ℕ) (B : ℕ → ℕ) (a b used : ℕ) (ranks : ℕ → ℕ) (h : Head) (stage : Stage) → restingAt stage ≡ false
-    → Knows n p ranks B (λ point. B a ≢ B b) used (sameSet a b) h stage → Enough n p r h stage 0 → ⊥
-enough-positive n p r B a b used ranks h Resting busy knows needs = true≢false busy
-enough-positive n p r B a b used ranks h (ReadNode k s) busy knows needs =
-    absurd (omega (arith, find-least n p r (nodeAt h s), needs .enough))
-enough-positive n p r B a b used ranks h (ReadParent k s rank t) busy knows needs = absurd (omega (arith, needs .enough))
-enough-positive n p r B a b used ranks h (Halve k s rank t u) busy knows needs = absurd (omega (arith, needs .enough))
-enough-positive n p r B a b used ranks h (ReadAgain k s t) busy knows needs =
-    absurd (omega (arith, tail-least n p r (h .y) s, needs .enough))
-enough-positive n p r B a b used ranks h (RereadX point) busy knows needs = absurd (omega (arith, needs .enough))
-enough-positive n p r B a b used ranks h ReadRankX busy knows needs = no-union (knows .finding .kind)
-enough-positive n p r B a b used ranks h (ReadRankY rank) busy knows needs = no-union (knows .finding .kind)
-enough-positive n p r B a b used ranks h (Link rank e) busy knows needs = no-union (knows .finding .kind)
-enough-positive n p r B a b used ranks h (Raise rank) busy knows needs = no-union (knows .kind)
+enough-positive : (n : ℕ) (p r : ℕ → ℕ) (B : ℕ → ℕ) (a b used : ℕ) (ranks : ℕ → ℕ) (k : Task) (stage : Stage)
+    → traitsOf stage .resting ≡ false → Knows n p ranks B (λ point. B a ≢ B b) used (sameSet a b) k stage → Enough n p r k stage 0 → ⊥
+enough-positive n p r B a b used ranks k Resting busy knows needs = true≢false busy
+enough-positive n p r B a b used ranks k (Find e s) busy knows needs =
+    omega (arith, step-least n p r (nodeAt k e) s (tailNeed n r (k .y) (servesX e)) (tail-least n p r (k .y) (servesX e)), needs .enough)
+enough-positive n p r B a b used ranks k (RereadX point) busy knows needs = absurd (omega (arith, needs .enough))
+enough-positive n p r B a b used ranks k ReadRankX busy knows needs = no-union (knows .finding .kind)
+enough-positive n p r B a b used ranks k (ReadRankY rank) busy knows needs = no-union (knows .finding .kind)
+enough-positive n p r B a b used ranks k (Link rank e) busy knows needs = no-union (knows .finding .kind)
+enough-positive n p r B a b used ranks k (Raise rank) busy knows needs = no-union (knows .kind)
 
 module _ {n : ℕ} {B : ℕ → ℕ} {a b : ℕ} (r : ℕ → ℕ) where
   step-enough : {t : List Node} (used : ℕ) (h : Head) (m : ℕ) → Serving n B a b t used h Unfinished → ((i : ℕ) → rank t i ≡ r i)
-      → Enough n (parent t) r h (h .stage) (suc m) → isFinal (granted h t used .event .answer) ≡ false
-      → Enough n (parent (touched t (accessOf h))) r (granted h t used .head) (granted h t used .head .stage) m
+      → Enough n (parent t) r (h .task) (h .stage) (suc m) → isFinal (granted h t used .event .answer) ≡ false
+      → Enough n (parent (touched t (accessOf h))) r (granted h t used .head .task) (granted h t used .head .stage) m
   unfolding accessOf advanceOf
   step-enough used h m serving ranks needs =
-      stage-enough r (serving .admitted) ranks used h m B a b (h .stage) (serving .rests) (serving .knows) needs
+      stage-enough r (serving .admitted) ranks used (h .task) m B a b (h .stage) (serving .rests) (serving .knows) needs
 
   pub steps-enough : (budget used : ℕ) (h : Head) (t : List Node) → Serving n B a b t used h Unfinished
-      → ((i : ℕ) → rank t i ≡ r i) → Enough n (parent t) r h (h .stage) budget → steps budget used h t .queried .answer ≢ 0
+      → ((i : ℕ) → rank t i ≡ r i) → Enough n (parent t) r (h .task) (h .stage) budget → steps budget used h t .queried .answer ≢ 0
   steps-enough zero used h t serving ranks needs =
-      absurd (enough-positive n (parent t) r B a b used (rank t) h (h .stage) (serving .rests) (serving .knows) needs)
+      absurd (enough-positive n (parent t) r B a b used (rank t) (h .task) (h .stage) (serving .rests) (serving .knows) needs)
   steps-enough (suc m) used h t serving ranks needs =
       split (isFinal (granted h t used .event .answer))
       (λ e. rw e (final-number (granted h t used .event .answer) e))
@@ -272,7 +306,7 @@ module _ {n : ℕ} {B : ℕ → ℕ} {a b : ℕ} (r : ℕ → ℕ) where
 
 -- four grants a node, and three, are enough at the start
 pub start-enough : (n : ℕ) (p r : ℕ → ℕ) (a b budget : ℕ) → a < n → b < n → 4 * n + 3 ≤ budget
-    → Enough n p r (begin (sameSet a b) 0) (ReadNode SameSet X) budget
+    → Enough n p r (begin (sameSet a b) 0 .task) (restart SameSet) budget
 start-enough n p r a b budget left right l =
     record {
       fixed = tt;

@@ -13,28 +13,29 @@ use mathlib.Core.List.{List, map}
 use Prim.Native.Nat.{ℕ, suc, _/_, _%_, _≤_}
 use native.Mathlib.Omega.{arith}
 use borrow.Author.Tests.{eq-eqb, ne-eqb}
-use Rattle.job.specs.declared.Kind.the-variants.{SameSet}
 use Rattle.job.specs.declared.Answer.{Answer}
 use Rattle.job.specs.declared.Answer.the-variants.{Unfinished, Joined, Together, Yes, No}
 use Rattle.job.specs.Job.{answerNumber}
 use Rattle.word.specs.declared.Node.{Node}
-use Rattle.word.specs.Word.{decode}
+use Rattle.word.specs.Word.{same, decode}
 use Rattle.process.specs.declared.Access.the-variants.{Cas}
-use Rattle.process.specs.declared.Stage.the-variants.{Halve, ReadAgain, RereadX}
+use Rattle.process.specs.declared.Step.the-variants.{Halve, ReadAgain}
+use Rattle.process.specs.declared.Stage.the-variants.{Find, RereadX}
 use Rattle.process.specs.declared.Head.{Head}
 use Rattle.process.specs.Access.{accessOf}
 use Rattle.process.specs.Advance.{advanceOf}
 use Rattle.rules.specs.Table.{at, parent, touched}
+use Rattle.linearization.proofs.Tests.{split}
 use Rattle.query.specs.Query.{answered, steps}
 use Rattle.query.specs.Admitted.{Admitted}
-use Rattle.query.specs.Numbers.{sideOf, headAt, looking, moving, packed, ended}
+use Rattle.query.specs.Numbers.{errandOf, headAt, looking, moving, packed, ended}
 use Rattle.query.proofs.Words.{words-kept}
 
 abbrev pub swapping : ℕ → ℕ → Bool → Node → ℕ → Head
-swapping node other fromY w above = headAt node other fromY (Halve SameSet (sideOf fromY) (w .rank) (w .parent) above)
+swapping node other fromY w above = headAt node other fromY (Find (errandOf fromY) (Halve (w .rank) (w .parent) above))
 
 abbrev pub again : ℕ → ℕ → Bool → ℕ → Head
-again node other fromY u = headAt node other fromY (ReadAgain SameSet (sideOf fromY) u)
+again node other fromY u = headAt node other fromY (Find (errandOf fromY) (ReadAgain u))
 
 abbrev pub rereading : ℕ → ℕ → ℕ → Head
 rereading x y point = headAt x y false (RereadX point)
@@ -81,8 +82,8 @@ module _ (t : List Node) (node other left used left′ used′ : ℕ) (one : lef
       → steps left used (swapping node other fromY w above) t
       ≡ steps left′ used′ (again node other fromY (w .parent)) (touched t (Cas node w (record { rank = w .rank; parent = above })))
   unfolding accessOf advanceOf
-  move-swaps false w above = rw (one, next) refl
-  move-swaps true w above = rw (one, next) refl
+  move-swaps false w above = split (same (at t node) w) (λ e. rw (one, next, e) refl) (λ e. rw (one, next, e) refl)
+  move-swaps true w above = split (same (at t node) w) (λ e. rw (one, next, e) refl) (λ e. rw (one, next, e) refl)
 
   pub move-ends : (fromY : Bool) (u : ℕ)
       → steps left used (again node other fromY u) t ≡ steps left′ used′ (looking (parent t u) other fromY) t

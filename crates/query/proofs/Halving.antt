@@ -1,78 +1,60 @@
--- A find's swap on a table whose ranks need not be backed by the sizes of its sets: a node gets a parent further up.
+-- What a find writes, on an admitted table: the table stays admitted, its labels and its ranks stay.
 --
--- Main laws: halved-formed and halved-labelled, the table stays well formed and its sets stay; halved-later, what the
--- head knows stays.
-use mathlib.Core.Path.{_≡_, sym, _∙_, subst, fun-ext}
+--   Kept n t t′ B   the table t′ is as admitted, labelled and ranked as t
+--
+-- Main law: halved-keeps; halved-admitted, the same of a table that is halved.
+use mathlib.Core.Path.{_≡_, refl, sym, _∙_, subst}
+use mathlib.Core.List.{List}
 use Prim.Native.Nat.{ℕ, _<_}
 use native.Mathlib.Omega.{arith}
-use native.Mathlib.Decide.{ℕ-discrete}
-use mathlib.Core.List.{List}
-use lib.ListN.{set, length-set}
+use lib.ListN.{length-set}
 use Rattle.word.specs.declared.Node.{Node}
 use Rattle.forest.proofs.Forest.{WellFormed, Labelled}
-use Rattle.forest.proofs.Writes.{Changed, changed-same, moved-root, moved-formed}
-use Rattle.forest.proofs.Halving.{Halving}
-use Rattle.forest.proofs.Later.{Later}
+use Rattle.forest.proofs.Writes.{Changed}
+use Rattle.forest.proofs.Halving.{Halving, halving-ranks, halving-formed, halving-labelled}
 use Rattle.rules.specs.Table.{parent, rank}
 use Rattle.rules.proofs.Table.{parent-changed, rank-changed}
+use Rattle.rules.proofs.Finds.{stored, Halved}
+use Rattle.rules.proofs.Finds.Halved.{kept, written}
 use Rattle.query.specs.Admitted.{Admitted}
 use Rattle.query.proofs.Words.{formed}
 
-module _ {n : ℕ} {p r B p′ r′ : ℕ → ℕ} {v k u : ℕ} (formed : WellFormed n p r) (halving : Halving n p r B v k u)
-    (parents : Changed p p′ v u) (ranks : Changed r r′ v k) where
-  pub halved-ranks : (i : ℕ) → r′ i ≡ r i
-  halved-ranks = changed-same ranks (halving .rank)
+pub record Kept (n : ℕ) (t t′ : List Node) (B : ℕ → ℕ) : Type 0 where
+  pub admitted : Admitted n t′
+  pub labelled : Labelled n (parent t′) B
+  pub ranks : (i : ℕ) → rank t′ i ≡ rank t i
 
-  halved-root : (i : ℕ) → p′ i ≡ i → p i ≡ i
-  halved-root = moved-root formed parents (halving .target) (halving .before)
+module _ {n : ℕ} {t : List Node} {B : ℕ → ℕ} (admitted : Admitted n t) where
+  module _ {v k u : ℕ} (halving : Halving n (parent t) (rank t) B v k u) where
+    parents : Changed (parent t) (parent (stored t v k u)) v u
+    parents = parent-changed t v (record { rank = k; parent = u }) (omega (arith, halving .node, admitted .nodes))
 
-  pub halved-formed : WellFormed n p′ r′
-  halved-formed =
-      subst
-      (λ s. WellFormed n p′ s)
-      (sym (fun-ext halved-ranks))
-      (moved-formed formed parents (halving .target) (halving .before))
+    each-rank : Changed (rank t) (rank (stored t v k u)) v k
+    each-rank = rank-changed t v (record { rank = k; parent = u }) (omega (arith, halving .node, admitted .nodes))
 
-  pub halved-labelled : Labelled n p B → Labelled n p′ B
-  halved-labelled labelled =
-      record {
-        along = λ i l. along i l (ℕ-discrete i v);
-        apart = λ i j inside-i inside-j root-i root-j. labelled .apart i j inside-i inside-j (halved-root i root-i) (halved-root j root-j);
-      }
-    where
-      along : (i : ℕ) → i < n → Dec (i ≡ v) → B (p′ i) ≡ B i
-      along i l (yes e) = rw (e, parents .at) (halving .same)
-      along i l (no e) = rw (parents .other i e) (labelled .along i l)
+    same-ranks : (i : ℕ) → rank (stored t v k u) i ≡ rank t i
+    same-ranks = halving-ranks (formed admitted) halving parents each-rank
 
-  pub halved-later : Later n p r B p′ r′ B
-  halved-later =
-      record {
-        root = λ i l. halved-root i;
-        frozen = λ i l d. halved-ranks i;
-        grows = λ i l. omega (arith, halved-ranks i);
-        merges = λ i j inside-i inside-j e. e;
-        larger = λ i l. omega arith;
-      }
+    pub halved-admitted : Admitted n (stored t v k u)
+    halved-admitted =
+        let stays = halving-formed (formed admitted) halving parents each-rank in
+        record {
+          nodes = length-set t v (record { rank = k; parent = u }) ∙ admitted .nodes;
+          few = admitted .few;
+          inside = stays .inside;
+          ranks = λ i l. omega (arith, admitted .ranks i l, same-ranks i);
+          rising = stays .rising;
+        }
 
--- ---- on an admitted table
+  pub unwritten : Labelled n (parent t) B → Kept n t t B
+  unwritten labelled = record { admitted = admitted; labelled = labelled; ranks = λ i. refl }
 
-module _ {n : ℕ} {t : List Node} {B : ℕ → ℕ} {v k u : ℕ} (admitted : Admitted n t) (halving : Halving n (parent t) (rank t) B v k u) where
-  abbrev pub halved : List Node
-  halved = set t v (record { rank = k; parent = u })
-
-  pub halved-parents : Changed (parent t) (parent halved) v u
-  halved-parents = parent-changed t v (record { rank = k; parent = u }) (omega (arith, halving .node, admitted .nodes))
-
-  pub halved-each-rank : Changed (rank t) (rank halved) v k
-  halved-each-rank = rank-changed t v (record { rank = k; parent = u }) (omega (arith, halving .node, admitted .nodes))
-
-  pub halved-admitted : Admitted n halved
-  halved-admitted =
-      let kept : WellFormed n (parent halved) (rank halved) = halved-formed (formed admitted) halving halved-parents halved-each-rank in
-      record {
-        nodes = length-set t v (record { rank = k; parent = u }) ∙ admitted .nodes;
-        few = admitted .few;
-        inside = kept .inside;
-        ranks = λ i l. omega (arith, admitted .ranks i l, halved-ranks (formed admitted) halving halved-parents halved-each-rank i);
-        rising = kept .rising;
-      }
+  pub halved-keeps : {t′ : List Node} {v : ℕ} → Labelled n (parent t) B → Halved n t t′ B v → Kept n t t′ B
+  halved-keeps labelled (kept e) = subst (λ t′. Kept n t t′ B) (sym e) (unwritten labelled)
+  halved-keeps labelled (written k u halving e) =
+      subst (λ t′. Kept n t t′ B) (sym e)
+      (record {
+        admitted = halved-admitted halving;
+        labelled = halving-labelled (formed admitted) halving (parents halving) (each-rank halving) labelled;
+        ranks = same-ranks halving;
+      })

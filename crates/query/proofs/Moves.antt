@@ -18,7 +18,7 @@ use Rattle.word.proofs.Laws.{same-true, encode-decode}
 use Rattle.process.specs.declared.Access.the-variants.{Cas}
 use Rattle.forest.proofs.Halving.{Halving}
 use Rattle.rules.specs.Table.{at, parent, rank, touched}
-use Rattle.rules.proofs.Stages.{Above, own-parent, above-parent}
+use Rattle.rules.proofs.Finds.{Above, own-parent, above-parent}
 use Rattle.table.proofs.Words.{at-decoded, decode-words}
 use Rattle.query.specs.Query.{wordAt, steps}
 use Rattle.query.specs.Admitted.{Admitted}

@@ -1,7 +1,7 @@
 -- The enquiry on plain numbers: what the numbers and the array of its inner functions stand for. A find stands at `node`;
 -- `other` is the enquiry's other node; `fromY` tells the find from y.
 --
---   sideOf fromY                  the side that the find serves
+--   errandOf fromY                what the find is made for
 --   headAt node other fromY s     the head of these numbers at stage s
 --   looking node other fromY      the head that looks at the node
 --   moving node other fromY w     the head that moves on from the node, whose word says w
@@ -17,34 +17,35 @@ use mathlib.Core.Bool.{Bool, true, false}
 use mathlib.Core.List.{List, _++_, map}
 use Prim.Native.Nat.{ℕ, _+_, _*_, _-_, _/_, _%_, _≤_, _<_}
 use lib.ListN.{length}
-use Rattle.job.specs.declared.Kind.the-variants.{SameSet}
 use Rattle.job.specs.declared.Answer.{Answer}
 use Rattle.job.specs.Job.{answerNumber}
 use Rattle.word.specs.declared.Node.{Node}
 use Rattle.word.specs.Word.{parentOf, decode, encode}
-use Rattle.process.specs.declared.Side.{Side}
-use Rattle.process.specs.declared.Side.the-variants.{X, Y}
+use Rattle.process.specs.declared.Step.the-variants.{ReadNode, ReadParent}
+use Rattle.process.specs.declared.Errand.{Errand}
+use Rattle.process.specs.declared.Errand.the-variants.{SameX, SameY}
 use Rattle.process.specs.declared.Stage.{Stage}
-use Rattle.process.specs.declared.Stage.the-variants.{ReadNode, ReadParent}
+use Rattle.process.specs.declared.Stage.the-variants.{Find}
 use Rattle.process.specs.declared.Head.{Head}
+use Rattle.process.specs.Process.{noWait}
 use Rattle.rules.specs.Table.{freshFrom}
 use Rattle.query.specs.declared.Queried.{Queried}
 use Rattle.query.specs.Query.{wordAt, Result}
 use Rattle.query.specs.Admitted.{Admitted}
 
-abbrev pub sideOf : Bool → Side
-sideOf false = X
-sideOf true = Y
+abbrev pub errandOf : Bool → Errand
+errandOf false = SameX
+errandOf true = SameY
 
 abbrev pub headAt : ℕ → ℕ → Bool → Stage → Head
-headAt node other false s = record { stage = s; x = node; y = other; request = 0 }
-headAt node other true s = record { stage = s; x = other; y = node; request = 0 }
+headAt node other false s = record { stage = s; task = record { x = node; y = other; request = 0; waits = noWait } }
+headAt node other true s = record { stage = s; task = record { x = other; y = node; request = 0; waits = noWait } }
 
 abbrev pub looking : ℕ → ℕ → Bool → Head
-looking node other fromY = headAt node other fromY (ReadNode SameSet (sideOf fromY))
+looking node other fromY = headAt node other fromY (Find (errandOf fromY) ReadNode)
 
 abbrev pub moving : ℕ → ℕ → Bool → Node → Head
-moving node other fromY w = headAt node other fromY (ReadParent SameSet (sideOf fromY) (w .rank) (w .parent))
+moving node other fromY w = headAt node other fromY (Find (errandOf fromY) (ReadParent (w .rank) (w .parent)))
 
 pub record Ready (words : List ℕ) (node other used left : ℕ) : Type 0 where
   pub admitted : Admitted 4096 (map decode words)

@@ -38,7 +38,7 @@ use Rattle.rules.proofs.Writes.{find-unlinked}
 use Rattle.rules.proofs.Steps.{ends-one, ends-two, finding-moved}
 
 -- the find after the first is of the same request
-next-kind : (e : Errand) → kindOf (nextErrand e) ≡ kindOf e
+pub next-kind : (e : Errand) → kindOf (nextErrand e) ≡ kindOf e
 next-kind UnionX = refl
 next-kind UnionY = refl
 next-kind SameX = refl
