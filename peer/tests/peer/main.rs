@@ -9,6 +9,8 @@ mod enquiry;
 #[cfg(feature = "core")]
 mod listed;
 mod plain;
+#[cfg(feature = "core")]
+mod program;
 mod random;
 mod writer;
 mod wrong_turns;
