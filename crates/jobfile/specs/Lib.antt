@@ -4,3 +4,4 @@ pub mod Meaning
 pub mod Written
 pub mod Draft
 pub mod Admitted
+pub mod Cases
