@@ -2,3 +2,4 @@
 pub mod Text
 pub mod Listing
 pub mod Writing
+pub mod Cases
