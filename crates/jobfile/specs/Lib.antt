@@ -1,4 +1,4 @@
--- The job file: its format, what a file means, the file that is written for a job, and what the writer is given.
+-- The job file: its format, what a file means, the file that is written for a job, what the writer is given, and a table of cases.
 pub mod Format
 pub mod Meaning
 pub mod Written
