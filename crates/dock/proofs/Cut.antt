@@ -1,5 +1,5 @@
 -- Reading more than the longest job file is enough: what lies beyond changes nothing that the program prints.
-use mathlib.Core.Path.{_≡_, sym, ap, _∙_}
+use mathlib.Core.Path.{_≡_, sym, ap, _∙_, subst}
 use mathlib.Core.List.{List}
 use Prim.Native.Nat.{ℕ, _<_}
 use native.Mathlib.Omega.{arith}
@@ -11,7 +11,7 @@ use Rattle.linearization.proofs.Tests.{split}
 use Rattle.jobfile.specs.Format.{mostBytes, lengthRefusal}
 use Rattle.jobfile.specs.Meaning.{fileRefusal, refused, meaning}
 use Rattle.player.specs.Player.{playRefusal, playedOf}
-use Rattle.dock.specs.Dock.{output}
+use Rattle.dock.specs.Dock.{output, Put, PutInput}
 
 -- Length is checked first.
 too-long : (file : List ℕ) → mostBytes < length file → meaning file ≡ refused 1
@@ -23,7 +23,7 @@ output-meaning : (one other : List ℕ) → meaning one ≡ meaning other → ou
 unfolding playRefusal playedOf output
 output-meaning one other same = rw same
 
-pub output-cut : (file : List ℕ) (n : ℕ) → mostBytes < n → output (take n file) ≡ output file
+output-cut : (file : List ℕ) (n : ℕ) → mostBytes < n → output (take n file) ≡ output file
 output-cut file n beyond =
     split (ltb (length file) n)
     (λ short. ap output (take-all n file (omega (arith, ltb-true (length file) n short))))
@@ -31,3 +31,10 @@ output-cut file n beyond =
     let enough = ltb-false (length file) n long in
     output-meaning (take n file) file
     (too-long (take n file) (omega (arith, length-take-le n file enough)) ∙ sym (too-long file (omega (arith, enough)))))
+
+-- So the text of what the buffer holds is the input's.
+pub put-input : (buffer : List ℕ) (bytes : ℕ) → mostBytes < length buffer
+    → {before after : List ℕ} {printed : ℕ} → Put (output (take bytes buffer)) before after printed
+    → PutInput buffer bytes before after printed
+put-input buffer bytes long {before} {after} {printed} put input holds =
+    subst (λ text. Put text before after printed) (ap output holds ∙ output-cut input (length buffer) long) put

@@ -5,3 +5,4 @@ mod Stores
 mod Close
 mod Answers
 pub mod File
+pub mod Inverse

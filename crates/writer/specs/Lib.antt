@@ -1,2 +1,3 @@
--- The writer of job files: its answer and what it leaves in the lent buffer.
+-- The writer of job files: its answer, what it leaves in the lent buffer, and that it is the reader's inverse.
 pub mod Write
+pub mod Inverse

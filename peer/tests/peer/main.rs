@@ -10,6 +10,8 @@ mod enquiry;
 #[cfg(feature = "core")]
 mod listed;
 mod plain;
+#[cfg(feature = "core")]
+mod program;
 mod promises;
 mod random;
 #[cfg(all(feature = "core", target_arch = "x86_64"))]

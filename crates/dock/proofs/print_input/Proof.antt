@@ -1,0 +1,29 @@
+-- `dock::print_input`: the input has the text of its part in the buffer, since the buffer is longer than every job file.
+use mathlib.Core.Path.{sym}
+use denote.Ref.{now}
+use lib.Seq.{length-take-le}
+use Rattle.dock.proofs.Dock.{put-within, put-part}
+use Rattle.dock.proofs.Cut.{put-input}
+use borrow.Author.Needs.{needs}
+use Rattle.dock.proofs.print_input.Statement.{statement}
+use Rattle.dock.proofs.print_input.Tie as tie
+
+slice-aggregate-print-job : tie.Need-slice-aggregate-print-job
+slice-aggregate-print-job c =
+    let start = c .before .before .before in
+    sym (length-take-le (start .args .bytes) (now (start .args .buffer)) (start .pre .1 .0))
+
+print-job-requires : tie.Need-print-job-requires
+print-job-requires c κs = search needs
+
+same-length : tie.Need-same-length
+same-length c = search needs
+
+returns : tie.Need-returns
+returns c =
+    let start = c .before .before .before .before .before .before .before in
+    let put = c .before .before .print-job .ensures in
+    (put-input (now (start .args .buffer)) (start .args .bytes) (start .pre .0) put, (put-within put, put-part put))
+
+pub print-input-spec : {M : Type 1} → statement M
+print-input-spec = tie.close (tie.spec slice-aggregate-print-job print-job-requires same-length returns)

@@ -1,0 +1,191 @@
+-- Document 01, "Job file" and "Played cases": files, jobs and drafts at the format's edges, as one table.
+--
+--   Case                a file that is accepted or refused, a job that is written, a draft that is checked, and what is expected
+--   Outcome             a meaning, a file, or a number
+--   outcome c           what the definitions give
+--   wanted c            what is expected
+--   header, request, run, close   the four records, by their numbers
+--   times n l           the list l, n times
+--   job, draft          a job and a draft, by their parts
+--   emptyJob n h        the job of n places and h heads with nothing to do
+--   alternating n       a schedule of n grants, no two in a row for one head
+--   sampleJob, sampleFile         document 01's job, and its bytes
+--   files, drafts       the two halves of the table
+--   cases               the table
+use mathlib.Core.List.{List, [], _∷_, _++_}
+use Prim.Native.Nat.{ℕ, zero, suc, _%_}
+use lib.ListN.{take, replicate}
+use Rattle.job.specs.declared.Kind.the-variants.{Union, SameSet}
+use Rattle.job.specs.declared.Request.{Request}
+use Rattle.job.specs.Job.{Job}
+use Rattle.jobfile.specs.Format.{jobMark, requestMark, runMark, closeMark, wordBytes}
+use Rattle.jobfile.specs.Meaning.{Meaning, meaning}
+use Rattle.jobfile.specs.Written.{written}
+use Rattle.jobfile.specs.Draft.{Draft, draftRefusal}
+
+-- Places, heads, requests and one head number a grant.
+abbrev pub job : ℕ → ℕ → List Request → List ℕ → Job
+job places heads requests schedule = record { nodes = places; heads = heads; requests = requests; schedule = schedule }
+
+-- No requests and no grants.
+abbrev pub emptyJob : ℕ → ℕ → Job
+emptyJob places heads = job places heads [] []
+
+pub data Case : Type 0 where
+  -- an accepted file and its job
+  accept : List ℕ → Job → Case
+  -- a refused file and its number
+  refuse : List ℕ → ℕ → Case
+  -- a job and its file
+  write : Job → List ℕ → Case
+  -- what the writer is given, and its refusal, 0 for none
+  check : Draft → ℕ → Case
+
+pub data Outcome : Type 0 where
+  means : Meaning → Outcome
+  file : List ℕ → Outcome
+  number : ℕ → Outcome
+
+-- What the definitions give.
+abbrev pub outcome : Case → Outcome
+outcome (accept s j) = means (meaning s)
+outcome (refuse s n) = means (meaning s)
+outcome (write j s) = file (written j)
+outcome (check d n) = number (draftRefusal d)
+
+-- What document 01 says: a file's whole meaning is its number and its job, and a refusal has zero for every count.
+abbrev pub wanted : Case → Outcome
+wanted (accept s j) = means (record { number = 0; job = j })
+wanted (refuse s n) = means (record { number = n; job = emptyJob 0 0 })
+wanted (write j s) = file s
+wanted (check d n) = number n
+
+-- ---- the parts of a case
+
+-- Places and heads.
+abbrev pub header : ℕ → ℕ → List ℕ
+header places heads = wordBytes jobMark ++ wordBytes places ++ wordBytes heads
+
+-- Head, kind and two places.
+abbrev pub request : ℕ → ℕ → ℕ → ℕ → List ℕ
+request head kind x y = wordBytes requestMark ++ (head ∷ kind ∷ []) ++ wordBytes x ++ wordBytes y
+
+-- Head and grants.
+abbrev pub run : ℕ → ℕ → List ℕ
+run head grants = wordBytes runMark ++ (head ∷ grants ∷ [])
+
+-- The balance.
+abbrev pub close : ℕ → List ℕ
+close balance = wordBytes closeMark ++ wordBytes balance
+
+-- So many times the same numbers.
+abbrev pub times : ℕ → List ℕ → List ℕ
+times zero l = []
+times (suc n) l = l ++ times n l
+
+-- What the writer is given, four numbers a request.
+abbrev pub draft : ℕ → ℕ → List ℕ → List ℕ → Draft
+draft places heads requests schedule = record { nodes = places; heads = heads; requests = requests; schedule = schedule }
+
+-- Heads 0 and 1 in turn, so that every grant is a run.
+abbrev pub alternating : ℕ → List ℕ
+alternating zero = []
+alternating (suc n) = (n % 2) ∷ alternating n
+
+-- Document 01's job: four places, two heads, two requests, nine grants;
+abbrev pub sampleJob : Job
+sampleJob =
+    job 4 2
+    (record { head = 0; kind = Union; x = 2; y = 3 } ∷ record { head = 1; kind = SameSet; x = 0; y = 1 } ∷ [])
+    (1 ∷ 1 ∷ 0 ∷ 0 ∷ 0 ∷ 0 ∷ 0 ∷ 0 ∷ 1 ∷ [])
+
+-- and its bytes.
+abbrev pub sampleFile : List ℕ
+sampleFile =
+    0x44 ∷ 0x4B ∷ 0x04 ∷ 0x00 ∷ 0x02 ∷ 0x00
+    ∷ 0x52 ∷ 0x51 ∷ 0x00 ∷ 0x01 ∷ 0x02 ∷ 0x00 ∷ 0x03 ∷ 0x00
+    ∷ 0x52 ∷ 0x51 ∷ 0x01 ∷ 0x02 ∷ 0x00 ∷ 0x00 ∷ 0x01 ∷ 0x00
+    ∷ 0x47 ∷ 0x52 ∷ 0x01 ∷ 0x02
+    ∷ 0x47 ∷ 0x52 ∷ 0x00 ∷ 0x06
+    ∷ 0x47 ∷ 0x52 ∷ 0x01 ∷ 0x01
+    ∷ 0x43 ∷ 0x4C ∷ 0xF1 ∷ 0xC2 ∷ []
+
+-- ---- the table
+
+abbrev pub files : List Case
+files =
+    -- document 01's sample, read and written
+    accept sampleFile sampleJob
+    ∷ write sampleJob sampleFile
+    -- the empty file, and one byte, end before the first mark
+    ∷ refuse [] 2
+    ∷ refuse (0x44 ∷ []) 2
+    -- two bytes are a mark, right or wrong, even if the record is short
+    ∷ refuse (0x44 ∷ 0x4B ∷ []) 2
+    ∷ refuse (0x44 ∷ 0x4C ∷ []) 3
+    -- length is checked first: 32,768 bytes are looked at, one byte more is not
+    ∷ refuse (replicate 32768 0) 3
+    ∷ refuse (replicate 32769 0) 1
+    -- 4,096 places pass, 4,097 and 0 don't; 16 heads pass, 0 and 17 don't
+    ∷ accept (header 4096 1 ++ close 0x5878) (emptyJob 4096 1)
+    ∷ refuse (header 4097 17) 4
+    ∷ refuse (header 0 1) 4
+    ∷ accept (header 1 16 ++ close 0x6868) (emptyJob 1 16)
+    ∷ refuse (header 1 0) 5
+    ∷ refuse (header 1 17) 5
+    -- a request that is cut short; then its fields left to right
+    ∷ refuse (header 2 2 ++ take 7 (request 2 3 2 0)) 2
+    ∷ refuse (header 2 2 ++ request 2 3 2 0) 6
+    ∷ refuse (header 2 2 ++ request 1 3 2 0) 7
+    ∷ refuse (header 2 2 ++ request 1 0 2 0) 7
+    ∷ refuse (header 2 2 ++ request 1 1 2 0) 8
+    ∷ refuse (header 2 2 ++ request 1 2 0 2) 8
+    -- 512 requests pass; one more is refused if it is whole, before its head, kind and places, which are all wrong here
+    ∷ accept (header 2 2 ++ times 512 (request 1 2 0 1) ++ close 0xC075)
+    (job 2 2 (replicate 512 (record { head = 1; kind = SameSet; x = 0; y = 1 })) [])
+    ∷ refuse (header 2 2 ++ times 512 (request 1 2 0 1) ++ request 2 3 2 2) 9
+    ∷ refuse (header 2 2 ++ times 512 (request 1 2 0 1) ++ take 7 (request 2 3 2 2)) 2
+    -- a run that is cut short; its head; no grants; a run before it that could have had them
+    ∷ refuse (header 2 2 ++ take 3 (run 2 0)) 2
+    ∷ refuse (header 2 2 ++ run 2 1) 10
+    ∷ refuse (header 2 2 ++ run 1 0) 10
+    ∷ refuse (header 2 2 ++ run 1 254 ++ run 1 1) 11
+    ∷ accept (header 2 2 ++ run 1 255 ++ run 1 1 ++ close 0xC3E5) (job 2 2 [] (replicate 256 1))
+    -- no grants is checked before the run before it
+    ∷ refuse (header 2 2 ++ run 1 254 ++ run 1 0) 10
+    -- a request behind a run, and no close
+    ∷ refuse (header 2 2 ++ run 1 1 ++ request 0 1 0 1) 3
+    ∷ refuse (header 2 2 ++ request 0 1 0 1 ++ run 1 1) 2
+    -- a close that is cut short, bytes behind it, and its balance
+    ∷ refuse (header 2 2 ++ take 3 (close 0)) 2
+    ∷ refuse (header 2 2 ++ close 0 ++ (0 ∷ [])) 12
+    ∷ refuse (header 2 2 ++ close 0) 13
+    ∷ accept (header 2 2 ++ close 0x6875) (emptyJob 2 2)
+    ∷ []
+
+abbrev pub drafts : List Case
+drafts =
+    -- the last head of sixteen, a same-set of the last two places of 4,096, and a grant for that head
+    check (draft 4096 16 (15 ∷ 2 ∷ 4095 ∷ 4094 ∷ []) (15 ∷ [])) 0
+    -- places are checked before heads
+    ∷ check (draft 0 0 [] []) 4
+    -- heads before a request and a grant that are wrong too
+    ∷ check (draft 2 17 (17 ∷ 3 ∷ 2 ∷ 2 ∷ []) (17 ∷ [])) 5
+    -- a rest of one, two or three numbers is no request, so it can't be a wrong one
+    ∷ check (draft 2 2 (2 ∷ []) []) 0
+    ∷ check (draft 2 2 (2 ∷ 3 ∷ []) []) 0
+    ∷ check (draft 2 2 (0 ∷ 1 ∷ 0 ∷ 1 ∷ 2 ∷ 3 ∷ 2 ∷ []) []) 0
+    -- 512 requests pass; the count is checked before the first request and the grant, which are both wrong
+    ∷ check (draft 2 2 (times 512 (1 ∷ 2 ∷ 0 ∷ 1 ∷ [])) []) 0
+    ∷ check (draft 2 2 ((2 ∷ 3 ∷ 2 ∷ 2 ∷ []) ++ times 512 (1 ∷ 2 ∷ 0 ∷ 1 ∷ [])) (2 ∷ [])) 9
+    -- each request before each grant
+    ∷ check (draft 2 2 (1 ∷ 2 ∷ 0 ∷ 2 ∷ []) (2 ∷ [])) 8
+    ∷ check (draft 2 2 (1 ∷ 2 ∷ 0 ∷ 1 ∷ []) (2 ∷ [])) 10
+    -- 8,190 runs make a file of 32,770 bytes; a wrong place and a wrong grant come before its length
+    ∷ check (draft 2 2 [] (alternating 8190)) 1
+    ∷ check (draft 2 2 (1 ∷ 2 ∷ 0 ∷ 2 ∷ []) (alternating 8190)) 8
+    ∷ check (draft 2 2 [] (2 ∷ alternating 8190)) 10
+    ∷ []
+
+abbrev pub cases : List Case
+cases = files ++ drafts
