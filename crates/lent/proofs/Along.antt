@@ -19,7 +19,7 @@ use Rattle.job.specs.declared.Tally.{Tally}
 use Rattle.job.specs.declared.Played.{Played}
 use Rattle.word.specs.Word.{encode}
 use Rattle.jobfile.specs.Meaning.{meaning}
-use Rattle.jobfile.specs.Admitted.{Bytes}
+use Rattle.jobfile.specs.Admitted.{Admitted, Bytes}
 use Rattle.reader.specs.declared.Checked.{Checked}
 use Rattle.reader.specs.Reader.{countsOf}
 use Rattle.job.specs.Job.{Job}
@@ -36,10 +36,10 @@ use Rattle.turns.proofs.Counters.{small-roomy}
 use Rattle.turns.proofs.Going.{Going, going-start, going-turnable, going-next, going-end}
 use Rattle.player.specs.Player.{Left, refusedWith, cutOf, playedOf, Checks, Whole}
 use Rattle.player.specs.Player.{Roomy as RoomyFor}
-use Rattle.player.specs.Demand.{LinearizedHere}
+use Rattle.player.specs.Demand.{LinearizedHere, LawfulHere}
 use Rattle.player.proofs.Refusals.{refusal, accepted-roomy}
 use Rattle.player.proofs.Parts.{whole-left, cut-left, whole-startable}
-use Rattle.player.proofs.Demand.{linearized-here}
+use Rattle.player.proofs.Demand.{linearized-here, lawful-here}
 use Rattle.jobfile.proofs.RoundTrip.{admitted-meaning}
 use Rattle.lent.specs.declared.Plan.{Plan}
 use Rattle.lent.specs.Lent.{refusedPlan, acceptedPlan, cutLaidOf, Prepared, preparedOf, openedOf, TurnableOn, TurnedOn, TurnsOn}
@@ -179,6 +179,7 @@ module _ (E : Entry) (counts : Checked) where
     pub exact : _≡_ {A = Left} (record { table = a .table; report = a .report; linearization = a .linearization; result = result }) (playedOf file table₀ report₀ linearization₀)
     pub counted : a .tally ≡ tallyLeft file table₀ report₀ linearization₀ tally₀
     pub linearized : result .number ≡ 0 → LinearizedHere file result (a .table) (a .report) (a .linearization)
+    pub lawful : result .number ≡ 0 → LawfulHere file result (a .table) (a .report)
 
   module _ (a : Along) where
     pub unchanged-end : (u : Unchanged (a .tally) (a .table) (a .report) (a .linearization)) → counts .number ≢ 0 → Ended a (closedOf counts (a .progress) (a .tally))
@@ -189,11 +190,15 @@ module _ (E : Entry) (counts : Checked) where
               (λ i. record { table = u .same-table i; report = u .same-report i; linearization = u .same-linearization i; result = refusedWith (u .which i) });
           counted = rw (ne-eqb (refusal file (length table₀) (length report₀) (length linearization₀)) 0 (u .refused)) (u .same-tally);
           linearized = rw (ne-eqb (counts .number) 0 d) (λ z. absurd (d z));
+          lawful = rw (ne-eqb (counts .number) 0 d) (λ z. absurd (d z));
         }
 
     module _ (l : Lending (a .progress) (a .tally) (a .table) (a .report) (a .linearization)) (over : counts .grants ≤ a .progress .number) where
       abbrev answer : Played
       answer = record { number = 0; nodes = counts .nodes; heads = counts .heads; requests = counts .requests; grants = counts .grants; entries = a .progress .entries; tally = a .tally }
+
+      admitted : Admitted (meaning file .job)
+      admitted = admitted-meaning file (l .bytes) (l .checks .accepted)
 
       table-cut : a .table ≡ take n (a .table) ++ drop n table₀
       table-cut = sym (take-append-drop n (a .table)) ∙ ap (λ d. take n (a .table) ++ d) (l .table-rest)
@@ -214,8 +219,8 @@ module _ (E : Entry) (counts : Checked) where
           record {
             exact = rw (eq-eqb (counts .number) 0 e, eq-eqb (refusal file (length table₀) (length report₀) (length linearization₀)) 0 (l .accepted)) ended-cut;
             counted = rw (eq-eqb (refusal file (length table₀) (length report₀) (length linearization₀)) 0 (l .accepted)) (ap (λ x. x .result .tally) ended-cut);
-            linearized = rw (eq-eqb (counts .number) 0 e)
-                (λ z. linearized-here file (admitted-meaning file (l .bytes) (l .checks .accepted)) table₀ report₀ linearization₀ _ ended-cut);
+            linearized = rw (eq-eqb (counts .number) 0 e) (λ z. linearized-here file admitted table₀ report₀ linearization₀ _ ended-cut);
+            lawful = rw (eq-eqb (counts .number) 0 e) (λ z. lawful-here file admitted table₀ report₀ linearization₀ _ ended-cut);
           }
 
     ended-by : Dec (counts .number ≡ 0) → counts .grants ≤ a .progress .number → Ended a (closedOf counts (a .progress) (a .tally))

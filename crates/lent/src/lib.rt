@@ -22,7 +22,7 @@ ghost use Rattle.jobfile.specs.Admitted.{Bytes};
 ghost use Rattle.turns.specs.Turns.{Roomy, countedOf, buffersOf};
 ghost use Rattle.player.specs.Player.{left, Checks, playedOf};
 ghost use Rattle.player.specs.Player.{Roomy as RoomyFor};
-ghost use Rattle.player.specs.Demand.{LinearizedHere};
+ghost use Rattle.player.specs.Demand.{LinearizedHere, LawfulHere};
 ghost use Rattle.lent.specs.Lent.{planOf, refusedPlan, laidOf, cutLaidOf, preparedOf, openedOf};
 ghost use Rattle.lent.specs.Lent.{TurnableOn, TurnsOn, closedOf, tallyLeft};
 
@@ -185,6 +185,7 @@ pub extern "C" fn grouping_play_lent(
         ≡ tallyLeft (now (file .entry)) (now (table .entry)) (now (report .entry)) (now (linearization .entry)) (now (tally .entry)) ⌝ }
     ensures linearized { λ r. ⌜ (r .number ≡ 0
         → LinearizedHere (now (file .entry)) r (now (table .exit)) (now (report .exit)) (now (linearization .exit))) ⌝ }
+    ensures lawful { λ r. ⌜ (r .number ≡ 0 → LawfulHere (now (file .entry)) r (now (table .exit)) (now (report .exit))) ⌝ }
 {
     let plan = prepare(file, table, report, linearization);
     *tally = opened(*tally, plan);

@@ -135,7 +135,8 @@ module _ (w : Setting) (P : Parameters) where
       nothing ! $ move ! (1 ∷ 0 ∷ []) $ fjoin ! $ move ! (6 ∷ 0 ∷ []) $ fjoin ! $ move ! (5 ∷ 0 ∷ []) $ fjoin ! $ move ! (4 ∷ 0 ∷ []) $ fjoin ! $ move ! (3 ∷ 0 ∷ []) $ fjoin ! $
       -- [what is had of the parameters; the tokens; the answer]
       move ! (0 ∷ 2 ∷ []) $ join ! $ move ! (1 ∷ 0 ∷ []) $ join ! $ frame ! $
-      use0 W (raw (fact 𝓤 _)) (factI 𝓤 _ (emp 𝓤) (e .linearized)) $ use0 W (raw (fact 𝓤 _)) (factI 𝓤 _ (emp 𝓤) (e .counted)) $ use0 W (raw (fact 𝓤 _)) (factI 𝓤 _ (emp 𝓤) (e .exact)) $ done !
+      use0 W (raw (fact 𝓤 _)) (factI 𝓤 _ (emp 𝓤) (e .lawful)) $ use0 W (raw (fact 𝓤 _)) (factI 𝓤 _ (emp 𝓤) (e .linearized)) $
+      use0 W (raw (fact 𝓤 _)) (factI 𝓤 _ (emp 𝓤) (e .counted)) $ use0 W (raw (fact 𝓤 _)) (factI 𝓤 _ (emp 𝓤) (e .exact)) $ done !
 
   module _ (known : Known w) (L : ℕ → ℕ) where
     abbrev pub Runs : Body → Goal 𝓤 H
