@@ -1,15 +1,14 @@
 -- The cuts of an accepted file are accepted files, and what a play leaves for one is the run's state after its grants.
 --
 -- Main law: cuts.
-use mathlib.Core.Path.{_≡_, refl, sym, ap, _∙_, subst, subst₂}
+use mathlib.Core.Path.{_≡_, refl, sym, ap, _∙_, subst₂}
 use mathlib.Core.List.{List, [], _∷_, _++_, map}
 use Prim.Native.Nat.{ℕ, zero, suc, _≤_, _<_}
 use native.Mathlib.Omega.{arith}
 use lib.ListN.{length, getD, take, drop, take-append-drop}
 use lib.Seq.{take-all}
 use Rattle.job.specs.Job.{Job}
-use Rattle.word.specs.declared.Node.{Node}
-use Rattle.word.specs.Word.{decode, encode}
+use Rattle.word.specs.Word.{decode}
 use Rattle.jobfile.specs.Meaning.{accepted, meaning}
 use Rattle.jobfile.specs.Written.{written}
 use Rattle.jobfile.specs.Admitted.{Admitted, Bytes}
@@ -21,7 +20,7 @@ use Rattle.rules.specs.Laws.{Follows}
 use Rattle.rules.proofs.Laws.{run-follows}
 use Rattle.stepper.specs.Shown.{stateAfter}
 use Rattle.stepper.proofs.Reached.{cut-granted, after-playable}
-use Rattle.player.specs.Player.{lentRefusal, Left, leftAt, playedOf}
+use Rattle.player.specs.Player.{lentRefusal, leftAt, playedOf}
 use Rattle.player.specs.Cuts.{cut, fileCut, nodesLeft, LongEnough, Cuts}
 use Rattle.player.proofs.Refusals.{refusal, refusal-lent, accepted-left}
 use Rattle.player.proofs.Demand.{table-back}
