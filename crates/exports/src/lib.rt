@@ -6,7 +6,7 @@ use query::Queried;
 use writer::Written;
 ghost use mathlib.Core.Path.{_≡_};
 ghost use Rattle.player.specs.Player.{left, playedOf};
-ghost use Rattle.player.specs.Demand.{LinearizedHere};
+ghost use Rattle.player.specs.Demand.{LinearizedHere, LawfulHere};
 ghost use Rattle.writer.specs.Write.{given, writes};
 ghost use Rattle.query.specs.Query.{queried};
 ghost use Rattle.query.specs.Faithful.{Faithful};
@@ -24,6 +24,7 @@ pub extern "C" fn grouping_play(
         ≡ playedOf (now (file .entry)) (now (table .entry)) (now (report .entry)) (now (linearization .entry)) ⌝ }
     ensures linearized { λ r. ⌜ (r .number ≡ 0
         → LinearizedHere (now (file .entry)) r (now (table .exit)) (now (report .exit)) (now (linearization .exit))) ⌝ }
+    ensures lawful { λ r. ⌜ (r .number ≡ 0 → LawfulHere (now (file .entry)) r (now (table .exit)) (now (report .exit))) ⌝ }
 {
     player::play(file, table, report, linearization)
 }

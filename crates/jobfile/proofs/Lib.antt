@@ -10,4 +10,5 @@ pub mod Backward
 pub mod Drafts
 pub mod RoundTrip
 pub mod Places
+pub mod Cuts
 mod Cases

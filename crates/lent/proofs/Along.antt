@@ -1,11 +1,11 @@
--- The invariant of the loop over the grants, on lent buffers and a lent tally.
+-- The invariant of the loop over the grants, on lent buffers and a lent tally; and what the play ends with, refused or not.
 --
---   Entry       the file, the buffers and the tally as they were lent
---   Unchanged   refused: nothing was written, and there is no grant to play
---   Lending     accepted: the parts that the job needs stand as the rules' run so far, the rest is as lent
---   Along       where the loop is: the one or the other, and every buffer is as long as it was
+--   Entry     the file, the buffers and the tally as they were lent
+--   Ended     what holds when the play returns
+--   Lending   accepted: the parts that the job needs stand as the rules' run so far, the rest is as lent
+--   Along     where the loop is: that, and every buffer is as long as it was
 --
--- Main laws: along-start, along-next and along-end.
+-- Main laws: refused-end, the end of a refused play; along-start, along-next and along-end.
 use mathlib.Core.Path.{_≡_, refl, sym, ap, _∙_, subst, subst₂}
 use mathlib.Core.Logic.{_≢_}
 use mathlib.Core.List.{List, _++_, map}
@@ -19,7 +19,7 @@ use Rattle.job.specs.declared.Tally.{Tally}
 use Rattle.job.specs.declared.Played.{Played}
 use Rattle.word.specs.Word.{encode}
 use Rattle.jobfile.specs.Meaning.{meaning}
-use Rattle.jobfile.specs.Admitted.{Bytes}
+use Rattle.jobfile.specs.Admitted.{Admitted, Bytes}
 use Rattle.reader.specs.declared.Checked.{Checked}
 use Rattle.reader.specs.Reader.{countsOf}
 use Rattle.job.specs.Job.{Job}
@@ -34,15 +34,15 @@ use Rattle.turns.specs.Turns.{Roomy, countedOf, buffersOf, Turned, firstProgres
 use Rattle.turns.proofs.Runs.{grants-few}
 use Rattle.turns.proofs.Counters.{small-roomy}
 use Rattle.turns.proofs.Going.{Going, going-start, going-turnable, going-next, going-end}
-use Rattle.player.specs.Player.{Left, refusedWith, cutOf, playedOf, Checks, Whole}
+use Rattle.player.specs.Player.{left, refusedWith, cutOf, playedOf, Checks, Whole}
 use Rattle.player.specs.Player.{Roomy as RoomyFor}
-use Rattle.player.specs.Demand.{LinearizedHere}
+use Rattle.player.specs.Demand.{LinearizedHere, LawfulHere}
 use Rattle.player.proofs.Refusals.{refusal, accepted-roomy}
 use Rattle.player.proofs.Parts.{whole-left, cut-left, whole-startable}
-use Rattle.player.proofs.Demand.{linearized-here}
+use Rattle.player.proofs.Demand.{linearized-here, lawful-here}
 use Rattle.jobfile.proofs.RoundTrip.{admitted-meaning}
 use Rattle.lent.specs.declared.Plan.{Plan}
-use Rattle.lent.specs.Lent.{refusedPlan, acceptedPlan, cutLaidOf, Prepared, preparedOf, openedOf, TurnableOn, TurnedOn, TurnsOn}
+use Rattle.lent.specs.Lent.{refusedPlan, acceptedPlan, cutLaidOf, Prepared, preparedOf, TurnableOn, TurnedOn, TurnsOn}
 use Rattle.lent.specs.Lent.{closedOf, tallyLeft}
 
 -- ---- one turn on the lent buffers
@@ -75,6 +75,18 @@ pub record Entry : Type 0 where
   pub linearization : List ℕ
   pub tally : Tally
 
+module _ (E : Entry) where
+  open Entry E using (file, table as table₀, report as report₀, linearization as linearization₀, tally as tally₀)
+
+  abbrev number₀ : ℕ
+  number₀ = refusal file (length table₀) (length report₀) (length linearization₀)
+
+  pub record Ended (tally : Tally) (table report linearization : List ℕ) (result : Played) : Type 0 where
+    pub exact : left table report linearization result ≡ playedOf file table₀ report₀ linearization₀
+    pub counted : tally ≡ tallyLeft file table₀ report₀ linearization₀ tally₀
+    pub linearized : result .number ≡ 0 → LinearizedHere file result table report linearization
+    pub lawful : result .number ≡ 0 → LawfulHere file result table report
+
 module _ (E : Entry) (counts : Checked) where
   open Entry E using (file, table as table₀, report as report₀, linearization as linearization₀, tally as tally₀)
 
@@ -84,17 +96,8 @@ module _ (E : Entry) (counts : Checked) where
   abbrev m : ℕ
   m = 4 * counts .requests
 
-  pub record Unchanged (tally : Tally) (table report linearization : List ℕ) : Type 0 where
-    pub refused : refusal file (length table₀) (length report₀) (length linearization₀) ≢ 0
-    pub which : counts .number ≡ refusal file (length table₀) (length report₀) (length linearization₀)
-    pub grants : counts .grants ≡ 0
-    pub same-table : table ≡ table₀
-    pub same-report : report ≡ report₀
-    pub same-linearization : linearization ≡ linearization₀
-    pub same-tally : tally ≡ tally₀
-
   pub record Lending (p : Progress) (tally : Tally) (table report linearization : List ℕ) : Type 0 where
-    pub accepted : refusal file (length table₀) (length report₀) (length linearization₀) ≡ 0
+    pub accepted : number₀ E ≡ 0
     pub bytes : Bytes file
     pub checks : Checks file counts
     pub nodes : n ≤ length table
@@ -112,42 +115,44 @@ module _ (E : Entry) (counts : Checked) where
     pub table-long : length table ≡ length table₀
     pub report-long : length report ≡ length report₀
     pub linearization-long : length linearization ≡ length linearization₀
-    pub refused : counts .number ≢ 0 → Unchanged tally table report linearization
-    pub accepted : counts .number ≡ 0 → Lending progress tally table report linearization
+    pub lending : Lending progress tally table report linearization
 
   -- ---- one turn
 
   module _ (a : Along) (more : a .progress .number < counts .grants) where
-    has-grant : Dec (counts .number ≡ 0) → counts .number ≡ 0
-    has-grant (yes e) = e
-    has-grant (no d) = absurd (omega (arith, a .refused d .grants, more))
-
-    pub along-accepted : counts .number ≡ 0
-    along-accepted = has-grant (ℕ-discrete (counts .number) 0)
-
-    pub lending : Lending (a .progress) (a .tally) (a .table) (a .report) (a .linearization)
-    lending = a .accepted along-accepted
-
-    pub more-left : a .progress .number < length (meaning file .job .schedule)
-    more-left = omega (arith, more, ap (λ k. k .grants) (lending .checks .counts))
+    more-left : a .progress .number < length (meaning file .job .schedule)
+    more-left = omega (arith, more, ap (λ k. k .grants) (a .lending .checks .counts))
 
     pub along-turnable : TurnableOn file counts (a .progress) (a .table) (a .report) (a .linearization)
-    along-turnable = record { nodes = lending .nodes; rows = lending .rows; turnable = going-turnable (lending .going) more-left }
+    along-turnable = record { nodes = a .lending .nodes; rows = a .lending .rows; turnable = going-turnable (a .lending .going) more-left }
 
     pub along-roomy : Roomy (a .tally)
-    along-roomy = small-roomy (omega (arith, more-left, grants-few (lending .going .playing))) (lending .going .small)
+    along-roomy = small-roomy (omega (arith, more-left, grants-few (a .lending .going .playing))) (a .lending .going .small)
 
-    module _ (p′ : Progress) (table′ report′ linearization′ : List ℕ) (tally′ : Tally)
-        (table-long : length table′ ≡ length (a .table)) (report-long : length report′ ≡ length (a .report)) (linearization-long : length linearization′ ≡ length (a .linearization))
+    module _ (p′ : Progress) (table′ report′ linearization′ : List ℕ) (tally′ : Tally) (table-long : length table′ ≡ length (a .table))
+        (report-long : length report′ ≡ length (a .report)) (linearization-long : length linearization′ ≡ length (a .linearization))
         (turned : TurnsOn file counts (a .progress) p′ (buffersOf (a .progress) (a .table) (a .report) (a .linearization))
         (buffersOf p′ table′ report′ linearization′))
         (added : tally′ ≡ countedOf (a .tally) (p′ .done) (p′ .mask)) where
-      pub turned-here : TurnedOn file counts (a .progress) p′ (buffersOf (a .progress) (a .table) (a .report) (a .linearization))
+      turned-here : TurnedOn file counts (a .progress) p′ (buffersOf (a .progress) (a .table) (a .report) (a .linearization))
           (buffersOf p′ table′ report′ linearization′) linearization₀
-      turned-here = turned linearization₀ (lending .going .standing)
+      turned-here = turned linearization₀ (a .lending .going .standing)
 
       pub along-number : p′ .number ≡ a .progress .number + 1
       along-number = turned-here .turned .number
+
+      pub lending-next : Lending p′ tally′ table′ report′ linearization′
+      lending-next =
+          record {
+            accepted = a .lending .accepted;
+            bytes = a .lending .bytes;
+            checks = a .lending .checks;
+            nodes = omega (arith, table-long, a .lending .nodes);
+            rows = omega (arith, report-long, a .lending .rows);
+            table-rest = turned-here .table-rest ∙ a .lending .table-rest;
+            report-rest = turned-here .report-rest ∙ a .lending .report-rest;
+            going = going-next (a .lending .going) more-left p′ tally′ (take n table′) (take m report′) linearization′ (turned-here .turned) added;
+          }
 
       abbrev pub along-next : Along
       along-next =
@@ -160,80 +165,56 @@ module _ (E : Entry) (counts : Checked) where
             table-long = table-long ∙ a .table-long;
             report-long = report-long ∙ a .report-long;
             linearization-long = linearization-long ∙ a .linearization-long;
-            refused = λ d. absurd (d along-accepted);
-            accepted = λ e. record {
-              accepted = lending .accepted;
-              bytes = lending .bytes;
-              checks = lending .checks;
-              nodes = omega (arith, table-long, lending .nodes);
-              rows = omega (arith, report-long, lending .rows);
-              table-rest = turned-here .table-rest ∙ lending .table-rest;
-              report-rest = turned-here .report-rest ∙ lending .report-rest;
-              going = going-next (lending .going) more-left p′ tally′ (take n table′) (take m report′) linearization′ (turned-here .turned) added;
-            };
+            lending = lending-next;
           }
 
   -- ---- the end
 
-  pub record Ended (a : Along) (result : Played) : Type 0 where
-    pub exact : _≡_ {A = Left} (record { table = a .table; report = a .report; linearization = a .linearization; result = result }) (playedOf file table₀ report₀ linearization₀)
-    pub counted : a .tally ≡ tallyLeft file table₀ report₀ linearization₀ tally₀
-    pub linearized : result .number ≡ 0 → LinearizedHere file result (a .table) (a .report) (a .linearization)
+  module _ (a : Along) (over : counts .grants ≤ a .progress .number) where
+    abbrev answer : Played
+    answer = closedOf counts (a .progress) (a .tally)
 
-  module _ (a : Along) where
-    pub unchanged-end : (u : Unchanged (a .tally) (a .table) (a .report) (a .linearization)) → counts .number ≢ 0 → Ended a (closedOf counts (a .progress) (a .tally))
+    admitted : Admitted (meaning file .job)
+    admitted = admitted-meaning file (a .lending .bytes) (a .lending .checks .accepted)
+
+    table-cut : a .table ≡ take n (a .table) ++ drop n table₀
+    table-cut = sym (take-append-drop n (a .table)) ∙ ap (λ d. take n (a .table) ++ d) (a .lending .table-rest)
+
+    report-cut : a .report ≡ take m (a .report) ++ drop m report₀
+    report-cut = sym (take-append-drop m (a .report)) ∙ ap (λ d. take m (a .report) ++ d) (a .lending .report-rest)
+
+    ended-cut : left (a .table) (a .report) (a .linearization) answer ≡ cutOf (meaning file .job) table₀ report₀ linearization₀
+    ended-cut =
+        let counts-are = a .lending .checks .counts in
+        let all : length (meaning file .job .schedule) ≤ a .progress .number = omega (arith, over, ap (λ k. k .grants) counts-are) in
+        let going = going-end (a .lending .going) all (record { entries = a .progress .entries; tally = a .tally }) refl in
+        let whole = whole-left (a .lending .checks) linearization₀ (take n (a .table)) (take m (a .report)) (a .linearization) _ going in
+        (λ i. left (table-cut i) (report-cut i) (a .linearization) answer)
+        ∙ cut-left (meaning file .job) n m table₀ report₀ linearization₀ _ (ap (λ k. k .nodes) counts-are) (ap (λ k. 4 * k .requests) counts-are) whole
+
+    accepted-end : Ended E (a .tally) (a .table) (a .report) (a .linearization) answer
     unfolding playedOf tallyLeft
-    unchanged-end u d =
+    accepted-end =
         record {
-          exact = rw (ne-eqb (counts .number) 0 d, ne-eqb (refusal file (length table₀) (length report₀) (length linearization₀)) 0 (u .refused))
-              (λ i. record { table = u .same-table i; report = u .same-report i; linearization = u .same-linearization i; result = refusedWith (u .which i) });
-          counted = rw (ne-eqb (refusal file (length table₀) (length report₀) (length linearization₀)) 0 (u .refused)) (u .same-tally);
-          linearized = rw (ne-eqb (counts .number) 0 d) (λ z. absurd (d z));
+          exact = rw (eq-eqb (number₀ E) 0 (a .lending .accepted)) ended-cut;
+          counted = rw (eq-eqb (number₀ E) 0 (a .lending .accepted)) (ap (λ x. x .result .tally) ended-cut);
+          linearized = λ z. linearized-here file admitted table₀ report₀ linearization₀ _ ended-cut;
+          lawful = λ z. lawful-here file admitted table₀ report₀ linearization₀ _ ended-cut;
         }
 
-    module _ (l : Lending (a .progress) (a .tally) (a .table) (a .report) (a .linearization)) (over : counts .grants ≤ a .progress .number) where
-      abbrev answer : Played
-      answer = record { number = 0; nodes = counts .nodes; heads = counts .heads; requests = counts .requests; grants = counts .grants; entries = a .progress .entries; tally = a .tally }
+    pub along-end : (result : Played) → result ≡ answer → Ended E (a .tally) (a .table) (a .report) (a .linearization) result
+    along-end result is = subst (Ended E (a .tally) (a .table) (a .report) (a .linearization)) (sym is) accepted-end
 
-      table-cut : a .table ≡ take n (a .table) ++ drop n table₀
-      table-cut = sym (take-append-drop n (a .table)) ∙ ap (λ d. take n (a .table) ++ d) (l .table-rest)
+-- ---- what `prepare` left
 
-      report-cut : a .report ≡ take m (a .report) ++ drop m report₀
-      report-cut = sym (take-append-drop m (a .report)) ∙ ap (λ d. take m (a .report) ++ d) (l .report-rest)
-
-      ended-cut : _≡_ {A = Left} (record { table = a .table; report = a .report; linearization = a .linearization; result = answer }) (cutOf (meaning file .job) table₀ report₀ linearization₀)
-      ended-cut =
-          let going = going-end (l .going) (omega (arith, over, ap (λ k. k .grants) (l .checks .counts))) (record { entries = a .progress .entries; tally = a .tally }) refl in
-          let whole = whole-left (l .checks) linearization₀ (take n (a .table)) (take m (a .report)) (a .linearization) _ going in
-          (λ i. record { table = table-cut i; report = report-cut i; linearization = a .linearization; result = answer })
-          ∙ cut-left (meaning file .job) n m table₀ report₀ linearization₀ _ (ap (λ k. k .nodes) (l .checks .counts)) (ap (λ k. 4 * k .requests) (l .checks .counts)) whole
-
-      pub lending-end : counts .number ≡ 0 → Ended a (closedOf counts (a .progress) (a .tally))
-      unfolding playedOf tallyLeft
-      lending-end e =
-          record {
-            exact = rw (eq-eqb (counts .number) 0 e, eq-eqb (refusal file (length table₀) (length report₀) (length linearization₀)) 0 (l .accepted)) ended-cut;
-            counted = rw (eq-eqb (refusal file (length table₀) (length report₀) (length linearization₀)) 0 (l .accepted)) (ap (λ x. x .result .tally) ended-cut);
-            linearized = rw (eq-eqb (counts .number) 0 e)
-                (λ z. linearized-here file (admitted-meaning file (l .bytes) (l .checks .accepted)) table₀ report₀ linearization₀ _ ended-cut);
-          }
-
-    ended-by : Dec (counts .number ≡ 0) → counts .grants ≤ a .progress .number → Ended a (closedOf counts (a .progress) (a .tally))
-    ended-by (yes e) over = lending-end (a .accepted e) over e
-    ended-by (no d) over = unchanged-end (a .refused d) d
-
-    pub along-end : counts .grants ≤ a .progress .number → (result : Played) → result ≡ closedOf counts (a .progress) (a .tally) → Ended a result
-    along-end over result is = subst (Ended a) (sym is) (ended-by (ℕ-discrete (counts .number) 0) over)
-
--- ---- the start
-
-module _ (E : Entry) (table report linearization : List ℕ) (plan : Plan) (tally : Tally) (bytes : Bytes (E .file))
-    (prepared : _≡_ {A = Prepared} (record { table = table; report = report; linearization = linearization; plan = plan }) (preparedOf (E .file) (E .table) (E .report) (E .linearization)))
-    (is-tally : tally ≡ openedOf (E .tally) plan) where
+module _ (E : Entry) (table report linearization : List ℕ) (plan : Plan) (bytes : Bytes (E .file))
+    (prepared : _≡_ {A = Prepared} (record { table = table; report = report; linearization = linearization; plan = plan })
+    (preparedOf (E .file) (E .table) (E .report) (E .linearization)))
+    (table-long : length table ≡ length (E .table)) (report-long : length report ≡ length (E .report)) where
   open Entry E using (file, table as table₀, report as report₀, linearization as linearization₀, tally as tally₀)
 
   abbrev number : ℕ
-  number = refusal file (length table₀) (length report₀) (length linearization₀)
+  number = number₀ E
 
   -- ---- refused
 
@@ -246,21 +227,20 @@ module _ (E : Entry) (table report linearization : List ℕ) (plan : Plan) (tall
     number-refused : plan .counts .number ≡ number
     number-refused = ap (λ x. x .plan .counts .number) was-refused
 
-    unchanged-start : Unchanged E (plan .counts) tally table report linearization
-    unchanged-start =
+    unchanged : Ended E tally₀ table report linearization (refusedWith (plan .counts .number))
+    unfolding playedOf tallyLeft
+    unchanged =
         record {
-          refused = d;
-          which = number-refused;
-          grants = ap (λ x. x .plan .counts .grants) was-refused;
-          same-table = ap (λ x. x .table) was-refused;
-          same-report = ap (λ x. x .report) was-refused;
-          same-linearization = ap (λ x. x .linearization) was-refused;
-          same-tally = is-tally ∙ rw (ne-eqb (plan .counts .number) 0 (λ z. d (sym number-refused ∙ z))) refl;
+          exact = rw (ne-eqb number 0 d)
+              (λ i. left (was-refused i .table) (was-refused i .report) (was-refused i .linearization) (refusedWith (number-refused i)));
+          counted = rw (ne-eqb number 0 d) refl;
+          linearized = λ z. absurd (d (sym number-refused ∙ z));
+          lawful = λ z. absurd (d (sym number-refused ∙ z));
         }
 
   -- ---- accepted
 
-  module _ (e : number ≡ 0) (table-long : length table ≡ length table₀) (report-long : length report ≡ length report₀) where
+  module _ (e : number ≡ 0) where
     abbrev j : Job
     j = meaning file .job
 
@@ -309,54 +289,65 @@ module _ (E : Entry) (table report linearization : List ℕ) (plan : Plan) (tall
       done = was-accepted i .plan .progress .done;
     }
 
-    tally-is : tally ≡ firstTally (plan .progress .mask)
-    tally-is = is-tally ∙ rw (eq-eqb (plan .counts .number) 0 (ap (λ c. c .number) counts-are ∙ roomy .checks .accepted)) refl
+    module _ (tally : Tally) (is-tally : tally ≡ firstTally (plan .progress .mask)) where
+      abbrev zeros : List ℕ
+      zeros = replicate (4 * plan .counts .requests) 0
 
-    going : Going file (plan .counts .requests) linearization₀ (plan .progress) tally (take (plan .counts .nodes) table) (take (4 * plan .counts .requests) report) linearization₀
-    going = going-start
-        (whole-startable linearization₀ whole bytes (plan .progress .heads) (plan .progress .mask) (take (plan .counts .nodes) table) (take (4 * plan .counts .requests) report) heads-are mask-is
-        (ap (take (plan .counts .nodes)) table-is ∙ take-at (map encode (fresh (plan .counts .nodes))) (drop (plan .counts .nodes) table₀) (plan .counts .nodes) fresh-long)
-        (ap (take (4 * plan .counts .requests)) report-is ∙ take-at (replicate (4 * plan .counts .requests) 0) (drop (4 * plan .counts .requests) report₀) (4 * plan .counts .requests) (length-replicate (4 * plan .counts .requests) 0)))
-        (plan .progress) tally progress-is tally-is
+      abbrev nodes : List ℕ
+      nodes = map encode (fresh (plan .counts .nodes))
 
-    lending-start : Lending E (plan .counts) (plan .progress) tally table report linearization
-    lending-start =
-        record {
-          accepted = e;
-          bytes = bytes;
-          checks = roomy .checks;
-          nodes = omega (arith, nodes-are, table-long, roomy .nodes);
-          rows = omega (arith, rows-are, report-long, roomy .rows);
-          table-rest = ap (drop (plan .counts .nodes)) table-is ∙ drop-at (map encode (fresh (plan .counts .nodes))) (drop (plan .counts .nodes) table₀) (plan .counts .nodes) fresh-long;
-          report-rest = ap (drop (4 * plan .counts .requests)) report-is
-              ∙ drop-at (replicate (4 * plan .counts .requests) 0) (drop (4 * plan .counts .requests) report₀) (4 * plan .counts .requests) (length-replicate (4 * plan .counts .requests) 0);
-          going = subst (λ l. Going file (plan .counts .requests) linearization₀ (plan .progress) tally (take (plan .counts .nodes) table) (take (4 * plan .counts .requests) report) l)
-              (sym (ap (λ x. x .linearization) was-accepted)) going;
-        }
+      going : Going file (plan .counts .requests) linearization₀ (plan .progress) tally
+          (take (plan .counts .nodes) table) (take (4 * plan .counts .requests) report) linearization₀
+      going = going-start
+          (whole-startable linearization₀ whole bytes (plan .progress .heads) (plan .progress .mask)
+          (take (plan .counts .nodes) table) (take (4 * plan .counts .requests) report) heads-are mask-is
+          (ap (take (plan .counts .nodes)) table-is ∙ take-at nodes (drop (plan .counts .nodes) table₀) (plan .counts .nodes) fresh-long)
+          (ap (take (4 * plan .counts .requests)) report-is
+          ∙ take-at zeros (drop (4 * plan .counts .requests) report₀) (4 * plan .counts .requests) (length-replicate (4 * plan .counts .requests) 0)))
+          (plan .progress) tally progress-is is-tally
+
+      lending-start : Lending E (plan .counts) (plan .progress) tally table report linearization
+      lending-start =
+          record {
+            accepted = e;
+            bytes = bytes;
+            checks = roomy .checks;
+            nodes = omega (arith, nodes-are, table-long, roomy .nodes);
+            rows = omega (arith, rows-are, report-long, roomy .rows);
+            table-rest = ap (drop (plan .counts .nodes)) table-is
+                ∙ drop-at nodes (drop (plan .counts .nodes) table₀) (plan .counts .nodes) fresh-long;
+            report-rest = ap (drop (4 * plan .counts .requests)) report-is
+                ∙ drop-at zeros (drop (4 * plan .counts .requests) report₀) (4 * plan .counts .requests) (length-replicate (4 * plan .counts .requests) 0);
+            going = subst (λ l. Going file (plan .counts .requests) linearization₀ (plan .progress) tally
+                (take (plan .counts .nodes) table) (take (4 * plan .counts .requests) report) l)
+                (sym (ap (λ x. x .linearization) was-accepted)) going;
+          }
 
   -- ---- either way
 
-  pub refused-by : Dec (number ≡ 0) → length table ≡ length table₀ → length report ≡ length report₀ → plan .counts .number ≢ 0
-      → Unchanged E (plan .counts) tally table report linearization
-  refused-by (yes e) table-long report-long d = absurd (d (ap (λ c. c .number) (counts-are e table-long report-long) ∙ roomy e table-long report-long .checks .accepted))
-  refused-by (no d) table-long report-long _ = unchanged-start d
+  refused-by : Dec (number ≡ 0) → plan .counts .number ≢ 0 → Ended E tally₀ table report linearization (refusedWith (plan .counts .number))
+  refused-by (yes e) d = absurd (d (ap (λ c. c .number) (counts-are e) ∙ roomy e .checks .accepted))
+  refused-by (no d) _ = unchanged d
 
-  pub accepted-by : Dec (number ≡ 0) → length table ≡ length table₀ → length report ≡ length report₀ → plan .counts .number ≡ 0
-      → Lending E (plan .counts) (plan .progress) tally table report linearization
-  accepted-by (yes e) table-long report-long _ = lending-start e table-long report-long
-  accepted-by (no d) table-long report-long z = absurd (d (sym (number-refused d) ∙ z))
+  pub refused-end : plan .counts .number ≢ 0 → (result : Played) → result ≡ refusedWith (plan .counts .number)
+      → Ended E tally₀ table report linearization result
+  refused-end d result is = subst (Ended E tally₀ table report linearization) (sym is) (refused-by (ℕ-discrete number 0) d)
 
-  abbrev pub along-start : length table ≡ length table₀ → length report ≡ length report₀ → length linearization ≡ length linearization₀ → Along E (plan .counts)
-  along-start table-long report-long linearization-long =
-      record {
-        progress = plan .progress;
-        tally = tally;
-        table = table;
-        report = report;
-        linearization = linearization;
-        table-long = table-long;
-        report-long = report-long;
-        linearization-long = linearization-long;
-        refused = refused-by (ℕ-discrete number 0) table-long report-long;
-        accepted = accepted-by (ℕ-discrete number 0) table-long report-long;
-      }
+  module _ (accepted : plan .counts .number ≡ 0) (tally : Tally) (is-tally : tally ≡ firstTally (plan .progress .mask)) where
+    pub accepted-by : Dec (number ≡ 0) → Lending E (plan .counts) (plan .progress) tally table report linearization
+    accepted-by (yes e) = lending-start e tally is-tally
+    accepted-by (no d) = absurd (d (sym (number-refused d) ∙ accepted))
+
+    abbrev pub along-start : length linearization ≡ length linearization₀ → Along E (plan .counts)
+    along-start linearization-long =
+        record {
+          progress = plan .progress;
+          tally = tally;
+          table = table;
+          report = report;
+          linearization = linearization;
+          table-long = table-long;
+          report-long = report-long;
+          linearization-long = linearization-long;
+          lending = accepted-by (ℕ-discrete number 0);
+        }

@@ -5,11 +5,10 @@
 --   acceptedPlan file      the plan of an accepted file
 --   laidOf, cutLaidOf      the start, on buffers of the job's lengths and on longer ones
 --   preparedOf             the buffers and the plan, for any file and any buffers
---   openedOf t plan        the tally t when a play starts
 --   partOf c b             the parts of the buffers b that a job of these counts needs
 --   TurnableOn, TurnedOn   what a turn on the lent buffers asks and what it leaves
 --   TurnsOn                what it leaves of buffers whose parts show the grants so far
---   closedOf c p t         the answer
+--   closedOf c p t         the answer of an accepted play
 --   tallyLeft              what the owner's tally holds at the end
 use mathlib.Core.Path.{_≡_}
 use mathlib.Core.Bool.{cond}
@@ -30,8 +29,8 @@ use Rattle.rules.specs.State.{resting, headsFrom, tallyOf}
 use Rattle.stepper.specs.Shown.{Buffers, buffers, requestsIn}
 use Rattle.start.specs.Start.{workFlag}
 use Rattle.turns.specs.declared.Progress.{Progress}
-use Rattle.turns.specs.Turns.{StandingAt, Turnable, Turned, firstProgress, firstTally, runOf}
-use Rattle.player.specs.Player.{refusedWith, playRefusal}
+use Rattle.turns.specs.Turns.{StandingAt, Turnable, Turned, firstProgress, runOf}
+use Rattle.player.specs.Player.{playRefusal}
 use Rattle.lent.specs.declared.Plan.{Plan}
 
 -- ---- before the first grant
@@ -91,10 +90,6 @@ preparedOf file table report linearization =
       plan = refusedPlan (playRefusal file (length table) (length report) (length linearization));
     })
 
--- All three numbers are set to zero when an accepted job starts; the fourth is the mask's count of ones.
-abbrev pub openedOf : Tally → Plan → Tally
-openedOf tally plan = cond (eqb (plan .counts .number) 0) (firstTally (plan .progress .mask)) tally
-
 -- ---- one grant, on the parts of the lent buffers that the job needs
 
 abbrev pub partOf : Checked → Buffers → Buffers
@@ -119,8 +114,7 @@ TurnsOn file counts p p′ b b′ = (lent : List ℕ) → StandingAt file p (par
 
 abbrev pub closedOf : Checked → Progress → Tally → Played
 closedOf counts p tally =
-    cond (eqb (counts .number) 0)
-    (record {
+    record {
       number = 0;
       nodes = counts .nodes;
       heads = counts .heads;
@@ -128,8 +122,7 @@ closedOf counts p tally =
       grants = counts .grants;
       entries = p .entries;
       tally = tally;
-    })
-    (refusedWith (counts .number))
+    }
 
 -- The tally is lent by its owner: accepted, it holds what the rules' run counts; refused, it is as lent.
 unfoldable pub tallyLeft : List ℕ → List ℕ → List ℕ → List ℕ → Tally → Tally

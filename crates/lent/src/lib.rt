@@ -19,11 +19,11 @@ ghost use mathlib.Core.Path.{_≡_};
 ghost use lib.ListN.{length};
 ghost use Rattle.jobfile.specs.Meaning.{meaning};
 ghost use Rattle.jobfile.specs.Admitted.{Bytes};
-ghost use Rattle.turns.specs.Turns.{Roomy, countedOf, buffersOf};
-ghost use Rattle.player.specs.Player.{left, Checks, playedOf};
+ghost use Rattle.turns.specs.Turns.{Roomy, countedOf, buffersOf, firstTally};
+ghost use Rattle.player.specs.Player.{refusedWith, left, Checks, playedOf};
 ghost use Rattle.player.specs.Player.{Roomy as RoomyFor};
-ghost use Rattle.player.specs.Demand.{LinearizedHere};
-ghost use Rattle.lent.specs.Lent.{planOf, refusedPlan, laidOf, cutLaidOf, preparedOf, openedOf};
+ghost use Rattle.player.specs.Demand.{LinearizedHere, LawfulHere};
+ghost use Rattle.lent.specs.Lent.{planOf, refusedPlan, laidOf, cutLaidOf, preparedOf};
 ghost use Rattle.lent.specs.Lent.{TurnableOn, TurnsOn, closedOf, tallyLeft};
 
 // What is known before the first grant: the counts of the job or a refusal's number, and what the play carries.
@@ -96,15 +96,10 @@ fn prepare(file: &[u8], table: &mut [u32], report: &mut [u32], linearization: &m
     lay_out_cut(file, counts, table, report, linearization.len())
 }
 
-// The owner's tally when a play starts: zeros where the job is accepted, else as lent.
-fn opened(tally: Tally, plan: Plan) -> Tally
-    ensures { λ r. ⌜ r ≡ openedOf tally plan ⌝ }
+// The owner's tally when an accepted job starts.
+fn opened(progress: Progress) -> Tally
+    ensures { λ r. ⌜ r ≡ firstTally (progress .mask) ⌝ }
 {
-    let counts = plan.counts;
-    if counts.number != 0 {
-        return tally;
-    }
-    let progress = plan.progress;
     first_tally(progress.mask)
 }
 
@@ -143,13 +138,17 @@ fn added(tally: Tally, progress: Progress) -> Tally
     counted(tally, done, progress.mask)
 }
 
-// What a play answers.
+// What a refused play answers.
+fn declined(counts: Checked) -> Played
+    ensures { λ r. ⌜ r ≡ refusedWith (counts .number) ⌝ }
+{
+    refused(counts.number)
+}
+
+// What a play of an accepted job answers.
 fn closed(counts: Checked, progress: Progress, tally: Tally) -> Played
     ensures { λ r. ⌜ r ≡ closedOf counts progress tally ⌝ }
 {
-    if counts.number != 0 {
-        return refused(counts.number);
-    }
     Played {
         number: 0,
         nodes: counts.nodes,
@@ -170,7 +169,7 @@ pub fn add(tally: &mut Tally, progress: Progress)
 }
 
 // Plays a job file on lent buffers and a lent tally, for programs in C and Rust: the tally is zeroed at an accepted start
-// and added to at each grant.
+// and added to at each grant; a refusal writes nothing.
 #[no_mangle]
 pub extern "C" fn grouping_play_lent(
     file: &[u8],
@@ -185,11 +184,15 @@ pub extern "C" fn grouping_play_lent(
         ≡ tallyLeft (now (file .entry)) (now (table .entry)) (now (report .entry)) (now (linearization .entry)) (now (tally .entry)) ⌝ }
     ensures linearized { λ r. ⌜ (r .number ≡ 0
         → LinearizedHere (now (file .entry)) r (now (table .exit)) (now (report .exit)) (now (linearization .exit))) ⌝ }
+    ensures lawful { λ r. ⌜ (r .number ≡ 0 → LawfulHere (now (file .entry)) r (now (table .exit)) (now (report .exit))) ⌝ }
 {
     let plan = prepare(file, table, report, linearization);
-    *tally = opened(*tally, plan);
     let counts = plan.counts;
+    if counts.number != 0 {
+        return declined(counts);
+    }
     let mut progress = plan.progress;
+    *tally = opened(progress);
     while progress.number < counts.grants {
         progress = turn_on(file, counts, progress, table, report, linearization);
         add(tally, progress);

@@ -1,5 +1,7 @@
--- Demand 3 on the buffers: what they hold is what the rules' run leaves, and that is linearizable.
-use mathlib.Core.Path.{_≡_, refl, sym, ap, _∙_, subst, subst₃}
+-- Demand 3 and the laws of every moment on the buffers: what they hold is what the rules' run leaves, and of that both hold.
+--
+-- Main laws: linearized-here and lawful-here.
+use mathlib.Core.Path.{_≡_, refl, sym, ap, _∙_, subst, subst₂, subst₃}
 use mathlib.Core.List.{List, [], _∷_, _++_, map}
 use Prim.Native.Nat.{ℕ, _*_}
 use lib.ListN.{length, take, drop, length-map}
@@ -13,17 +15,20 @@ use Rattle.linearization.proofs.Numbers.{length-flat, entriesOf-flat}
 use Rattle.jobfile.specs.Meaning.{meaning}
 use Rattle.jobfile.specs.Admitted.{Admitted}
 use Rattle.rules.specs.declared.Row.{Row}
+use Rattle.rules.specs.State.{noRequest, tallyOf}
 use Rattle.rules.specs.Linearized.{Linearized}
+use Rattle.rules.specs.Laws.{Lawful}
 use Rattle.rules.proofs.Invariant.{Invariant}
 use Rattle.rules.proofs.Theorem.{invariant-linearized}
+use Rattle.rules.proofs.Laws.{run-lawful}
 use Rattle.stepper.specs.Buffers.{flatRows}
 use Rattle.table.proofs.Words.{decode-words}
 use Rattle.stepper.proofs.Lists.{length-rows}
 use Rattle.stepper.proofs.Served.{invariant-worded}
-use Rattle.stepper.proofs.Reached.{admitted-granted, after-invariant}
+use Rattle.stepper.proofs.Reached.{admitted-granted, after-playable, after-invariant, after-now}
 use Rattle.turns.specs.Turns.{runOf}
 use Rattle.player.specs.Player.{Left, cutOf}
-use Rattle.player.specs.Demand.{rowsOf, historyOf, LinearizedHere}
+use Rattle.player.specs.Demand.{rowsOf, historyOf, LinearizedHere, LawfulHere}
 
 -- ---- from buffers back to lists
 
@@ -38,7 +43,7 @@ module _ (j : Job) (admitted : Admitted j) where
   pub run-ended : Invariant (j .requests) (j .nodes) apart (j .nodes) (runOf j) (historyOf j)
   run-ended = after-invariant j admitted (j .schedule) (admitted-granted j admitted)
 
-  table-back : (lent : List ℕ) → map decode (take (j .nodes) (map encode (runOf j .table) ++ lent)) ≡ runOf j .table
+  pub table-back : (lent : List ℕ) → map decode (take (j .nodes) (map encode (runOf j .table) ++ lent)) ≡ runOf j .table
   table-back lent =
       ap (map decode) (take-at (map encode (runOf j .table)) lent (j .nodes) (length-map (runOf j .table) encode ∙ run-ended .nodes))
       ∙ decode-words (runOf j .table) (invariant-worded run-ended)
@@ -60,9 +65,36 @@ module _ (j : Job) (admitted : Admitted j) where
   left-linearized table report linearization =
       subst₃ Shape (sym (table-back table)) (sym (report-back report)) (sym (entries-back linearization)) (invariant-linearized run-ended)
 
-pub linearized-here : (file : List ℕ) → Admitted (meaning file .job) → (table report linearization : List ℕ) (left : Left)
-    → left ≡ cutOf (meaning file .job) table report linearization → LinearizedHere file (left .result) (left .table) (left .report) (left .linearization)
-linearized-here file admitted table report linearization left is =
-    subst (λ x. LinearizedHere file (x .result) (x .table) (x .report) (x .linearization)) (sym is)
-    (left-linearized (meaning file .job) admitted (drop (meaning file .job .nodes) table) (drop (4 * length (meaning file .job .requests)) report)
-    (drop (2 * length (runOf (meaning file .job) .entries)) linearization))
+  -- the job's own heads serve every request; those beyond them have no work
+  abbrev LawfulAt : ℕ → List Node → List Row → Type 0
+  LawfulAt grants t r = Lawful (j .nodes) (j .heads) (j .requests) t r (tallyOf (j .requests) (runOf j)) grants (historyOf j)
+
+  run-is-lawful : LawfulAt (length (j .schedule)) (runOf j .table) (runOf j .report)
+  run-is-lawful =
+      subst (λ k. LawfulAt k (runOf j .table) (runOf j .report)) (after-now j admitted (j .schedule) (admitted-granted j admitted))
+      (run-lawful (after-playable j admitted (j .schedule) (admitted-granted j admitted)) (j .heads) (admitted .few-heads)
+      (λ q l. admitted .each-request q noRequest l .head))
+
+  left-lawful : (table report : List ℕ)
+      → LawfulAt (length (j .schedule)) (map decode (take (j .nodes) (map encode (runOf j .table) ++ table)))
+      (rowsOf (take (4 * length (j .requests)) (flatRows (runOf j .report) ++ report)))
+  left-lawful table report =
+      subst₂ (LawfulAt (length (j .schedule))) (sym (table-back table)) (sym (report-back report)) run-is-lawful
+
+-- ---- of a file
+
+module _ (file : List ℕ) (admitted : Admitted (meaning file .job)) (table report linearization : List ℕ) (end : Left)
+    (is : end ≡ cutOf (meaning file .job) table report linearization) where
+  abbrev j : Job
+  j = meaning file .job
+
+  pub linearized-here : LinearizedHere file (end .result) (end .table) (end .report) (end .linearization)
+  linearized-here =
+      subst (λ x. LinearizedHere file (x .result) (x .table) (x .report) (x .linearization)) (sym is)
+      (left-linearized j admitted (drop (j .nodes) table) (drop (4 * length (j .requests)) report)
+      (drop (2 * length (runOf j .entries)) linearization))
+
+  pub lawful-here : LawfulHere file (end .result) (end .table) (end .report)
+  lawful-here =
+      subst (λ x. LawfulHere file (x .result) (x .table) (x .report)) (sym is)
+      (left-lawful j admitted (drop (j .nodes) table) (drop (4 * length (j .requests)) report))

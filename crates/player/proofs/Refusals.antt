@@ -78,7 +78,7 @@ module _ (file : List ℕ) (table report linearization : ℕ) where
   unfolding playRefusal
   refusal-file d = rw (ne-eqb (meaning file .number) 0 d)
 
-  refusal-lent : meaning file .number ≡ 0 → refusal ≡ lent
+  pub refusal-lent : meaning file .number ≡ 0 → refusal ≡ lent
   unfolding playRefusal
   refusal-lent e = rw (eq-eqb (meaning file .number) 0 e)
 

@@ -1,8 +1,9 @@
--- Demand 3, on what a play leaves in the lent buffers.
+-- Demand 3 and the laws of every moment, on what a play leaves in the lent buffers.
 --
 --   rowsOf numbers        the rows of a report, four numbers each
 --   historyOf j           what the grants of the job j were, by the rules
 --   LinearizedHere        the linearization theorem, of the exit buffers cut to what counts
+--   LawfulHere            the laws of every moment, of the same and of the play's own counts
 use mathlib.Core.List.{List, [], _∷_, map}
 use Prim.Native.Nat.{ℕ, _*_}
 use lib.ListN.{take}
@@ -15,6 +16,7 @@ use Rattle.jobfile.specs.Meaning.{meaning}
 use Rattle.rules.specs.declared.Row.{Row}
 use Rattle.rules.specs.Run.{Happening}
 use Rattle.rules.specs.Linearized.{Linearized}
+use Rattle.rules.specs.Laws.{Lawful}
 use Rattle.stepper.specs.Shown.{historyAfter}
 
 abbrev pub rowsOf : List ℕ → List Row
@@ -33,4 +35,12 @@ LinearizedHere file played table report linearization =
     (map decode (take (played .nodes) table))
     (rowsOf (take (4 * played .requests) report))
     (entriesOf (take (2 * played .entries) linearization))
+    (historyOf (meaning file .job))
+
+abbrev pub LawfulHere : List ℕ → Played → List ℕ → List ℕ → Type 0
+LawfulHere file played table report =
+    Lawful (played .nodes) (played .heads) (meaning file .job .requests)
+    (map decode (take (played .nodes) table))
+    (rowsOf (take (4 * played .requests) report))
+    (played .tally) (played .grants)
     (historyOf (meaning file .job))

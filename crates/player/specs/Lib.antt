@@ -1,3 +1,4 @@
--- What a play leaves, and demand 3 on the buffers that it leaves.
+-- What a play leaves, demand 3 and the laws of every moment on the buffers that it leaves, and the cuts of a file.
 pub mod Player
 pub mod Demand
+pub mod Cuts

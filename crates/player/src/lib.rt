@@ -12,7 +12,7 @@ ghost use mathlib.Core.Path.{_≡_};
 ghost use lib.ListN.{length};
 ghost use Rattle.jobfile.specs.Meaning.{meaning};
 ghost use Rattle.player.specs.Player.{refusedWith, left, Whole, wholeOf, Roomy, cutOf, admissionOf, playedOf};
-ghost use Rattle.player.specs.Demand.{LinearizedHere};
+ghost use Rattle.player.specs.Demand.{LinearizedHere, LawfulHere};
 
 // A refusal: its number, and zero for every count.
 pub fn refused(number: u32) -> Played
@@ -123,6 +123,7 @@ pub fn play(file: &[u8], table: &mut [u32], report: &mut [u32], linearization: &
         ≡ playedOf (now (file .entry)) (now (table .entry)) (now (report .entry)) (now (linearization .entry)) ⌝ }
     ensures linearized { λ r. ⌜ (r .number ≡ 0
         → LinearizedHere (now (file .entry)) r (now (table .exit)) (now (report .exit)) (now (linearization .exit))) ⌝ }
+    ensures lawful { λ r. ⌜ (r .number ≡ 0 → LawfulHere (now (file .entry)) r (now (table .exit)) (now (report .exit))) ⌝ }
 {
     let checked = admission(file, table.len(), report.len(), linearization.len());
     if checked.number != 0 {

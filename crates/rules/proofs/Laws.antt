@@ -3,30 +3,32 @@
 -- Main laws: run-lawful, at every moment; run-follows, between any two.
 use mathlib.Core.Path.{_≡_, refl, sym, ap, _∙_, subst}
 use mathlib.Core.Logic.{_≢_}
-use mathlib.Core.Bool.{true}
+use mathlib.Core.Bool.{Bool, true, false}
 use mathlib.Core.List.{List, [], _∷_, _++_, List·Memᴰ, Memᴰ·append-left, Memᴰ·append-right}
-use Prim.Native.Nat.{ℕ, suc, _<_}
+use Prim.Native.Nat.{ℕ, zero, suc, _+_, _-_, _≤_, _<_}
 use native.Mathlib.Omega.{arith}
 use lib.ListN.{length}
-use borrow.Author.Tests.{lt-ltb}
+use borrow.Author.Tests.{ne-eqb, lt-ltb}
 use Rattle.job.specs.declared.Request.{Request}
 use Rattle.word.specs.declared.Node.{Node}
 use Rattle.word.specs.Word.{before, key}
 use Rattle.word.proofs.Laws.{before-key}
+use Rattle.forest.specs.Forest.{count}
 use Rattle.forest.proofs.Forest.{WellFormed, together-label, label-together}
 use Rattle.forest.proofs.Sound.{rank-bound}
 use Rattle.forest.proofs.Roots.{start-roots}
 use Rattle.forest.proofs.Later.{Later, later-refl}
 use Rattle.linearization.specs.Partition.{Labels, apart}
 use Rattle.linearization.proofs.Tests.{split}
+use Rattle.rules.specs.declared.Row.{Row}
 use Rattle.rules.specs.Table.{parent, rank, fresh}
 use Rattle.rules.specs.Report.{noRow}
-use Rattle.rules.specs.State.{State, requestAt, start}
+use Rattle.rules.specs.State.{State, requestAt, start, tallyOf}
 use Rattle.rules.specs.Step.{step}
 use Rattle.rules.specs.Run.{Happening, run, history}
 use Rattle.rules.specs.History.{countWhere, isOf, rowOf}
 use Rattle.rules.specs.Linearized.{rowAt, Playable}
-use Rattle.rules.specs.Laws.{Lawful, Follows}
+use Rattle.rules.specs.Laws.{some, isUnfinished, headsLeft, Lawful, Follows}
 use Rattle.rules.proofs.History.{row-other}
 use Rattle.rules.proofs.Table.{fresh-start}
 use Rattle.rules.proofs.Invariant.{labels, Invariant}
@@ -50,6 +52,27 @@ unused-row q (a ∷ past) none =
     (λ t. let more : suc (countWhere (isOf q) past) ≡ 0 = rw t at none in absurd (omega arith))
     (λ f. row-other q a past f ∙ unused-row q past (rw f at none))
 
+-- ---- heads without a request have no work
+
+some-none : (test : ℕ → Bool) (n : ℕ) → ((q : ℕ) → q < n → test q ≡ false) → some test n ≡ false
+some-none test zero none = refl
+some-none test (suc n) none = rw (none n (omega arith)) (some-none test n (λ q l. none q (omega arith)))
+
+count-more : (test : ℕ → Bool) (n k : ℕ) → ((h : ℕ) → n ≤ h → test h ≡ false) → count test (n + k) ≡ count test n
+count-more test n zero none = let same : n + 0 ≡ n = omega arith in ap (count test) same
+count-more test n (suc k) none =
+    let more : n + suc k ≡ suc (n + k) = omega arith in
+    rw (more, none (n + k) (omega arith)) (count-more test n k none)
+
+heads-left : (qs : List Request) (report : List Row) (heads m : ℕ) → heads ≤ m → ((q : ℕ) → q < length qs → requestAt qs q .head < heads)
+    → headsLeft qs report m ≡ headsLeft qs report heads
+heads-left qs report heads m few served =
+    let all : m ≡ heads + (m - heads) = omega arith in
+    ap (headsLeft qs report) all
+    ∙ count-more (λ h. some (isUnfinished qs report h) (length qs)) heads (m - heads)
+    (λ h l. some-none (isUnfinished qs report h) (length qs)
+    (λ q within. rw (ne-eqb (requestAt qs q .head) h (λ e. absurd (omega (arith, e, served q within)))) refl))
+
 module _ {qs : List Request} {n : ℕ} {B : Labels} {roots₀ : ℕ} {S : State} {past : List Happening} (inv : Invariant qs n B roots₀ S past) where
   module _ (p q : ℕ) (earlier : p < q) (within : q < length qs) (one : requestAt qs p .head ≡ requestAt qs q .head)
       (begun : rowAt (S .report) q .first ≢ 0) where
@@ -69,8 +92,10 @@ module _ {qs : List Request} {n : ℕ} {B : Labels} {roots₀ : ℕ} {S : State}
     ended-before : InTurn qs past → rowAt (S .report) p .last < rowAt (S .report) q .first
     ended-before turn = omega (arith, turn p q earlier within one (λ e. begun (first-is ∙ e)), first-is, last-is)
 
-  invariant-lawful : roots₀ ≡ n → Counted S past → AllTruthful past → InTurn qs past → Lawful n qs S past
-  invariant-lawful all counted truthful turn =
+  invariant-lawful : (heads : ℕ) → heads ≤ length (S .heads) → ((q : ℕ) → q < length qs → requestAt qs q .head < heads)
+      → roots₀ ≡ n → Counted S past → AllTruthful past → InTurn qs past
+      → Lawful n heads qs (S .table) (S .report) (tallyOf qs S) (S .now) past
+  invariant-lawful heads few served all counted truthful turn =
       record {
         parents = formed-before (inv .sound .formed);
         ranks = rank-bound (inv .sound);
@@ -83,7 +108,7 @@ module _ {qs : List Request} {n : ℕ} {B : Labels} {roots₀ : ℕ} {S : State}
         failed = counted .failed;
         links = counted .links;
         truthful = truthful;
-        work = work-left inv;
+        work = work-left inv ∙ heads-left qs (S .report) heads (length (S .heads)) few served;
         anchored = λ q l. rw (inv .rows q l) (phase-anchored (inv .phases q l));
         finished = finished-before;
         ordered = λ p q l w one begun. ended-before p q l w one begun turn;
@@ -139,10 +164,13 @@ module _ {n m : ℕ} {qs : List Request} where
   granted-later gs hs playable h k =
       omega (arith, granted-start playable h (Memᴰ·append-right gs k), run-heads qs (start qs m (fresh n)) gs)
 
-  pub run-lawful : {gs : List ℕ} → Playable n m qs gs
-      → Lawful n qs (run qs (start qs m (fresh n)) gs) (history qs (start qs m (fresh n)) [] gs)
-  run-lawful {gs} playable =
+  -- m heads are played with, of which `heads` have requests
+  pub run-lawful : {gs : List ℕ} → Playable n m qs gs → (heads : ℕ) → heads ≤ m → ((q : ℕ) → q < length qs → requestAt qs q .head < heads)
+      → Lawful n heads qs (run qs (start qs m (fresh n)) gs .table) (run qs (start qs m (fresh n)) gs .report)
+      (tallyOf qs (run qs (start qs m (fresh n)) gs)) (run qs (start qs m (fresh n)) gs .now) (history qs (start qs m (fresh n)) [] gs)
+  run-lawful {gs} playable heads few served =
       let S = start qs m (fresh n) in
+      let many : heads ≤ length (run qs S gs .heads) = omega (arith, few, run-heads qs S gs, length-heads qs 0 m) in
       let begin = fresh-startable n (playable .few) in
       let inside = playable-inside playable in
       let granted = granted-start playable in
@@ -150,7 +178,8 @@ module _ {n m : ℕ} {qs : List Request} where
       let counted = run-layer inside counted-layer S [] gs granted inv (start-counted qs m (fresh n)) in
       let truthful = run-layer inside truthful-layer S [] gs granted inv start-truthful in
       let turn = run-layer inside in-turn-layer S [] gs granted inv (start-in-turn qs) in
-      invariant-lawful (started-invariant playable begin) (start-roots (fresh-start n (playable .few))) counted truthful turn
+      let all = start-roots (fresh-start n (playable .few)) in
+      invariant-lawful (started-invariant playable begin) heads many served all counted truthful turn
 
   pub run-follows : (gs hs : List ℕ) → Playable n m qs (gs ++ hs)
       → Follows n (run qs (start qs m (fresh n)) gs .table) (run qs (start qs m (fresh n)) (gs ++ hs) .table)

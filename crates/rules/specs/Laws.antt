@@ -1,11 +1,12 @@
--- What holds at every moment of every run, and what holds between two moments of it: the statements.
+-- What holds at every moment of every run, and what holds between two moments of it: the statements, over plain lists and
+-- numbers as those of demand 3 are.
 --
 --   some test n                  some number below n passes the test
 --   isUnfinished qs report h q   request q is of head h and unfinished
 --   headsLeft qs report m        how many heads below m have an unfinished request
 --   Truthful a                   what the steps say of the grant a is what its access and the word seen tell
 --   Anchored q row past          the point of a finished same-set q, told by its row
---   Lawful nodes qs S past       what holds of the state S after the history past
+--   Lawful                       what holds of table, report, tally and number of grants after a history, one clause a sentence
 --   Follows nodes t t′           what holds of the table t′ at a later moment than that of the table t
 use mathlib.Core.Path.{_≡_}
 use mathlib.Core.Logic.{_≢_}
@@ -16,13 +17,14 @@ use lib.Dec.{eqb}
 use lib.ListN.{length}
 use Rattle.job.specs.declared.Kind.the-variants.{SameSet}
 use Rattle.job.specs.declared.Request.{Request}
+use Rattle.job.specs.declared.Tally.{Tally}
 use Rattle.word.specs.declared.Node.{Node}
 use Rattle.word.specs.Word.{before}
 use Rattle.forest.specs.Forest.{count, rootCount, Together}
 use Rattle.rules.specs.declared.Row.{Row}
 use Rattle.rules.specs.Table.{parent, rank}
 use Rattle.rules.specs.Report.{noRow}
-use Rattle.rules.specs.State.{State, requestAt, working}
+use Rattle.rules.specs.State.{requestAt}
 use Rattle.rules.specs.Action.{Agrees}
 use Rattle.rules.specs.Run.{Happening}
 use Rattle.rules.specs.Run.Happening.{idle, serving}
@@ -54,37 +56,37 @@ pub record Anchored (q : ℕ) (row : Row) (past : List Happening) : Type 0 where
   pub no : row .answer ≡ 4 → pointOf SameSet q past ≡ lastButOne (isOf q) past
 
 -- At every moment of a run.
-pub record Lawful (nodes : ℕ) (qs : List Request) (S : State) (past : List Happening) : Type 0 where
+pub record Lawful (nodes heads : ℕ) (qs : List Request) (table : List Node) (report : List Row) (tally : Tally) (grants : ℕ)
+    (past : List Happening) : Type 0 where
   -- "Every parent that isn't the place itself comes after it."
-  pub parents : (i : ℕ) → i < nodes → parent (S .table) i ≢ i
-      → before (rank (S .table) i) i (rank (S .table) (parent (S .table) i)) (parent (S .table) i) ≡ true
+  pub parents : (i : ℕ) → i < nodes → parent table i ≢ i → before (rank table i) i (rank table (parent table i)) (parent table i) ≡ true
   -- "Ranks never exceed the whole part of the base-2 logarithm of the place count."
-  pub ranks : (i : ℕ) → i < nodes → 2 ^ rank (S .table) i ≤ nodes
+  pub ranks : (i : ℕ) → i < nodes → 2 ^ rank table i ≤ nodes
   -- "Roots plus successful links equal the place count."
-  pub roots : rootCount (parent (S .table)) nodes + S .links ≡ nodes
+  pub roots : rootCount (parent table) nodes + tally .links ≡ nodes
   -- "Each request gets four 32-bit numbers": those that the history gives it.
-  pub reports : length (S .report) ≡ length qs
-  pub rows : (q : ℕ) → q < length qs → rowAt (S .report) q ≡ rowOf q past
+  pub reports : length report ≡ length qs
+  pub rows : (q : ℕ) → q < length qs → rowAt report q ≡ rowOf q past
   -- "All four are 0 before its first grant."
-  pub fresh : (q : ℕ) → q < length qs → countWhere (isOf q) past ≡ 0 → rowAt (S .report) q ≡ noRow
+  pub fresh : (q : ℕ) → q < length qs → countWhere (isOf q) past ≡ 0 → rowAt report q ≡ noRow
   -- "Grants count from 1": the number of the last one is how many there were, idle ones included.
-  pub clock : S .now ≡ length past
+  pub clock : grants ≡ length past
   -- "The tally holds idle grants, failed swaps and links": as many as the history has of each,
-  pub idle : S .idle ≡ countWhere isIdle past
-  pub failed : S .failed ≡ countWhere hasFailed past
-  pub links : S .links ≡ countWhere hasLink past
+  pub idle : tally .idle ≡ countWhere isIdle past
+  pub failed : tally .failed ≡ countWhere hasFailed past
+  pub links : tally .links ≡ countWhere hasLink past
+  -- "and the heads with work left now".
+  pub work : tally .working ≡ headsLeft qs report heads
   -- What the steps say of a swap is what its access and the word seen tell.
   pub truthful : (a : Happening) → List·Memᴰ a past → Truthful a
-  -- "and the heads with work left now".
-  pub work : working qs (S .heads) ≡ headsLeft qs (S .report) (length (S .heads))
   -- "For a same-set, the grant that ended its last find from y."
-  pub anchored : (q : ℕ) → q < length qs → Anchored q (rowAt (S .report) q) past
+  pub anchored : (q : ℕ) → q < length qs → Anchored q (rowAt report q) past
   -- A head serves its requests in file order: of two, the later has begun only if the earlier is finished,
   pub finished : (p q : ℕ) → p < q → q < length qs → requestAt qs p .head ≡ requestAt qs q .head
-      → rowAt (S .report) q .first ≢ 0 → rowAt (S .report) p .answer ≢ 0
+      → rowAt report q .first ≢ 0 → rowAt report p .answer ≢ 0
   -- and one after the other: the earlier's last grant comes before the later's first.
   pub ordered : (p q : ℕ) → p < q → q < length qs → requestAt qs p .head ≡ requestAt qs q .head
-      → rowAt (S .report) q .first ≢ 0 → rowAt (S .report) p .last < rowAt (S .report) q .first
+      → rowAt report q .first ≢ 0 → rowAt report p .last < rowAt report q .first
 
 -- Between any two moments of a run: t is the table at the earlier one.
 pub record Follows (nodes : ℕ) (t t′ : List Node) : Type 0 where

@@ -1,10 +1,10 @@
 -- What each call of `grouping_play_lent` gets and what it leaves. All that is known of a callee is that it meets its contract.
 --
---   Prepare, Opened, TurnOn, Add, Closed   the contracts of the callees
---   Known                                  the tables of a run, at which each callee meets its contract
---   to-C, goes-C                           what is passed to the callee C; that the caller has what C asks
---   Told, told-C                           a result and the lists that a call left; what is had when C is over
---   Prepares, Turns                        what `prepare` and `turn_on` ensure
+--   Prepare, Declined, Opened, TurnOn, Add, Closed   the contracts of the callees
+--   Known             the tables of a run, at which each callee meets its contract
+--   to-C, goes-C      what is passed to the callee C; that the caller has what C asks
+--   Told, told-C      a result and the lists that a call left; what is had when C is over
+--   Prepares, Turns   what `prepare` and `turn_on` ensure
 use mathlib.Core.Path.{_≡_, refl, ap}
 use mathlib.Core.List.{[], _∷_, List}
 use Prim.Native.Nat.{ℕ}
@@ -28,12 +28,15 @@ use Rattle.job.specs.declared.Tally.{Tally}
 use Rattle.jobfile.specs.Admitted.{Bytes}
 use Rattle.reader.specs.declared.Checked.{Checked}
 use Rattle.turns.specs.declared.Progress.{Progress}
-use Rattle.turns.specs.Turns.{countedOf, buffersOf, Roomy}
+use Rattle.turns.specs.Turns.{countedOf, buffersOf, firstTally, Roomy}
+use Rattle.player.specs.Player.{refusedWith}
 use Rattle.lent.specs.declared.Plan.{Plan}
-use Rattle.lent.specs.Lent.{Prepared, preparedOf, openedOf, TurnableOn, TurnsOn, closedOf}
+use Rattle.lent.specs.Lent.{Prepared, preparedOf, TurnableOn, TurnsOn, closedOf}
 use Rattle.lent.proofs.Walks.{Setting, at-name, row, value, IsValue, makes, Returned, told-value, tally-struct, checked-struct, progress-struct, plan-struct, played-struct}
 use Rattle.lent.proofs.prepare as prepare
 use Rattle.lent.proofs.prepare.Symbol.{name as #lent·prepare}
+use Rattle.lent.proofs.declined as declined
+use Rattle.lent.proofs.declined.Symbol.{name as #lent·declined}
 use Rattle.lent.proofs.opened as opened
 use Rattle.lent.proofs.opened.Symbol.{name as #lent·opened}
 use Rattle.lent.proofs.turn_on as turn-on
@@ -53,6 +56,9 @@ module _ (w : Setting) where
   abbrev pub Prepare : Contract 𝓤
   Prepare = tripleOf 𝓤 H A prepare.signature (prepare.spec 𝓤 H A at-mem run)
 
+  abbrev pub Declined : Contract 𝓤
+  Declined = tripleOf 𝓤 H A declined.signature (declined.spec 𝓤 H A at-mem run)
+
   abbrev pub Opened : Contract 𝓤
   Opened = tripleOf 𝓤 H A opened.signature (opened.spec 𝓤 H A at-mem run)
 
@@ -68,6 +74,7 @@ module _ (w : Setting) where
   pub record Known : Type 2 where
     pub tables : Tables 𝓤 H
     pub prepare : Triple 𝓤 (tables .C #lent·prepare) Prepare
+    pub declined : Triple 𝓤 (tables .C #lent·declined) Declined
     pub opened : Triple 𝓤 (tables .C #lent·opened) Opened
     pub turn-on : Triple 𝓤 (tables .C #lent·turn-on) TurnOn
     pub add : Triple 𝓤 (tables .C #lent·add) Add
@@ -146,20 +153,41 @@ module _ (w : Setting) (P : Parameters) where
       cut ((Tokens w P n ⊛ ‵ (row plan-struct .own r (v ∷ []))) ∷ ‵ (Lasts n (lists₀ P) (told r (zs .1) .left)) ∷ []) (given (SameLengths (told r (zs .1) .left) (lists₀ P)) (raw (⋆ 𝓤 H A (Prepared-with n v (told r (zs .1))))) ∷ []) _ (over w P (row plan-struct .own r (v ∷ [])) n (lists₀ P) (told r (zs .1) .left)) $ learn ! (λ same.
       at-once ! $ show ! (λ (z : Told Plan). guard 𝓤 (Prepares P z) (⋆ 𝓤 H A (Prepared-with n v z))) (told r (zs .1)) $ check ! (record { exact = e .0; bytes = e .1; same = same }) $ done !))))
 
+  -- ---- `declined`
+
+  module _ (counts : Checked) where
+    abbrev pub to-declined : Declined w .Ghost
+    to-declined = ((tt, tt, tt, (counts, tt), (value checked-struct counts ∷ [], tt)), tt)
+
+    pub goes-declined : ent 𝓤 (sem 𝓤 H A (row checked-struct .own counts (value checked-struct counts ∷ []))) (Declined w .pre to-declined)
+    goes-declined =
+        qed W (‵ (row checked-struct .own counts (value checked-struct counts ∷ [])) ∷ []) ∵
+        nothing ! $ move ! (1 ∷ 0 ∷ []) $ fjoin ! $ nothing ! $ join ! $ frame ! $ done !
+
+    pub told-declined : (v : Val) → ent 𝓤 (Declined w .post to-declined v)
+        (H .⇛ (ex 𝓤 (Returned w played-struct (λ r. r ≡ refusedWith (counts .number)) v)))
+    told-declined v =
+        told-value w played-struct (λ r. r ≡ refusedWith (counts .number)) v
+        (ensured 𝓤 H A declined.ended (declined.clauses 𝓤 H A at-mem run) tt (counts, tt) tt)
+        (λ r. exE 𝓤 _ (λ ws. snd∗ 𝓤 (sem 𝓤 H A (lasts declined.ended tt (counts, tt) ws)) (fact 𝓤 (r ≡ refusedWith (counts .number)))))
+
   -- ---- `opened`
 
-  abbrev pub to-opened : Plan → Opened w .Ghost
-  to-opened plan = ((tt, tt, tt, (P .tally .entry, (plan, tt)), (value tally-struct (P .tally .entry) ∷ [], (value plan-struct plan ∷ [], tt))), tt)
+  module _ (p : Progress) where
+    abbrev pub to-opened : Opened w .Ghost
+    to-opened = ((tt, tt, tt, (p, tt), (value progress-struct p ∷ [], tt)), tt)
 
-  pub goes-opened : (plan : Plan) → ent 𝓤 (sep 𝓤 (sem 𝓤 H A (row tally-struct .own (P .tally .entry) (value tally-struct (P .tally .entry) ∷ []))) (sem 𝓤 H A (row plan-struct .own plan (value plan-struct plan ∷ [])))) (Opened w .pre (to-opened plan))
-  goes-opened plan =
-      qed W (‵ (row tally-struct .own (P .tally .entry) (value tally-struct (P .tally .entry) ∷ [])) ∷ ‵ (row plan-struct .own plan (value plan-struct plan ∷ [])) ∷ []) ∵
-      nothing ! $ move ! (2 ∷ 0 ∷ []) $ fjoin ! $ move ! (1 ∷ 0 ∷ []) $ fjoin ! $ nothing ! $ join ! $ frame ! $ done !
+    pub goes-opened : ent 𝓤 (sem 𝓤 H A (row progress-struct .own p (value progress-struct p ∷ []))) (Opened w .pre to-opened)
+    goes-opened =
+        qed W (‵ (row progress-struct .own p (value progress-struct p ∷ [])) ∷ []) ∵
+        nothing ! $ move ! (1 ∷ 0 ∷ []) $ fjoin ! $ nothing ! $ join ! $ frame ! $ done !
 
-  pub told-opened : (plan : Plan) (v : Val) → ent 𝓤 (Opened w .post (to-opened plan) v) (H .⇛ (ex 𝓤 (Returned w tally-struct (λ h. h ≡ openedOf (P .tally .entry) plan) v)))
-  told-opened plan v =
-      told-value w tally-struct (λ h. h ≡ openedOf (P .tally .entry) plan) v (ensured 𝓤 H A opened.ended (opened.clauses 𝓤 H A at-mem run) tt (P .tally .entry, (plan, tt)) tt)
-      (λ h. exE 𝓤 _ (λ ws. snd∗ 𝓤 (sem 𝓤 H A (lasts opened.ended tt (P .tally .entry, (plan, tt)) ws)) (fact 𝓤 (h ≡ openedOf (P .tally .entry) plan))))
+    pub told-opened : (v : Val) → ent 𝓤 (Opened w .post to-opened v)
+        (H .⇛ (ex 𝓤 (Returned w tally-struct (λ h. h ≡ firstTally (p .mask)) v)))
+    told-opened v =
+        told-value w tally-struct (λ h. h ≡ firstTally (p .mask)) v
+        (ensured 𝓤 H A opened.ended (opened.clauses 𝓤 H A at-mem run) tt (p, tt) tt)
+        (λ h. exE 𝓤 _ (λ ws. snd∗ 𝓤 (sem 𝓤 H A (lasts opened.ended tt (p, tt) ws)) (fact 𝓤 (h ≡ firstTally (p .mask)))))
 
   -- ---- `turn_on`
 

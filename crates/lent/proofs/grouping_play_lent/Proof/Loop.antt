@@ -43,7 +43,7 @@ use Rattle.lent.proofs.grouping_play_lent.Code.Mir as mir-of
 use Rattle.lent.proofs.Again.{loan}
 use Rattle.lent.proofs.grouping_play_lent.Proof.Held.{Parameters, Lists, Loans, TallyHeld, Back, Buffers, Owner, Passed, Kept, Lending, Over, lends, comes}
 use Rattle.lent.proofs.grouping_play_lent.Proof.Calls.{TurnOn, Add, Closed, Known, Told, Turns, to-turn, goes-turn, Turned-with, told-turn, TallyLent, to-add, goes-add, told-add, to-closed, goes-closed, told-closed}
-use Rattle.lent.proofs.grouping_play_lent.Proof.Frame.{entry, τ, Here, listsOf, long, En, room, full, Locals, Post, exits, Runs}
+use Rattle.lent.proofs.grouping_play_lent.Proof.Frame.{entry, τ, Here, listsOf, long, En, room, full, Locals, Post, ends, Runs}
 
 -- a turn's last two statements: the tally is lent on, and `add` is called
 abbrev rest : Body → Body
@@ -89,7 +89,7 @@ module _ (w : Setting) (P : Parameters) (known : Known w) (L : ℕ → ℕ) (cou
   Nearer-wf = InvImage·wf (λ (s : Place). counts .grants - s .0 .progress .number) (Nat·lt-wfRel .wf)
 
   abbrev Turned : Place → Out → SProp 𝓤
-  Turned s = afterTurn 𝓤 H (Below 𝓤 H A Nearer At s) (afterBlock 𝓤 H (afterSeq 𝓤 H (Wp 𝓤 H C Λ (En w L) mir-of.t-14 (atReturn 𝓤 H (En w L) (Post w P))) (atReturn 𝓤 H (En w L) (Post w P))))
+  Turned s = afterTurn 𝓤 H (Below 𝓤 H A Nearer At s) (afterBlock 𝓤 H (afterSeq 𝓤 H (Wp 𝓤 H C Λ (En w L) mir-of.t-15 (atReturn 𝓤 H (En w L) (Post w P))) (atReturn 𝓤 H (En w L) (Post w P))))
 
   module _ (s : Place) where
     abbrev a : Here P counts
@@ -99,28 +99,22 @@ module _ (w : Setting) (P : Parameters) (known : Known w) (L : ℕ → ℕ) (cou
     b = listsOf P counts a
 
     -- the tally is copied out, `closed` answers, and the function returns
-    closing : counts .grants ≤ a .progress .number → Sq W (At s) (Runs w P known L mir-of.t-14)
+    closing : counts .grants ≤ a .progress .number → Sq W (At s) (Runs w P known L mir-of.t-15)
     closing over =
         move ! (8 ∷ []) $ fsplit3 ! $ drop ! $ move ! (0 ∷ 1 ∷ 10 ∷ []) $
         opens-value ! tt tally-struct (a .tally) (P .tally .block) (P .tally .offset) (λ was.
         -- [the tally's cell; what it owns; the open borrow; obs; auth; the file and the slices; the locals]
-        assigns ! (of-opd ! (load ! (from ! (hop ! (look ! 53 refl) (stop !))) (look-raw ! 0 refl))) (from ! (stop !)) (init ! 33 refl (typed W tally-struct (a .tally) was)) $
+        assigns ! (of-opd ! (load ! (from ! (hop ! (look ! 53 refl) (stop !))) (look-raw ! 0 refl))) (from ! (stop !)) (init ! 31 refl (typed W tally-struct (a .tally) was)) $
         closes ! tt (row tally-struct) (a .tally) (value tally-struct (a .tally) ∷ []) (P .tally .block) (P .tally .offset) $
         makes ! tally-struct (a .tally) _ was $ makes ! progress-struct (a .progress) _ (s .1) $ makes ! checked-struct counts _ is-counts $
         use3 W (raw (Closed w .pre (to-closed w P counts (a .progress) (a .tally)))) (goes-closed w P counts (a .progress) (a .tally)) $
-        calls-at ! fm (Closed w) (known .closed) (to-closed w P counts (a .progress) (a .tally)) (and-then ! (load ! (from ! (stop !)) (look ! 48 refl)) (and-then ! (load ! (from ! (stop !)) (look ! 46 refl)) (and-then ! (load ! (from ! (stop !)) (look ! 32 refl)) (no-more !)))) (λ v.
+        calls-at ! fm (Closed w) (known .closed) (to-closed w P counts (a .progress) (a .tally)) (and-then ! (load ! (from ! (stop !)) (look ! 48 refl)) (and-then ! (load ! (from ! (stop !)) (look ! 46 refl)) (and-then ! (load ! (from ! (stop !)) (look ! 30 refl)) (no-more !)))) (λ v.
         use1 W (later (some (λ (r : Played). given (r ≡ closedOf counts (a .progress) (a .tally)) (‵ (row played-struct .own r (v ∷ [])))))) (told-closed w P counts (a .progress) (a .tally) v) $ await ! tt $ pick ! (λ r. learn ! (λ e.
         -- [what the answer owns; obs; the borrow; the token; the file and the slices; the locals]
         sees ! played-struct r (v ∷ []) (λ is. land ! (from ! (stop !)) (init ! 62 refl (typed W played-struct r is)) $
         returns ! (look ! 62 refl) $
-        forget ! 62 refl $ forget ! 60 refl $ forget ! 58 refl $ forget ! 56 refl $ forget ! 54 refl $ forget ! 52 refl $ forget ! 48 refl $ forget ! 46 refl $ forget ! 32 refl $
-        move ! (62 ∷ 63 ∷ []) $ free1 ! $ move ! (60 ∷ 61 ∷ []) $ free1 ! $ move ! (58 ∷ 59 ∷ []) $ free1 ! $ move ! (56 ∷ 57 ∷ []) $ free1 ! $ move ! (54 ∷ 55 ∷ []) $ free1 ! $
-        move ! (52 ∷ 53 ∷ []) $ free1 ! $ move ! (50 ∷ 51 ∷ []) $ free1 ! $ move ! (48 ∷ 49 ∷ []) $ free1 ! $ move ! (46 ∷ 47 ∷ []) $ free1 ! $ move ! (44 ∷ 45 ∷ []) $ free1 ! $
-        move ! (42 ∷ 43 ∷ []) $ free1 ! $ move ! (40 ∷ 41 ∷ []) $ free1 ! $ move ! (38 ∷ 39 ∷ []) $ free1 ! $ move ! (36 ∷ 37 ∷ []) $ free1 ! $ move ! (34 ∷ 35 ∷ []) $ free1 ! $
-        move ! (32 ∷ 33 ∷ []) $ free1 ! $ move ! (30 ∷ 31 ∷ []) $ free1 ! $ move ! (28 ∷ 29 ∷ []) $ free1 ! $ move ! (26 ∷ 27 ∷ []) $ free1 ! $ move ! (24 ∷ 25 ∷ []) $ free1 ! $
-        move ! (22 ∷ 23 ∷ []) $ free1 ! $ move ! (20 ∷ 21 ∷ []) $ free1 ! $ move ! (18 ∷ 19 ∷ []) $ free1 ! $ move ! (16 ∷ 17 ∷ []) $ free1 ! $ move ! (14 ∷ 15 ∷ []) $ free1 ! $
-        move ! (12 ∷ 13 ∷ []) $ free1 ! $ free0 ! $
-        by ! (exits w P counts a r v (along-end (entry P) counts a over r e)))))))
+        forget ! 62 refl $ forget ! 60 refl $ forget ! 58 refl $ forget ! 56 refl $ forget ! 54 refl $ forget ! 52 refl $ forget ! 48 refl $ forget ! 46 refl $ forget ! 30 refl $
+        ends w P b (a .tally) (long P counts a) r v (along-end (entry P) counts a over r e) L)))))
 
     abbrev TallyKept : ℕ → GName → Fml
     TallyKept ν δ = LentRef (row tally-struct) (P .tally .lifetime) (ν ∷ []) (P .tally .share) (P .tally .name) (P .tally .block) (P .tally .offset) δ (a .tally)
@@ -188,11 +182,11 @@ module _ (w : Setting) (P : Parameters) (known : Known w) (L : ℕ → ℕ) (cou
     leaving test =
         assigns ! (bin ! (load ! (from ! (fld ! refl (stop !))) (look-in ! 44 (sub ! 3 refl (whole !)))) (load ! (from ! (fld ! refl (stop !))) (look-in ! 46 (sub ! 4 refl (whole !)))) tt) (from ! (stop !)) (init ! 26 refl (tt, tt)) $
         rewrite ! 26 (λ (c : Bool). ‵ (fat fullShare (τ 17) (L 17) 0 (vbool c))) test refl $ leaves-loop ! (load ! (from ! (stop !)) (look ! 26 refl)) $
-        forget ! 26 refl $ exec ! C Λ (En w L) mir-of.t-14 (atRet (En w L) (Post w P)) $ closing (ltb-false (a .progress .number) (counts .grants) test)
+        forget ! 26 refl $ exec ! C Λ (En w L) mir-of.t-15 (atRet (En w L) (Post w P)) $ closing (ltb-false (a .progress .number) (counts .grants) test)
 
     turn-by : (c : Bool) → ltb (a .progress .number) (counts .grants) ≡ c → Sq W (At s) (runs C Λ (En w L) mir-of.turn-1 (anyQ (Turned s)))
     turn-by true test = turning (ltb-true (a .progress .number) (counts .grants) test) test
     turn-by false test = leaving test
 
-  pub looped : (s : Place) → Sq W (At s) (Runs w P known L mir-of.t-13)
+  pub looped : (s : Place) → Sq W (At s) (Runs w P known L mir-of.t-14)
   looped s = first ! $ blocks ! $ loops ! (known .tables) Nearer Nearer-wf At (λ u. turn-by u (ltb (u .0 .progress .number) (counts .grants)) refl) s

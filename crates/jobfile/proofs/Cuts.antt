@@ -1,0 +1,96 @@
+-- The first grants of a schedule make no more runs than all of them, and every number of a written file is a byte.
+--
+--   Each t   every number of t is a byte
+--
+-- Main laws: runs-cut and written-bytes.
+use mathlib.Core.Path.{subst}
+use mathlib.Core.Bool.{Bool, true, false, cond}
+use mathlib.Core.List.{List, [], _∷_, _++_}
+use Prim.Native.Nat.{ℕ, zero, suc, _≤_, _<_}
+use native.Mathlib.Omega.{arith}
+use lib.ListN.{length, getD, take, drop, take-append-drop}
+use Rattle.job.specs.declared.Kind.{Kind}
+use Rattle.job.specs.declared.Kind.the-variants.{Union, SameSet}
+use Rattle.job.specs.declared.Request.{Request}
+use Rattle.job.specs.Job.{Job, kindNumber}
+use Rattle.jobfile.specs.declared.Run.{Run}
+use Rattle.jobfile.specs.Format.{mostNodes, mostHeads, closeMark, wordBytes, extends}
+use Rattle.jobfile.specs.Written.{requestsBytes, runsBytes, nextRun, runsFrom, longestRuns, fileWith, balance, written}
+use Rattle.jobfile.specs.Admitted.{Serves, Admitted, Bytes}
+use Rattle.jobfile.proofs.Runs.{Follows, longest-follow}
+
+-- ---- the runs of the first grants
+
+-- what a grant does to the runs does not depend on what they are
+one-more : (b : Bool) (r : Run) (rs rs′ : List Run) → length rs ≤ length rs′ → length (cond b rs (r ∷ rs)) ≤ length (cond b rs′ (r ∷ rs′))
+one-more true r rs rs′ l = l
+one-more false r rs rs′ l = omega arith
+
+none-lost : (b : Bool) (r : Run) (rs : List Run) → length rs ≤ length (cond b rs (r ∷ rs))
+none-lost true r rs = omega arith
+none-lost false r rs = omega arith
+
+runs-some : (r : Run) (gs : List ℕ) → 0 < length (runsFrom r gs)
+runs-some r [] = omega arith
+runs-some r (g ∷ gs) =
+    omega (arith, runs-some (nextRun r g) gs, none-lost (extends r g) r (runsFrom (nextRun r g) gs))
+
+runs-prefix : (r : Run) (gs hs : List ℕ) → length (runsFrom r gs) ≤ length (runsFrom r (gs ++ hs))
+runs-prefix r [] hs = omega (arith, runs-some r hs)
+runs-prefix r (g ∷ gs) hs =
+    one-more (extends r g) r (runsFrom (nextRun r g) gs) (runsFrom (nextRun r g) (gs ++ hs)) (runs-prefix (nextRun r g) gs hs)
+
+longest-prefix : (gs hs : List ℕ) → length (longestRuns gs) ≤ length (longestRuns (gs ++ hs))
+longest-prefix [] hs = omega arith
+longest-prefix (g ∷ gs) hs = runs-prefix (record { head = g; count = 1 }) gs hs
+
+pub runs-cut : (k : ℕ) (gs : List ℕ) → length (longestRuns (take k gs)) ≤ length (longestRuns gs)
+runs-cut k gs =
+    subst (λ all. length (longestRuns (take k gs)) ≤ length (longestRuns all)) (take-append-drop k gs)
+    (longest-prefix (take k gs) (drop k gs))
+
+-- ---- bytes
+
+abbrev Each : List ℕ → Type 0
+Each [] = Unit {0}
+Each (b ∷ t) = (b < 256) × Each t
+
+each-bytes : (t : List ℕ) → Each t → Bytes t
+each-bytes [] e i = omega arith
+each-bytes (b ∷ t) e zero = e .0
+each-bytes (b ∷ t) e (suc i) = each-bytes t (e .1) i
+
+kind-byte : (k : Kind) → kindNumber k < 256
+kind-byte Union = omega arith
+kind-byte SameSet = omega arith
+
+-- a request's numbers are bytes: there are at most 4,096 nodes and 16 heads
+requests-each : (nodes heads : ℕ) (qs : List Request) (t : List ℕ) → nodes ≤ mostNodes → heads ≤ mostHeads
+    → ((q : ℕ) (none : Request) → q < length qs → Serves nodes heads (getD qs q none)) → Each t → Each (requestsBytes qs ++ t)
+requests-each nodes heads [] t few-nodes few-heads serves rest = rest
+requests-each nodes heads (q ∷ qs) t few-nodes few-heads serves rest =
+    let s = serves 0 q (omega arith) in
+    let more = requests-each nodes heads qs t few-nodes few-heads (λ i none l. serves (suc i) none (omega arith)) rest in
+    let x : Each (wordBytes (q .x)) = (omega arith, (omega (arith, s .x), tt)) in
+    let y : Each (wordBytes (q .y)) = (omega arith, (omega (arith, s .y), tt)) in
+    (omega arith, (omega arith, (omega (arith, s .head), (kind-byte (q .kind), (x .0, (x .1 .0, (y .0, (y .1 .0, more))))))))
+
+runs-each : (heads : ℕ) (before : Run) (rs : List Run) (t : List ℕ) → heads ≤ mostHeads → Follows heads before rs → Each t
+    → Each (runsBytes rs ++ t)
+runs-each heads before [] t few follow rest = rest
+runs-each heads before (r ∷ rs) t few follow rest =
+    let more = runs-each heads r rs t few (follow .1) rest in
+    (omega arith, (omega arith, (omega (arith, follow .0 .head), (omega (arith, follow .0 .few), more))))
+
+pub written-bytes : (j : Job) → Admitted j → Bytes (written j)
+unfolding written fileWith
+written-bytes j a =
+    let follow = longest-follow (j .heads) 0 (j .schedule) (a .each-grant) in
+    let nodes : Each (wordBytes (j .nodes)) = (omega arith, (omega (arith, a .few-nodes), tt)) in
+    let heads : Each (wordBytes (j .heads)) = (omega arith, (omega (arith, a .few-heads), tt)) in
+    let close : List ℕ = wordBytes closeMark ++ wordBytes (balance j) in
+    let last : Each close = (omega arith, (omega arith, (omega arith, (omega arith, tt)))) in
+    let runs = runs-each (j .heads) _ (longestRuns (j .schedule)) close (a .few-heads) follow last in
+    let body = requests-each (j .nodes) (j .heads) (j .requests) (runsBytes (longestRuns (j .schedule)) ++ close)
+    (a .few-nodes) (a .few-heads) (a .each-request) runs in
+    each-bytes (written j) (omega arith, (omega arith, (nodes .0, (nodes .1 .0, (heads .0, (heads .1 .0, body))))))
