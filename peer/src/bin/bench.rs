@@ -22,7 +22,7 @@ struct Times {
 }
 
 impl Times {
-    /// The least of all rounds, core and peer in turn.
+    /// Core and peer.
     fn of(call: impl FnMut(&Player)) -> Times {
         Times::between(&CORE, &PEER, call)
     }
@@ -30,15 +30,15 @@ impl Times {
     /// The least of all rounds, the two players in turn.
     fn between(first: &Player, second: &Player, mut call: impl FnMut(&Player)) -> Times {
         let calls = calls_to_a_round(|| call(second));
-        let mut round = |player: &Player| {
+        let mut round = |player: &Player, depth: usize| {
             let start = Instant::now();
-            (0..calls).for_each(|_| call(player));
+            at_depth(depth, &mut || (0..calls).for_each(|_| call(player)));
             start.elapsed().as_nanos() as f64 / f64::from(calls)
         };
         let mut least = Times { first: f64::INFINITY, second: f64::INFINITY };
-        for _ in 0..ROUNDS {
-            least.first = least.first.min(round(first));
-            least.second = least.second.min(round(second));
+        for n in 0..ROUNDS {
+            least.first = least.first.min(round(first, n));
+            least.second = least.second.min(round(second, n));
         }
         least
     }
@@ -52,6 +52,24 @@ impl Times {
         let Times { first, second } = self;
         format!("{:>9.2} {:>9.2} {:>6.2}", first / parts, second / parts, first / second)
     }
+}
+
+/// Calls at one of four depths of the stack, 16 bytes apart: which of the core's heads lie across two
+/// lines of the cache depends on it.
+fn at_depth(depth: usize, call: &mut dyn FnMut()) {
+    match depth % 4 {
+        0 => below::<16>(call),
+        1 => below::<32>(call),
+        2 => below::<48>(call),
+        _ => below::<64>(call),
+    }
+}
+
+#[inline(never)]
+fn below<const BYTES: usize>(call: &mut dyn FnMut()) {
+    let room = black_box([0_u8; BYTES]);
+    call();
+    black_box(room);
 }
 
 fn calls_to_a_round(mut call: impl FnMut()) -> u32 {
