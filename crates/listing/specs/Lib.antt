@@ -1,5 +1,3 @@
--- The listing of a played job: its text, and what writing it leaves in a lent buffer.
-pub mod Text
+-- The listing of a played job: its text, and refusal 14 where a buffer is too short for it.
 pub mod Listing
-pub mod Writing
 pub mod Cases

@@ -5,7 +5,7 @@ use borrow.Author.Tests.{lt-ltb, le-ltb}
 use denote.Ref.{now}
 use Rattle.listing.specs.Listing.{listed, printed}
 use Rattle.listing.proofs.Listing.{enough}
-use Rattle.listing.proofs.Writing.{wrote-whole}
+use Rattle.text.proofs.Writing.{wrote-whole}
 use borrow.Author.Needs.{needs}
 use Rattle.listing.proofs.list.Statement.{statement}
 use Rattle.listing.proofs.list.Tie as tie

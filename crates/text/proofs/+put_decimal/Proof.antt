@@ -1,18 +1,18 @@
--- `lines::put_decimal`: the digits of the tenth, then the last digit; the number falls.
+-- `text::put_decimal`: the digits of the tenth, then the last digit; the number falls.
 use native.Mathlib.Omega.{arith}
-use Rattle.listing.proofs.Text.{decimal-digit, decimal-more, decimal-more-length}
-use Rattle.listing.proofs.Writing.{wrote-append, wrote-length}
-use mathlib.Core.Path.{ap, _∙_}
-use lib.ListN.{length}
+use Rattle.text.proofs.Text.{decimal-digit, decimal-more}
+use Rattle.text.proofs.Writing.{wrote-append, wrote-length}
+use mathlib.Core.Path.{_∙_}
 use Prim.Native.Nat.{ℕ, _<_}
+use borrow.Author.Needs.{needs}
 use borrow.Fn.Kinds.{In}
 use borrow.Fn.PlainCycle.{Measures, is, falls, and}
-use Rattle.listing.proofs.lines.put_decimal.Reads as put-decimal
-use Rattle.listing.proofs.lines.put_decimal.Kinds as put-decimal-kinds
-use Rattle.listing.proofs.lines.+put_decimal.Lts-put_decimal as put-decimal-lts
-use Rattle.listing.proofs.lines.put_byte.Reads as put-byte-reads
-use Rattle.listing.proofs.lines.+put_decimal.{statement}
-use Rattle.listing.proofs.lines.+put_decimal.Tie.{close}
+use Rattle.text.proofs.put_decimal.Reads as put-decimal
+use Rattle.text.proofs.put_decimal.Kinds as put-decimal-kinds
+use Rattle.text.proofs.+put_decimal.Lts-put_decimal as put-decimal-lts
+use Rattle.text.proofs.put_byte.Reads as put-byte-reads
+use Rattle.text.proofs.+put_decimal.{statement}
+use Rattle.text.proofs.+put_decimal.Tie.{close}
 
 abbrev μ-put-decimal : Measures 1 put-decimal-kinds.ps ℕ
 μ-put-decimal κs a = a .1 .1 .0
@@ -47,7 +47,7 @@ put-decimal-put-byte-requires : (t : ℕ) → put-decimal-lts.Need-put-byte-requ
   put-decimal-below t,
   put-decimal.Post,
 ) (put-decimal-at t) put-decimal.Post
-put-decimal-put-byte-requires t c κs = omega (arith, ap length (decimal-digit (c .before .before .before .args .n) (omega arith)))
+put-decimal-put-byte-requires t c κs = search needs
 
 put-decimal-same-length : (t : ℕ) → put-decimal-lts.Need-same-length (
   put-byte-reads.Asked,
@@ -72,7 +72,7 @@ put-decimal-put-decimal-requires : (t : ℕ) → put-decimal-lts.Need-put-decima
   put-decimal-below t,
   put-decimal.Post,
 ) (put-decimal-at t) put-decimal.Post
-put-decimal-put-decimal-requires t c κs = omega (arith, decimal-more-length (c .before .before .before .args .n) (omega arith))
+put-decimal-put-decimal-requires t c κs = omega arith
 
 put-decimal-add-put-byte-2 : (t : ℕ) → put-decimal-lts.Need-add-put-byte-2 (
   put-byte-reads.Asked,
@@ -96,8 +96,7 @@ put-decimal-put-byte-requires-2 : (t : ℕ) → put-decimal-lts.Need-put-byte-re
   put-decimal-below t,
   put-decimal.Post,
 ) (put-decimal-at t) put-decimal.Post
-put-decimal-put-byte-requires-2 t c κs =
-    omega (arith, c .before .before .before .put-decimal .ensures .counted, decimal-more-length (c .before .before .before .before .before .before .before .args .n) (omega arith))
+put-decimal-put-byte-requires-2 t c κs = search needs
 
 put-decimal-same-length-2 : (t : ℕ) → put-decimal-lts.Need-same-length-2 (
   put-byte-reads.Asked,
