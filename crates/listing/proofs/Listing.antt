@@ -31,7 +31,8 @@ module _ (played : Played) (table report linearization : List ℕ) where
       + length (each (row Requests report) (played .requests))
       + length (each (row Entries linearization) (played .entries))
   sections-length =
-      length-three (each (row Words table) (played .nodes)) (each (row Requests report) (played .requests)) (each (row Entries linearization) (played .entries))
+      length-three (each (row Words table) (played .nodes)) (each (row Requests report) (played .requests))
+      (each (row Entries linearization) (played .entries))
 
   accepted-length : length (accepted played table report linearization)
       ≡ length (jobLine played) + length (rows played table report linearization) + length (tallyLine (played .tally))
@@ -62,7 +63,7 @@ pub record Fitting (played : Played) (table report linearization : List ℕ) : T
 
 section-short : (s : Section) (buffer : List ℕ) → ((k : ℕ) → getD buffer k 0 < 2 ^ 32) → (count : ℕ) → count < 2 ^ 32
     → length (each (row s buffer) count) ≤ 64 * count
-section-short s buffer narrow count h = each-short (row s buffer) count (λ i l. row-short s buffer narrow i (omega arith))
+section-short s buffer narrow count h = each-short (row s buffer) 64 count (λ i l. row-short s buffer narrow i (omega arith))
 
 -- A text has a line for each node, request and entry, the job's and the tally's.
 accepted-lines : (played : Played) (table report linearization : List ℕ)

@@ -97,8 +97,8 @@ line-length name ns = length-three name (fields ns) (10 ∷ [])
 pub line-short : (name ns : List ℕ) → Narrow ns → length (line name ns) ≤ length name + 11 * length ns + 1
 line-short name ns h = omega (arith, line-length name ns, fields-short ns h)
 
-pub each-short : (f : ℕ → List ℕ) (n : ℕ) → ((i : ℕ) → i < n → length (f i) ≤ 64) → length (each f n) ≤ 64 * n
+pub each-short : (f : ℕ → List ℕ) (most n : ℕ) → ((i : ℕ) → i < n → length (f i) ≤ most) → length (each f n) ≤ most * n
 unfolding each
-each-short f zero h = omega arith
-each-short f (suc n) h =
-    omega (arith, length-append (each f n) (f n), h n (omega arith), each-short f n (λ i l. h i (omega arith)))
+each-short f most zero h = omega arith
+each-short f most (suc n) h =
+    omega (arith, length-append (each f n) (f n), h n (omega arith), each-short f most n (λ i l. h i (omega arith)))

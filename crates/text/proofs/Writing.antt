@@ -83,7 +83,10 @@ module _ {done : ℕ → List ℕ} {n i at : ℕ} {before after : List ℕ} {nex
       → Wrote piece next after later past
       → Through done n (i + 1) at before later past
   through-next {later = later} {past} l e w =
-      record { within = omega arith; wrote = subst (λ (bytes : List ℕ). Wrote bytes at before later past) (sym e) (wrote-append (t .wrote) w) }
+      record {
+        within = omega arith;
+        wrote = subst (λ (bytes : List ℕ). Wrote bytes at before later past) (sym e) (wrote-append (t .wrote) w);
+      }
 
   pub through-end : n ≤ i → Wrote (done n) at before after next
   through-end l = let z : i ≡ n = omega (arith, t .within) in subst (λ (k : ℕ). Wrote (done k) at before after next) z (t .wrote)

@@ -25,105 +25,57 @@ abbrev put-decimal-below : ℕ → In 1 put-decimal-kinds.ps
 put-decimal-below t =
     and 1 put-decimal-kinds.ps (falls 1 put-decimal-kinds.ps _<_ μ-put-decimal t) put-decimal.Pre
 
-put-decimal-add-put-byte : (t : ℕ) → put-decimal-lts.Need-add-put-byte (
-  put-byte-reads.Asked,
-  put-byte-reads.Learnt,
-  put-decimal-below t,
-  put-decimal.Post,
-) (put-decimal-at t) put-decimal.Post
+-- what is claimed of the functions that it calls: the contract of `put_byte`, and its own for a smaller number
+abbrev put-decimal-claims : ℕ → put-decimal-lts.Claims
+put-decimal-claims t = (put-byte-reads.Asked, put-byte-reads.Learnt, put-decimal-below t, put-decimal.Post)
+
+put-decimal-add-put-byte : (t : ℕ) → put-decimal-lts.Need-add-put-byte (put-decimal-claims t) (put-decimal-at t) put-decimal.Post
 put-decimal-add-put-byte t c = omega arith
 
-put-decimal-cast-put-byte : (t : ℕ) → put-decimal-lts.Need-cast-put-byte (
-  put-byte-reads.Asked,
-  put-byte-reads.Learnt,
-  put-decimal-below t,
-  put-decimal.Post,
-) (put-decimal-at t) put-decimal.Post
+put-decimal-cast-put-byte : (t : ℕ) → put-decimal-lts.Need-cast-put-byte (put-decimal-claims t) (put-decimal-at t) put-decimal.Post
 put-decimal-cast-put-byte t c = omega arith
 
-put-decimal-put-byte-requires : (t : ℕ) → put-decimal-lts.Need-put-byte-requires (
-  put-byte-reads.Asked,
-  put-byte-reads.Learnt,
-  put-decimal-below t,
-  put-decimal.Post,
-) (put-decimal-at t) put-decimal.Post
+put-decimal-put-byte-requires : (t : ℕ) → put-decimal-lts.Need-put-byte-requires (put-decimal-claims t) (put-decimal-at t) put-decimal.Post
 put-decimal-put-byte-requires t c κs = search needs
 
-put-decimal-same-length : (t : ℕ) → put-decimal-lts.Need-same-length (
-  put-byte-reads.Asked,
-  put-byte-reads.Learnt,
-  put-decimal-below t,
-  put-decimal.Post,
-) (put-decimal-at t) put-decimal.Post
+put-decimal-same-length : (t : ℕ) → put-decimal-lts.Need-same-length (put-decimal-claims t) (put-decimal-at t) put-decimal.Post
 put-decimal-same-length t c = wrote-length (c .before .before .put-byte .ensures)
 
-put-decimal-returns : (t : ℕ) → put-decimal-lts.Need-returns (
-  put-byte-reads.Asked,
-  put-byte-reads.Learnt,
-  put-decimal-below t,
-  put-decimal.Post,
-) (put-decimal-at t) put-decimal.Post
+put-decimal-returns : (t : ℕ) → put-decimal-lts.Need-returns (put-decimal-claims t) (put-decimal-at t) put-decimal.Post
 put-decimal-returns t c =
-    rw (decimal-digit (c .before .before .before .before .before .before .args .n) (omega arith)) (c .before .before .put-byte .ensures)
+    let after-digit = c .before .before in
+    let start = after-digit .before .before .before .before in
+    rw (decimal-digit (start .args .n) (omega arith)) (after-digit .put-byte .ensures)
 
-put-decimal-put-decimal-requires : (t : ℕ) → put-decimal-lts.Need-put-decimal-requires (
-  put-byte-reads.Asked,
-  put-byte-reads.Learnt,
-  put-decimal-below t,
-  put-decimal.Post,
-) (put-decimal-at t) put-decimal.Post
+put-decimal-put-decimal-requires : (t : ℕ)
+    → put-decimal-lts.Need-put-decimal-requires (put-decimal-claims t) (put-decimal-at t) put-decimal.Post
 put-decimal-put-decimal-requires t c κs = omega arith
 
-put-decimal-add-put-byte-2 : (t : ℕ) → put-decimal-lts.Need-add-put-byte-2 (
-  put-byte-reads.Asked,
-  put-byte-reads.Learnt,
-  put-decimal-below t,
-  put-decimal.Post,
-) (put-decimal-at t) put-decimal.Post
+put-decimal-add-put-byte-2 : (t : ℕ) → put-decimal-lts.Need-add-put-byte-2 (put-decimal-claims t) (put-decimal-at t) put-decimal.Post
 put-decimal-add-put-byte-2 t c = omega arith
 
-put-decimal-cast-put-byte-2 : (t : ℕ) → put-decimal-lts.Need-cast-put-byte-2 (
-  put-byte-reads.Asked,
-  put-byte-reads.Learnt,
-  put-decimal-below t,
-  put-decimal.Post,
-) (put-decimal-at t) put-decimal.Post
+put-decimal-cast-put-byte-2 : (t : ℕ) → put-decimal-lts.Need-cast-put-byte-2 (put-decimal-claims t) (put-decimal-at t) put-decimal.Post
 put-decimal-cast-put-byte-2 t c = omega arith
 
-put-decimal-put-byte-requires-2 : (t : ℕ) → put-decimal-lts.Need-put-byte-requires-2 (
-  put-byte-reads.Asked,
-  put-byte-reads.Learnt,
-  put-decimal-below t,
-  put-decimal.Post,
-) (put-decimal-at t) put-decimal.Post
+put-decimal-put-byte-requires-2 : (t : ℕ)
+    → put-decimal-lts.Need-put-byte-requires-2 (put-decimal-claims t) (put-decimal-at t) put-decimal.Post
 put-decimal-put-byte-requires-2 t c κs = search needs
 
-put-decimal-same-length-2 : (t : ℕ) → put-decimal-lts.Need-same-length-2 (
-  put-byte-reads.Asked,
-  put-byte-reads.Learnt,
-  put-decimal-below t,
-  put-decimal.Post,
-) (put-decimal-at t) put-decimal.Post
+put-decimal-same-length-2 : (t : ℕ) → put-decimal-lts.Need-same-length-2 (put-decimal-claims t) (put-decimal-at t) put-decimal.Post
 put-decimal-same-length-2 t c =
-    wrote-length (c .before .before .put-byte2 .ensures) ∙ wrote-length (c .before .before .before .before .before .before .put-decimal .ensures)
+    let after-digit = c .before .before in
+    let after-tenth = after-digit .before .before .before .before in
+    wrote-length (after-digit .put-byte2 .ensures) ∙ wrote-length (after-tenth .put-decimal .ensures)
 
-put-decimal-returns-2 : (t : ℕ) → put-decimal-lts.Need-returns-2 (
-  put-byte-reads.Asked,
-  put-byte-reads.Learnt,
-  put-decimal-below t,
-  put-decimal.Post,
-) (put-decimal-at t) put-decimal.Post
+put-decimal-returns-2 : (t : ℕ) → put-decimal-lts.Need-returns-2 (put-decimal-claims t) (put-decimal-at t) put-decimal.Post
 put-decimal-returns-2 t c =
-    rw (decimal-more (c .before .before .before .before .before .before .before .before .before .before .args .n) (omega arith))
-    (wrote-append (c .before .before .before .before .before .before .put-decimal .ensures) (c .before .before .put-byte2 .ensures))
+    let after-digit = c .before .before in
+    let after-tenth = after-digit .before .before .before .before in
+    let start = after-tenth .before .before .before .before in
+    rw (decimal-more (start .args .n) (omega arith)) (wrote-append (after-tenth .put-decimal .ensures) (after-digit .put-byte2 .ensures))
 
 pub +put-decimal-spec : {M : Type 1} → statement M
-+put-decimal-spec = close μ-put-decimal λ t. put-decimal-lts.spec (
-  put-byte-reads.Asked,
-  put-byte-reads.Learnt,
-  put-decimal-below t,
-  put-decimal.Post,
-)
++put-decimal-spec = close μ-put-decimal λ t. put-decimal-lts.spec (put-decimal-claims t)
     (put-decimal-at t)
     put-decimal.Post
     (put-decimal-add-put-byte t)

@@ -37,9 +37,10 @@ loop-less c = search needs
 
 loop-again : tie.Need-loop-again Inv-loop μ-loop
 loop-again c =
-    let l = c .before .before .before .before .before .before .loop in
-    let bytes = now (c .before .before .before .before .before .before .before .before .before .args .bytes) in
-    through-next (l .inv) (omega arith) (take-next bytes (l .i) (omega arith)) (c .before .before .put-byte .ensures)
+    let after-byte = c .before .before in
+    let looped = after-byte .before .before .before .before in
+    let bytes = now (looped .before .before .before .args .bytes) in
+    through-next (looped .loop .inv) (omega arith) (take-next bytes (looped .loop .i) (omega arith)) (after-byte .put-byte .ensures)
 
 same-length : tie.Need-same-length Inv-loop μ-loop
 same-length c = wrote-length (c .before .loop .inv .wrote)

@@ -45,10 +45,12 @@ loop-less c = search needs
 
 loop-again : tie.Need-loop-again Inv-loop μ-loop
 loop-again c =
-    let l = c .before .before .before .before .before .before .before .before .before .before .loop in
-    let numbers = now (c .before .before .before .before .before .before .before .before .before .before .before .before .before .args .numbers) in
-    through-next (l .inv) (omega arith) (fields-next numbers (l .i) (omega arith))
-    (wrote-append (c .before .before .before .before .before .before .before .put-byte .ensures) (c .before .before .put-decimal .ensures))
+    let after-digits = c .before .before in
+    let after-space = after-digits .before .before .before .before .before in
+    let looped = after-space .before .before .before in
+    let numbers = now (looped .before .before .before .args .numbers) in
+    through-next (looped .loop .inv) (omega arith) (fields-next numbers (looped .loop .i) (omega arith))
+    (wrote-append (after-space .put-byte .ensures) (after-digits .put-decimal .ensures))
 
 same-length : tie.Need-same-length Inv-loop μ-loop
 same-length c = wrote-length (c .before .loop .inv .wrote)

@@ -20,8 +20,10 @@ same-length c = search needs
 returns : tie.Need-returns
 unfolding line
 returns c =
-    wrote-append (c .before .before .before .before .before .before .before .before .before .before .put-bytes .ensures)
-    (wrote-append (c .before .before .before .before .before .before .put-fields .ensures) (c .before .before .put-byte .ensures))
+    let after-feed = c .before .before in
+    let after-numbers = after-feed .before .before .before .before in
+    let after-name = after-numbers .before .before .before .before in
+    wrote-append (after-name .put-bytes .ensures) (wrote-append (after-numbers .put-fields .ensures) (after-feed .put-byte .ensures))
 
 pub put-line-spec : {M : Type 1} → statement M
 put-line-spec =
