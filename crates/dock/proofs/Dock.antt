@@ -3,8 +3,8 @@
 --   PrintableLeft left   `Printable`, of what a play left
 use mathlib.Core.Path.{_≡_, sym, ap, _∙_, subst}
 use mathlib.Core.Bool.{false}
-use mathlib.Core.List.{List, [], _∷_, map}
-use Prim.Native.Nat.{ℕ, _+_, _*_, _^_, _≤_, _<_}
+use mathlib.Core.List.{List, map}
+use Prim.Native.Nat.{ℕ, _*_, _≤_}
 use native.Mathlib.Omega.{arith}
 use lib.Dec.{eqb}
 use lib.ListN.{length, take, drop, replicate, length-append, length-map}
@@ -27,9 +27,8 @@ use Rattle.turns.specs.Turns.{runOf}
 use Rattle.player.specs.Player.{Left, cutOf, lentRefusal, playRefusal, playedOf}
 use Rattle.player.proofs.Demand.{run-ended}
 use Rattle.listing.specs.declared.Listed.{Listed}
-use Rattle.listing.specs.Listing.{refusedName, listing, sourcesShort, listed, printed}
-use Rattle.listing.proofs.Text.{line-short}
-use Rattle.listing.proofs.Listing.{Fitting, accepted-lines}
+use Rattle.listing.specs.Listing.{listing, sourcesShort, listed, printed}
+use Rattle.listing.proofs.Listing.{Fitting, listing-lines}
 use Rattle.dock.specs.Dock.{textOf, output, longest, Put, Printable}
 
 -- ---- what a play leaves
@@ -69,38 +68,29 @@ printable file table report linearization bytes =
 
 -- ---- its text
 
-module _ (played : Played) (table report linearization : List ℕ) where
-  listing-lines : played .number < 2 ^ 32 → Fitting played table report linearization
-      → length (listing played table report linearization) ≤ 64 * (played .nodes + played .requests + played .entries + 2)
-  unfolding listing
-  listing-lines h fitting =
-      split (eqb (played .number) 0)
-      (λ accepted. rw accepted (accepted-lines played table report linearization fitting))
-      (λ refused. rw refused (omega (arith, line-short refusedName (played .number ∷ []) (h, tt))))
+module _ (played : Played) (table report linearization out : List ℕ) (printable : Printable played table report linearization)
+    (room : longest ≤ length out) (fitting : Fitting played table report linearization) where
+  abbrev text : List ℕ
+  text = listing played table report linearization
 
-  module _ (out : List ℕ) (printable : Printable played table report linearization) (room : longest ≤ length out)
-      (narrow : played .number < 2 ^ 32) (fitting : Fitting played table report linearization) where
-    abbrev text : List ℕ
-    text = listing played table report linearization
+  text-fits : length text ≤ length out
+  text-fits = omega (arith, listing-lines played table report linearization fitting, printable .lines, room)
 
-    text-fits : length text ≤ length out
-    text-fits = omega (arith, listing-lines narrow fitting, printable .lines, room)
+  long-enough : sourcesShort played table report linearization ≡ false
+  long-enough =
+      let enough = printable .enough in
+      simp (le-ltb _ _ (enough .words), le-ltb _ _ (enough .requests), le-ltb _ _ (enough .entries))
 
-    long-enough : sourcesShort played table report linearization ≡ false
-    long-enough =
-        let enough = printable .enough in
-        simp (le-ltb _ _ (enough .words), le-ltb _ _ (enough .requests), le-ltb _ _ (enough .entries))
-
-    pub put-whole : (answer : Listed) (after : List ℕ)
-        → answer ≡ listed played table report linearization out
-        → after ≡ printed played table report linearization out
-        → Put text out after (answer .bytes)
-    unfolding listed printed
-    put-whole answer after told left =
-        record {
-          counted = ap (λ a. a .bytes) told ∙ rw (long-enough, le-ltb _ _ text-fits);
-          stored = left ∙ rw (long-enough, le-ltb _ _ text-fits);
-        }
+  pub put-whole : (answer : Listed) (after : List ℕ)
+      → answer ≡ listed played table report linearization out
+      → after ≡ printed played table report linearization out
+      → Put text out after (answer .bytes)
+  unfolding listed printed
+  put-whole answer after told left =
+      record {
+        counted = ap (λ a. a .bytes) told ∙ rw (long-enough, le-ltb _ _ text-fits);
+        stored = left ∙ rw (long-enough, le-ltb _ _ text-fits);
+      }
 
 -- the text of the play is what the program prints
 pub put-output : (file : List ℕ) (left : Left) → left ≡ playedOf file (replicate 4096 0) (replicate 2048 0) (replicate 1024 0)

@@ -13,8 +13,7 @@ use Prim.Native.Nat.{ℕ, _+_, _*_, _≤_}
 use lib.ListN.{length, take, drop, replicate}
 use Rattle.job.specs.declared.Played.{Played}
 use Rattle.player.specs.Player.{Left, playedOf}
-use Rattle.listing.specs.Listing.{listing}
-use Rattle.listing.specs.Writing.{Enough}
+use Rattle.listing.specs.Listing.{listing, Enough}
 
 -- A job's listing, or a refusal's line.
 abbrev pub textOf : Left → List ℕ

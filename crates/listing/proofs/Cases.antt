@@ -4,7 +4,7 @@
 use mathlib.Core.Path.{_≡_, refl}
 use mathlib.Core.List.{map}
 use Rattle.word.specs.Word.{rankOf, parentOf}
-use Rattle.listing.specs.Text.{digitsWithin, decimal, fields, line, each}
+use Rattle.text.specs.Text.{digitsWithin, decimal, fields, line, each}
 use Rattle.listing.specs.Listing.{listing, listed, printed}
 use Rattle.listing.specs.Cases.{cases, outcome, wanted}
 

@@ -1,5 +1,3 @@
--- The laws of texts and of writing them.
-pub mod Text
-pub mod Writing
+-- The laws of the listing, and its cases.
 pub mod Listing
 pub mod Cases

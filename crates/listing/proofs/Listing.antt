@@ -6,17 +6,18 @@ use mathlib.Core.Bool.{Bool, true, false, cond}
 use mathlib.Core.List.{List, [], _∷_}
 use Prim.Native.Nat.{ℕ, _+_, _*_, _^_, _≤_, _<_}
 use native.Mathlib.Omega.{arith}
-use lib.Dec.{ltb}
+use lib.Dec.{eqb, ltb}
 use lib.ListN.{length, getD}
 use borrow.Author.Tests.{ltb-false}
 use Rattle.job.specs.declared.Played.{Played}
 use Rattle.word.specs.Word.{rankOf, parentOf}
+use Rattle.text.specs.Text.{each}
+use Rattle.text.specs.Writing.{lastPosition}
+use Rattle.text.proofs.Text.{Narrow, line-short, each-short, length-three}
 use Rattle.listing.specs.declared.Section.{Section}
 use Rattle.listing.specs.declared.Section.the-variants.{Words, Requests, Entries}
-use Rattle.listing.specs.Text.{each}
-use Rattle.listing.specs.Listing.{wordName, requestName, lineName, jobName, tallyName, refusedName, row, rowSize, jobLine, tallyLine, refusedLine, rows, accepted, sourcesShort}
-use Rattle.listing.specs.Writing.{Enough}
-use Rattle.listing.proofs.Text.{Narrow, line-short, each-short, length-three}
+use Rattle.listing.specs.Listing.{wordName, requestName, lineName, jobName, tallyName, refusedName, row, rowSize}
+use Rattle.listing.specs.Listing.{jobLine, rows, tallyLine, refusedLine, accepted, listing, sourcesShort, Enough}
 
 -- What the lines show is counted in 64 bits without loss.
 pub row-size-fits : (s : Section) (count : ℕ) → count < 2 ^ 32 → rowSize s * count < 2 ^ 64
@@ -25,14 +26,15 @@ row-size-fits Requests count h = omega arith
 row-size-fits Entries count h = omega arith
 
 module _ (played : Played) (table report linearization : List ℕ) where
-  pub sections-length : length (rows played table report linearization)
+  sections-length : length (rows played table report linearization)
       ≡ length (each (row Words table) (played .nodes))
       + length (each (row Requests report) (played .requests))
       + length (each (row Entries linearization) (played .entries))
   sections-length =
-      length-three (each (row Words table) (played .nodes)) (each (row Requests report) (played .requests)) (each (row Entries linearization) (played .entries))
+      length-three (each (row Words table) (played .nodes)) (each (row Requests report) (played .requests))
+      (each (row Entries linearization) (played .entries))
 
-  pub accepted-length : length (accepted played table report linearization)
+  accepted-length : length (accepted played table report linearization)
       ≡ length (jobLine played) + length (rows played table report linearization) + length (tallyLine (played .tally))
   accepted-length = length-three (jobLine played) (rows played table report linearization) (tallyLine (played .tally))
 
@@ -50,10 +52,8 @@ row-short Entries linearization narrow i h =
     let numbers : List ℕ = getD linearization (2 * i) 0 ∷ getD linearization (2 * i + 1) 0 ∷ [] in
     omega (arith, line-short lineName numbers (narrow (2 * i), (narrow (2 * i + 1), tt)))
 
-pub refused-short : (number : ℕ) → number < 2 ^ 32 → length (refusedLine number) < 2 ^ 64
-refused-short number h = omega (arith, line-short refusedName (number ∷ []) (h, tt))
-
 pub record Fitting (played : Played) (table report linearization : List ℕ) : Type 0 where
+  pub number : played .number < 2 ^ 32
   pub job : Narrow (played .nodes ∷ played .heads ∷ played .requests ∷ played .grants ∷ [])
   pub entries : played .entries < 2 ^ 32
   pub tally : Narrow (played .tally .idle ∷ played .tally .failed ∷ played .tally .links ∷ played .tally .working ∷ [])
@@ -63,10 +63,10 @@ pub record Fitting (played : Played) (table report linearization : List ℕ) : T
 
 section-short : (s : Section) (buffer : List ℕ) → ((k : ℕ) → getD buffer k 0 < 2 ^ 32) → (count : ℕ) → count < 2 ^ 32
     → length (each (row s buffer) count) ≤ 64 * count
-section-short s buffer narrow count h = each-short (row s buffer) count (λ i l. row-short s buffer narrow i (omega arith))
+section-short s buffer narrow count h = each-short (row s buffer) 64 count (λ i l. row-short s buffer narrow i (omega arith))
 
 -- A text has a line for each node, request and entry, the job's and the tally's.
-pub accepted-lines : (played : Played) (table report linearization : List ℕ)
+accepted-lines : (played : Played) (table report linearization : List ℕ)
     → Fitting played table report linearization
     → length (accepted played table report linearization) ≤ 64 * (played .nodes + played .requests + played .entries + 2)
 accepted-lines played table report linearization f =
@@ -81,11 +81,24 @@ accepted-lines played table report linearization f =
       section-short Entries linearization (f .points) (played .entries) (f .entries),
     )
 
-pub accepted-short : (played : Played) (table report linearization : List ℕ)
+-- A refusal's text is one line.
+pub listing-lines : (played : Played) (table report linearization : List ℕ)
     → Fitting played table report linearization
-    → length (accepted played table report linearization) < 2 ^ 64
-accepted-short played table report linearization f =
-    omega (arith, accepted-lines played table report linearization f, f .job .0, f .job .1 .1 .0, f .entries)
+    → length (listing played table report linearization) ≤ 64 * (played .nodes + played .requests + played .entries + 2)
+unfolding listing
+listing-lines played table report linearization f = go (eqb (played .number) 0)
+  where
+    go : (is-accepted : Bool)
+        → length (cond is-accepted (accepted played table report linearization) (refusedLine (played .number)))
+        ≤ 64 * (played .nodes + played .requests + played .entries + 2)
+    go true = accepted-lines played table report linearization f
+    go false = omega (arith, line-short refusedName (played .number ∷ []) (f .number, tt))
+
+pub listing-counted : (played : Played) (table report linearization : List ℕ)
+    → Fitting played table report linearization
+    → length (listing played table report linearization) ≤ lastPosition
+listing-counted played table report linearization f =
+    omega (arith, listing-lines played table report linearization f, f .job .0, f .job .1 .1 .0, f .entries)
 
 -- No buffer is too short: each holds what the lines show
 pub enough : (played : Played) (table report linearization : List ℕ) {short : Bool}

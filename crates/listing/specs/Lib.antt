@@ -1,5 +1,3 @@
--- The listing of a played job: its text, what writing it leaves in a lent buffer, and a table of cases.
-pub mod Text
+-- The listing of a played job: its text, refusal 14 where a buffer is too short for it, and a table of cases.
 pub mod Listing
-pub mod Writing
 pub mod Cases

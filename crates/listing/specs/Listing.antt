@@ -12,18 +12,19 @@
 --   tooShort p t r l out     that, or `out` is shorter than the text
 --   listed p t r l out       the answer: 14, or the number of bytes
 --   printed p t r l out      the buffer `out` afterwards
+--   Enough p t r l           table t, report r and linearization l hold all that the text of p shows
 use mathlib.Core.Bool.{Bool, true, cond}
 use mathlib.Core.List.{List, [], _∷_, _++_}
-use Prim.Native.Nat.{ℕ, _+_, _*_}
+use Prim.Native.Nat.{ℕ, _+_, _*_, _≤_}
 use lib.Dec.{eqb, ltb}
 use lib.ListN.{length, getD, drop}
 use Rattle.job.specs.declared.Played.{Played}
 use Rattle.job.specs.declared.Tally.{Tally}
 use Rattle.word.specs.Word.{rankOf, parentOf}
+use Rattle.text.specs.Text.{line, each}
 use Rattle.listing.specs.declared.Section.{Section}
 use Rattle.listing.specs.declared.Section.the-variants.{Words, Requests, Entries}
 use Rattle.listing.specs.declared.Listed.{Listed}
-use Rattle.listing.specs.Text.{line, each}
 
 -- The names of the lines, in ASCII: job, word, request, line, tally, refused.
 abbrev pub jobName : List ℕ
@@ -102,3 +103,10 @@ module _ (played : Played) (table report linearization : List ℕ) where
   -- A refusal writes nothing; bytes beyond what is written stay.
   unfoldable pub printed : List ℕ → List ℕ
   printed out = cond (tooShort out) out (listing ++ drop (length listing) out)
+
+-- ---- for the inner functions
+
+pub record Enough (played : Played) (table report linearization : List ℕ) : Type 0 where
+  pub words : rowSize Words * played .nodes ≤ length table
+  pub requests : rowSize Requests * played .requests ≤ length report
+  pub entries : rowSize Entries * played .entries ≤ length linearization

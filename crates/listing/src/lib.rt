@@ -1,14 +1,13 @@
 // The listing: the text of a played job, as bytes in a lent buffer.
-mod lines;
 mod sections;
 
 use job::Played;
 use job::Tally;
 ghost use mathlib.Core.Path.{_≡_};
-ghost use Prim.Native.Nat.{_+_, _^_, _<_};
 ghost use lib.ListN.{length};
-ghost use Rattle.listing.specs.Writing.{Wrote, Enough};
-ghost use Rattle.listing.specs.Listing.{rows, jobLine, tallyLine, refusedLine, accepted, listing, sourcesShort, listed, printed};
+ghost use Rattle.text.specs.Writing.{Wrote};
+ghost use Rattle.listing.specs.Listing.{jobLine, rows, tallyLine, refusedLine, accepted, listing, Enough};
+ghost use Rattle.listing.specs.Listing.{sourcesShort, listed, printed};
 
 // The parts of the text that have a line for each node, request or entry.
 pub enum Section {
@@ -26,11 +25,10 @@ pub struct Listed {
 
 // Writes the job's line.
 fn put_job(played: Played, out: &mut [u8]) -> usize
-    requires { ⌜ length (jobLine played) < 2 ^ 64 ⌝ }
     ensures { λ r. ⌜ Wrote (jobLine played) 0 (now (out .entry)) (now (out .exit)) r ⌝ }
 {
     let numbers = [played.nodes, played.heads, played.requests, played.grants];
-    lines::put_line(out, 0, b"job", &numbers)
+    text::put_line(out, 0, b"job", &numbers)
 }
 
 // Writes all sections.
@@ -43,7 +41,6 @@ fn put_sections(
     at: usize,
 ) -> usize
     requires { ⌜ Enough played (now table) (now report) (now linearization) ⌝ }
-    requires { ⌜ at + length (rows played (now table) (now report) (now linearization)) < 2 ^ 64 ⌝ }
     ensures { λ r. ⌜ Wrote (rows played (now (table .entry)) (now (report .entry)) (now (linearization .entry))) at
         (now (out .entry)) (now (out .exit)) r ⌝ }
 {
@@ -60,11 +57,10 @@ fn put_sections(
 
 // Writes the tally's line.
 fn put_tally(tally: Tally, out: &mut [u8], at: usize) -> usize
-    requires { ⌜ at + length (tallyLine tally) < 2 ^ 64 ⌝ }
     ensures { λ r. ⌜ Wrote (tallyLine tally) at (now (out .entry)) (now (out .exit)) r ⌝ }
 {
     let numbers = [tally.idle, tally.failed, tally.links, tally.working];
-    lines::put_line(out, at, b"tally", &numbers)
+    text::put_line(out, at, b"tally", &numbers)
 }
 
 // Writes the text of a job that was not refused.
@@ -76,7 +72,6 @@ fn put_accepted(
     out: &mut [u8],
 ) -> usize
     requires { ⌜ Enough played (now table) (now report) (now linearization) ⌝ }
-    requires { ⌜ length (accepted played (now table) (now report) (now linearization)) < 2 ^ 64 ⌝ }
     ensures { λ r. ⌜ Wrote (accepted played (now (table .entry)) (now (report .entry)) (now (linearization .entry))) 0
         (now (out .entry)) (now (out .exit)) r ⌝ }
 {
@@ -87,11 +82,10 @@ fn put_accepted(
 
 // Writes a refusal's line.
 fn put_refused(number: u32, out: &mut [u8]) -> usize
-    requires { ⌜ length (refusedLine number) < 2 ^ 64 ⌝ }
     ensures { λ r. ⌜ Wrote (refusedLine number) 0 (now (out .entry)) (now (out .exit)) r ⌝ }
 {
     let numbers = [number];
-    lines::put_line(out, 0, b"refused", &numbers)
+    text::put_line(out, 0, b"refused", &numbers)
 }
 
 // Writes the text.

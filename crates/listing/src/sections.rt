@@ -1,12 +1,12 @@
 // The sections: a line for each node, request or entry, from the numbers in a lent buffer.
 use crate::Section;
 ghost use mathlib.Core.Path.{_≡_};
-ghost use Prim.Native.Nat.{_+_, _*_, _^_, _<_, _≤_};
+ghost use Prim.Native.Nat.{_+_, _*_, _<_, _≤_};
 ghost use lib.Dec.{ltb};
 ghost use lib.ListN.{length};
-ghost use Rattle.listing.specs.Text.{each};
+ghost use Rattle.text.specs.Text.{each};
+ghost use Rattle.text.specs.Writing.{Wrote};
 ghost use Rattle.listing.specs.Listing.{row, rowSize};
-ghost use Rattle.listing.specs.Writing.{Wrote};
 
 // How many numbers of its buffer a line of a section shows.
 fn row_size(section: Section) -> usize
@@ -30,20 +30,18 @@ pub fn is_short(section: Section, buffer: &[u32], count: u32) -> bool
 // Writes the line of node i.
 fn put_word(table: &[u32], i: u32, out: &mut [u8], at: usize) -> usize
     requires { ⌜ i < length (now table) ⌝ }
-    requires { ⌜ at + length (row Section.Words (now table) i) < 2 ^ 64 ⌝ }
     ensures { λ r. ⌜ Wrote (row Section.Words (now (table .entry)) i) at (now (out .entry)) (now (out .exit)) r ⌝ }
 {
     let word = table[i as usize];
     let parent = word::parent(word);
     let rank = word::rank(word);
     let numbers = [i, parent, rank];
-    crate::lines::put_line(out, at, b"word", &numbers)
+    text::put_line(out, at, b"word", &numbers)
 }
 
 // Writes the line of request i.
 fn put_request(report: &[u32], i: u32, out: &mut [u8], at: usize) -> usize
     requires { ⌜ 4 * (i + 1) ≤ length (now report) ⌝ }
-    requires { ⌜ at + length (row Section.Requests (now report) i) < 2 ^ 64 ⌝ }
     ensures { λ r. ⌜ Wrote (row Section.Requests (now (report .entry)) i) at (now (out .entry)) (now (out .exit)) r ⌝ }
 {
     let base = 4 * (i as usize);
@@ -54,24 +52,22 @@ fn put_request(report: &[u32], i: u32, out: &mut [u8], at: usize) -> usize
         report[base + 2],
         report[base + 3],
     ];
-    crate::lines::put_line(out, at, b"request", &numbers)
+    text::put_line(out, at, b"request", &numbers)
 }
 
 // Writes the line of entry i.
 fn put_entry(linearization: &[u32], i: u32, out: &mut [u8], at: usize) -> usize
     requires { ⌜ 2 * (i + 1) ≤ length (now linearization) ⌝ }
-    requires { ⌜ at + length (row Section.Entries (now linearization) i) < 2 ^ 64 ⌝ }
     ensures { λ r. ⌜ Wrote (row Section.Entries (now (linearization .entry)) i) at (now (out .entry)) (now (out .exit)) r ⌝ }
 {
     let base = 2 * (i as usize);
     let numbers = [linearization[base], linearization[base + 1]];
-    crate::lines::put_line(out, at, b"line", &numbers)
+    text::put_line(out, at, b"line", &numbers)
 }
 
 // Writes line i of a section.
 fn put_row(section: Section, buffer: &[u32], i: u32, out: &mut [u8], at: usize) -> usize
     requires { ⌜ rowSize section * (i + 1) ≤ length (now buffer) ⌝ }
-    requires { ⌜ at + length (row section (now buffer) i) < 2 ^ 64 ⌝ }
     ensures { λ r. ⌜ Wrote (row section (now (buffer .entry)) i) at (now (out .entry)) (now (out .exit)) r ⌝ }
 {
     match section {
@@ -84,7 +80,6 @@ fn put_row(section: Section, buffer: &[u32], i: u32, out: &mut [u8], at: usize) 
 // Writes the first lines of a section, as many as `count`.
 pub fn put_rows(section: Section, buffer: &[u32], count: u32, out: &mut [u8], at: usize) -> usize
     requires { ⌜ rowSize section * count ≤ length (now buffer) ⌝ }
-    requires { ⌜ at + length (each (row section (now buffer)) count) < 2 ^ 64 ⌝ }
     ensures { λ r. ⌜ Wrote (each (row section (now (buffer .entry))) count) at (now (out .entry)) (now (out .exit)) r ⌝ }
 {
     let mut next = at;

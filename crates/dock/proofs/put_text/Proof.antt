@@ -19,6 +19,7 @@ returns c =
     let a = start .args in
     let fitting : Fitting (a .played) (now (a .table)) (now (a .report)) (now (a .linearization)) =
     record {
+      number = search needs;
       job = search needs;
       entries = search needs;
       -- the tally's own numbers lie deeper than a search looks
@@ -28,7 +29,7 @@ returns c =
       points = λ k. omega (arith, c .before .before .before .before .before .shared-slice-known3 .given k);
     } in
     let list = c .before .before .list in
-    put-whole (a .played) (now (a .table)) (now (a .report)) (now (a .linearization)) (now (a .out)) (start .pre .0) (start .pre .1) (search needs) fitting
+    put-whole (a .played) (now (a .table)) (now (a .report)) (now (a .linearization)) (now (a .out)) (start .pre .0) (start .pre .1) fitting
     _ _ (list .ensures .0) (list .ensures .1)
 
 pub put-text-spec : {M : Type 1} → statement M

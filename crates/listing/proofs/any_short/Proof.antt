@@ -13,13 +13,24 @@ is-short-requires-2 : tie.Need-is-short-requires-2
 is-short-requires-2 c κs = search needs
 
 returns-2 : tie.Need-returns-2
-returns-2 c = simp (← c .before .before .before .is-short .ensures, c .before .before .if1 .left, ← c .before .is-short2 .ensures, c .if2 .taken)
+returns-2 c =
+    let first = c .before .before in
+    simp (← first .before .is-short .ensures, first .if1 .left, ← c .before .is-short2 .ensures, c .if2 .taken)
 
 is-short-requires-3 : tie.Need-is-short-requires-3
 is-short-requires-3 c κs = search needs
 
 returns-3 : tie.Need-returns-3
-returns-3 c = simp (← c .before .before .before .before .is-short .ensures, c .before .before .before .if1 .left, ← c .before .before .is-short2 .ensures, c .before .if2 .left, c .is-short3 .ensures)
+returns-3 c =
+    let second = c .before in
+    let first = second .before .before in
+    simp (
+      ← first .before .is-short .ensures,
+      first .if1 .left,
+      ← second .before .is-short2 .ensures,
+      second .if2 .left,
+      c .is-short3 .ensures,
+    )
 
 pub any-short-spec : {M : Type 1} → statement M
 any-short-spec =

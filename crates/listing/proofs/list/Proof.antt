@@ -5,7 +5,7 @@ use borrow.Author.Tests.{lt-ltb, le-ltb}
 use denote.Ref.{now}
 use Rattle.listing.specs.Listing.{listed, printed}
 use Rattle.listing.proofs.Listing.{enough}
-use Rattle.listing.proofs.Writing.{wrote-whole}
+use Rattle.text.proofs.Writing.{wrote-whole}
 use borrow.Author.Needs.{needs}
 use Rattle.listing.proofs.list.Statement.{statement}
 use Rattle.listing.proofs.list.Tie as tie
@@ -26,7 +26,9 @@ listing-length-requires c κs =
 returns-2 : tie.Need-returns-2
 unfolding listed printed
 returns-2 c =
-    simp (← c .before .before .before .any-short .ensures, c .before .before .if1 .left, ← c .before .listing-length .ensures, lt-ltb _ _ (c .if2 .taken))
+    let measured = c .before in
+    let checked = measured .before in
+    simp (← checked .before .any-short .ensures, checked .if1 .left, ← measured .listing-length .ensures, lt-ltb _ _ (c .if2 .taken))
     (refl, refl)
 
 put-listing-requires : tie.Need-put-listing-requires
@@ -41,9 +43,11 @@ same-length c = search needs
 returns-3 : tie.Need-returns-3
 unfolding listed printed
 returns-3 c =
-    let short = c .before .before .before .before .before .before .before .any-short .ensures in
-    let size = c .before .before .before .before .before .listing-length .ensures in
-    simp (← short, c .before .before .before .before .before .before .if1 .left, ← size, le-ltb _ _ (c .before .before .before .before .if2 .left))
+    let roomy = c .before .before .before .before in
+    let measured = roomy .before in
+    let checked = measured .before in
+    let size = measured .listing-length .ensures in
+    simp (← checked .before .any-short .ensures, checked .if1 .left, ← size, le-ltb _ _ (roomy .if2 .left))
     (refl, rw size (wrote-whole (c .before .before .put-listing .ensures) (omega arith)))
 
 pub list-spec : {M : Type 1} → statement M

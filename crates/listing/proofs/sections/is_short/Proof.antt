@@ -8,7 +8,9 @@ row-size-requires : tie.Need-row-size-requires
 row-size-requires c κs = search needs
 
 mul-result : tie.Need-mul-result
-mul-result c = record { fits = rw (c .row-size .ensures) (row-size-fits (c .before .before .args .section) (c .before .before .args .count) (search needs)) }
+mul-result c =
+    let a = c .before .before .args in
+    record { fits = rw (c .row-size .ensures) (row-size-fits (a .section) (a .count) (search needs)) }
 
 returns : tie.Need-returns
 returns c = rw (c .row-size .ensures)

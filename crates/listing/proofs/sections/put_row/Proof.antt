@@ -8,19 +8,19 @@ enum-told : tie.Need-enum-told
 enum-told c = search needs
 
 put-word-requires : tie.Need-put-word-requires
-put-word-requires c κs = let p = rw (c .before .enum-told .given .1) at (c .before .before .before .before .before .pre) in (omega (arith, p .0), p .1)
+put-word-requires c κs = omega (arith, rw (c .before .enum-told .given .1) at (c .before .before .before .before .before .pre))
 
 enum-told-2 : tie.Need-enum-told-2
 enum-told-2 c = search needs
 
 put-request-requires : tie.Need-put-request-requires
-put-request-requires c κs = let p = rw (c .before .enum-told2 .given .1) at (c .before .before .before .before .before .pre) in (omega (arith, p .0), p .1)
+put-request-requires c κs = omega (arith, rw (c .before .enum-told2 .given .1) at (c .before .before .before .before .before .pre))
 
 enum-told-3 : tie.Need-enum-told-3
 enum-told-3 c = search needs
 
 put-entry-requires : tie.Need-put-entry-requires
-put-entry-requires c κs = let p = rw (c .before .enum-told3 .given .1) at (c .before .before .before .before .before .pre) in (omega (arith, p .0), p .1)
+put-entry-requires c κs = omega (arith, rw (c .before .enum-told3 .given .1) at (c .before .before .before .before .before .pre))
 
 same-length : tie.Need-same-length
 same-length c = search needs

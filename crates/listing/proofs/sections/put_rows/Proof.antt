@@ -1,13 +1,13 @@
 -- `sections::put_rows`: the lines before i are written.
-use Prim.Native.Nat.{_+_, _-_}
+use Prim.Native.Nat.{_-_}
 use native.Mathlib.Nat.{le-trans, mul-le-mul-left}
 use native.Mathlib.Omega.{arith}
 use borrow.Author.Needs.{needs}
 use denote.Ref.{now}
-use Rattle.listing.specs.Text.{each}
+use Rattle.text.specs.Text.{each}
 use Rattle.listing.specs.Listing.{row, rowSize}
-use Rattle.listing.proofs.Text.{each-next, each-within}
-use Rattle.listing.proofs.Writing.{Through, wrote-nothing, wrote-length, through-next, through-room, through-end}
+use Rattle.text.proofs.Text.{each-next}
+use Rattle.text.proofs.Writing.{Through, wrote-nothing, wrote-length, through-next, through-end}
 use Rattle.listing.proofs.sections.put_rows.Statement.{statement}
 use Rattle.listing.proofs.sections.put_rows.Tie as tie
 
@@ -22,18 +22,13 @@ unfolding each
 loop-holds c =
     record {
       within = omega arith;
-      wrote = wrote-nothing (c .before .before .args .at) (now (c .before .before .args .out));
+      wrote = wrote-nothing (c .before .before .args .at) (now (c .before .before .args .out)) (search needs) (search needs);
     }
 
 put-row-requires : tie.Need-put-row-requires Inv-loop μ-loop
 put-row-requires c κs =
-    let a = c .before .before .before .before .before .args in
-    let l = c .before .before .loop in
-    let line = row (a .section) (now (a .buffer)) in
-    let within = each-within line (l .i + 1) (a .count) (omega arith) in (
-      le-trans (mul-le-mul-left (rowSize (a .section)) (omega arith)) (c .before .before .before .before .before .pre .0),
-      through-room (l .inv) (line (l .i)) (each line (a .count)) (each-next line (l .i)) within (c .before .before .before .before .before .pre .1),
-    )
+    let start = c .before .before .before .before .before in
+    le-trans (mul-le-mul-left (rowSize (start .args .section)) (omega arith)) (start .pre)
 
 add-i : tie.Need-add-i Inv-loop μ-loop
 add-i c = search needs

@@ -22,7 +22,7 @@ slice-aggregate-put-line-2 : tie.Need-slice-aggregate-put-line-2
 slice-aggregate-put-line-2 c = search needs
 
 put-line-requires : tie.Need-put-line-requires
-put-line-requires c κs = simp (c .before .before .before .before .parent .ensures, c .before .before .before .rank .ensures) (c .before .before .before .before .before .before .before .before .pre .1)
+put-line-requires c κs = search needs
 
 same-length : tie.Need-same-length
 same-length c = search needs

@@ -12,7 +12,7 @@ use lib.Dec.{ltb}
 use lib.ListN.{length, getD, take, drop, length-append, take-append-drop}
 use lib.Seq.{take-suc}
 use borrow.Author.Tests.{ltb-true, ltb-false, lt-ltb, le-ltb}
-use Rattle.listing.specs.Text.{digitsBy, digitsWithin, decimal, fields, line, each}
+use Rattle.text.specs.Text.{digitsBy, digitsWithin, decimal, fields, line, each}
 
 -- Any fuel above the number gives the same digits.
 digits-enough : (f g n : ℕ) → n < f → n < g → digitsWithin f n ≡ digitsWithin g n
@@ -36,7 +36,7 @@ decimal-more n h =
     rw (le-ltb n 10 h)
     (ap (λ (ds : List ℕ). ds ++ ((48 + n % 10) ∷ [])) (digits-enough n (suc (n / 10)) (n / 10) (omega arith) (omega arith)))
 
-pub decimal-more-length : (n : ℕ) → 10 ≤ n → length (decimal n) ≡ length (decimal (n / 10)) + 1
+decimal-more-length : (n : ℕ) → 10 ≤ n → length (decimal n) ≡ length (decimal (n / 10)) + 1
 decimal-more-length n h = ap length (decimal-more n h) ∙ length-append (decimal (n / 10)) ((48 + n % 10) ∷ [])
 
 digits-most : (k n : ℕ) → n < 10 ^ suc k → length (decimal n) ≤ suc k
@@ -74,30 +74,12 @@ fields-next ns i h =
     rw (take-next ns i h)
     (fields-append (take i ns) (getD ns i 0 ∷ []) ∙ ap (λ (t : List ℕ). fields (take i ns) ++ t) (fields-one (getD ns i 0)))
 
-pub fields-within : (ns : List ℕ) (i : ℕ) → length (fields (take i ns)) ≤ length (fields ns)
-fields-within ns i =
-    omega (
-      arith,
-      ap (λ (l : List ℕ). length (fields l)) (take-append-drop i ns),
-      ap length (fields-append (take i ns) (drop i ns)),
-      length-append (fields (take i ns)) (fields (drop i ns)),
-    )
-
 -- The same for a sequence.
 pub each-next : (f : ℕ → List ℕ) (i : ℕ) → each f (i + 1) ≡ each f i ++ f i
 unfolding each
 each-next f i = rw add-one
 
-pub each-within : (f : ℕ → List ℕ) (i n : ℕ) → i ≤ n → length (each f i) ≤ length (each f n)
-unfolding each
-each-within f i zero h = let z : i ≡ 0 = omega arith in rw z (omega arith)
-each-within f i (suc n) h = go (ltb n i) refl (λ l. each-within f i n l)
-  where
-    go : (b : Bool) → ltb n i ≡ b → (i ≤ n → length (each f i) ≤ length (each f n)) → length (each f i) ≤ length (each f (suc n))
-    go true e before = let z : i ≡ suc n = omega (arith, ltb-true n i e) in rw z (omega arith)
-    go false e before = omega (arith, length-append (each f n) (f n), before (ltb-false n i e))
-
--- Lines of numbers of 32 bits are short, so that any text of this crate can be counted in 64 bits.
+-- Lines of numbers of 32 bits are short, so that a text of them can be counted in 64 bits.
 abbrev pub Narrow : List ℕ → Type 0
 Narrow [] = Unit {0}
 Narrow (n ∷ ns) = (n < 2 ^ 32) × Narrow ns
@@ -108,15 +90,15 @@ fields-short [] h = omega arith
 fields-short (n ∷ ns) h =
     omega (arith, length-append (32 ∷ decimal n) (fields ns), decimal-short n (h .0), fields-short ns (h .1))
 
-pub line-length : (name ns : List ℕ) → length (line name ns) ≡ length name + length (fields ns) + 1
+line-length : (name ns : List ℕ) → length (line name ns) ≡ length name + length (fields ns) + 1
 unfolding line
 line-length name ns = length-three name (fields ns) (10 ∷ [])
 
 pub line-short : (name ns : List ℕ) → Narrow ns → length (line name ns) ≤ length name + 11 * length ns + 1
 line-short name ns h = omega (arith, line-length name ns, fields-short ns h)
 
-pub each-short : (f : ℕ → List ℕ) (n : ℕ) → ((i : ℕ) → i < n → length (f i) ≤ 64) → length (each f n) ≤ 64 * n
+pub each-short : (f : ℕ → List ℕ) (most n : ℕ) → ((i : ℕ) → i < n → length (f i) ≤ most) → length (each f n) ≤ most * n
 unfolding each
-each-short f zero h = omega arith
-each-short f (suc n) h =
-    omega (arith, length-append (each f n) (f n), h n (omega arith), each-short f n (λ i l. h i (omega arith)))
+each-short f most zero h = omega arith
+each-short f most (suc n) h =
+    omega (arith, length-append (each f n) (f n), h n (omega arith), each-short f most n (λ i l. h i (omega arith)))

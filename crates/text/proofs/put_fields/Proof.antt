@@ -1,15 +1,15 @@
--- `lines::put_fields`: the numbers before i are written, a space before each.
+-- `text::put_fields`: the numbers before i are written, a space before each.
 use Prim.Native.Nat.{_-_}
 use native.Mathlib.Omega.{arith}
 use lib.ListN.{length, take}
 use lib.Seq.{take-length}
 use borrow.Author.Needs.{needs}
 use denote.Ref.{now}
-use Rattle.listing.specs.Text.{fields}
-use Rattle.listing.proofs.Text.{fields-next}
-use Rattle.listing.proofs.Writing.{Through, wrote-nothing, wrote-append, wrote-length, through-next, through-end, fields-room}
-use Rattle.listing.proofs.lines.put_fields.Statement.{statement}
-use Rattle.listing.proofs.lines.put_fields.Tie as tie
+use Rattle.text.specs.Text.{fields}
+use Rattle.text.proofs.Text.{fields-next}
+use Rattle.text.proofs.Writing.{Through, wrote-nothing, wrote-append, wrote-length, through-next, through-end}
+use Rattle.text.proofs.put_fields.Statement.{statement}
+use Rattle.text.proofs.put_fields.Tie as tie
 
 abbrev Inv-loop : tie.InvT-loop
 Inv-loop out₀ at numbers next₀ i₀ out next i = Through (λ k. fields (take k numbers)) (length numbers) i at out₀ out next
@@ -22,13 +22,11 @@ unfolding fields
 loop-holds c =
     record {
       within = omega arith;
-      wrote = wrote-nothing (c .before .before .args .at) (now (c .before .before .args .out));
+      wrote = wrote-nothing (c .before .before .args .at) (now (c .before .before .args .out)) (search needs) (search needs);
     }
 
 put-byte-requires : tie.Need-put-byte-requires Inv-loop μ-loop
-put-byte-requires c κs =
-    let l = c .before .before .loop in
-    omega (arith, fields-room (now (c .before .before .before .before .before .args .numbers)) (l .i) (l .inv) (omega arith) (c .before .before .before .before .before .pre))
+put-byte-requires c κs = search needs
 
 mul-put-decimal : tie.Need-mul-put-decimal Inv-loop μ-loop
 mul-put-decimal c = search needs
@@ -37,11 +35,7 @@ shared-slice-read-put-decimal : tie.Need-shared-slice-read-put-decimal Inv-loop 
 shared-slice-read-put-decimal c = search needs
 
 put-decimal-requires : tie.Need-put-decimal-requires Inv-loop μ-loop
-put-decimal-requires c κs =
-    let looped = c .before .before .before .before .before .before .before in
-    let start = looped .before .before .before in
-    let l = looped .loop in
-    omega (arith, fields-room (now (start .args .numbers)) (l .i) (l .inv) (omega arith) (start .pre))
+put-decimal-requires c κs = search needs
 
 add-i : tie.Need-add-i Inv-loop μ-loop
 add-i c = search needs
@@ -51,10 +45,12 @@ loop-less c = search needs
 
 loop-again : tie.Need-loop-again Inv-loop μ-loop
 loop-again c =
-    let l = c .before .before .before .before .before .before .before .before .before .before .loop in
-    let numbers = now (c .before .before .before .before .before .before .before .before .before .before .before .before .before .args .numbers) in
-    through-next (l .inv) (omega arith) (fields-next numbers (l .i) (omega arith))
-    (wrote-append (c .before .before .before .before .before .before .before .put-byte .ensures) (c .before .before .put-decimal .ensures))
+    let after-digits = c .before .before in
+    let after-space = after-digits .before .before .before .before .before in
+    let looped = after-space .before .before .before in
+    let numbers = now (looped .before .before .before .args .numbers) in
+    through-next (looped .loop .inv) (omega arith) (fields-next numbers (looped .loop .i) (omega arith))
+    (wrote-append (after-space .put-byte .ensures) (after-digits .put-decimal .ensures))
 
 same-length : tie.Need-same-length Inv-loop μ-loop
 same-length c = wrote-length (c .before .loop .inv .wrote)

@@ -1,0 +1,91 @@
+-- `text::put_decimal`: the digits of the tenth, then the last digit; the number falls.
+use native.Mathlib.Omega.{arith}
+use Rattle.text.proofs.Text.{decimal-digit, decimal-more}
+use Rattle.text.proofs.Writing.{wrote-append, wrote-length}
+use mathlib.Core.Path.{_∙_}
+use Prim.Native.Nat.{ℕ, _<_}
+use borrow.Author.Needs.{needs}
+use borrow.Fn.Kinds.{In}
+use borrow.Fn.PlainCycle.{Measures, is, falls, and}
+use Rattle.text.proofs.put_decimal.Reads as put-decimal
+use Rattle.text.proofs.put_decimal.Kinds as put-decimal-kinds
+use Rattle.text.proofs.+put_decimal.Lts-put_decimal as put-decimal-lts
+use Rattle.text.proofs.put_byte.Reads as put-byte-reads
+use Rattle.text.proofs.+put_decimal.{statement}
+use Rattle.text.proofs.+put_decimal.Tie.{close}
+
+abbrev μ-put-decimal : Measures 1 put-decimal-kinds.ps ℕ
+μ-put-decimal κs a = a .1 .1 .0
+
+abbrev put-decimal-at : ℕ → In 1 put-decimal-kinds.ps
+put-decimal-at t =
+    and 1 put-decimal-kinds.ps (is 1 put-decimal-kinds.ps μ-put-decimal t) put-decimal.Pre
+
+abbrev put-decimal-below : ℕ → In 1 put-decimal-kinds.ps
+put-decimal-below t =
+    and 1 put-decimal-kinds.ps (falls 1 put-decimal-kinds.ps _<_ μ-put-decimal t) put-decimal.Pre
+
+-- what is claimed of the functions that it calls: the contract of `put_byte`, and its own for a smaller number
+abbrev put-decimal-claims : ℕ → put-decimal-lts.Claims
+put-decimal-claims t = (put-byte-reads.Asked, put-byte-reads.Learnt, put-decimal-below t, put-decimal.Post)
+
+put-decimal-add-put-byte : (t : ℕ) → put-decimal-lts.Need-add-put-byte (put-decimal-claims t) (put-decimal-at t) put-decimal.Post
+put-decimal-add-put-byte t c = omega arith
+
+put-decimal-cast-put-byte : (t : ℕ) → put-decimal-lts.Need-cast-put-byte (put-decimal-claims t) (put-decimal-at t) put-decimal.Post
+put-decimal-cast-put-byte t c = omega arith
+
+put-decimal-put-byte-requires : (t : ℕ) → put-decimal-lts.Need-put-byte-requires (put-decimal-claims t) (put-decimal-at t) put-decimal.Post
+put-decimal-put-byte-requires t c κs = search needs
+
+put-decimal-same-length : (t : ℕ) → put-decimal-lts.Need-same-length (put-decimal-claims t) (put-decimal-at t) put-decimal.Post
+put-decimal-same-length t c = wrote-length (c .before .before .put-byte .ensures)
+
+put-decimal-returns : (t : ℕ) → put-decimal-lts.Need-returns (put-decimal-claims t) (put-decimal-at t) put-decimal.Post
+put-decimal-returns t c =
+    let after-digit = c .before .before in
+    let start = after-digit .before .before .before .before in
+    rw (decimal-digit (start .args .n) (omega arith)) (after-digit .put-byte .ensures)
+
+put-decimal-put-decimal-requires : (t : ℕ)
+    → put-decimal-lts.Need-put-decimal-requires (put-decimal-claims t) (put-decimal-at t) put-decimal.Post
+put-decimal-put-decimal-requires t c κs = omega arith
+
+put-decimal-add-put-byte-2 : (t : ℕ) → put-decimal-lts.Need-add-put-byte-2 (put-decimal-claims t) (put-decimal-at t) put-decimal.Post
+put-decimal-add-put-byte-2 t c = omega arith
+
+put-decimal-cast-put-byte-2 : (t : ℕ) → put-decimal-lts.Need-cast-put-byte-2 (put-decimal-claims t) (put-decimal-at t) put-decimal.Post
+put-decimal-cast-put-byte-2 t c = omega arith
+
+put-decimal-put-byte-requires-2 : (t : ℕ)
+    → put-decimal-lts.Need-put-byte-requires-2 (put-decimal-claims t) (put-decimal-at t) put-decimal.Post
+put-decimal-put-byte-requires-2 t c κs = search needs
+
+put-decimal-same-length-2 : (t : ℕ) → put-decimal-lts.Need-same-length-2 (put-decimal-claims t) (put-decimal-at t) put-decimal.Post
+put-decimal-same-length-2 t c =
+    let after-digit = c .before .before in
+    let after-tenth = after-digit .before .before .before .before in
+    wrote-length (after-digit .put-byte2 .ensures) ∙ wrote-length (after-tenth .put-decimal .ensures)
+
+put-decimal-returns-2 : (t : ℕ) → put-decimal-lts.Need-returns-2 (put-decimal-claims t) (put-decimal-at t) put-decimal.Post
+put-decimal-returns-2 t c =
+    let after-digit = c .before .before in
+    let after-tenth = after-digit .before .before .before .before in
+    let start = after-tenth .before .before .before .before in
+    rw (decimal-more (start .args .n) (omega arith)) (wrote-append (after-tenth .put-decimal .ensures) (after-digit .put-byte2 .ensures))
+
+pub +put-decimal-spec : {M : Type 1} → statement M
++put-decimal-spec = close μ-put-decimal λ t. put-decimal-lts.spec (put-decimal-claims t)
+    (put-decimal-at t)
+    put-decimal.Post
+    (put-decimal-add-put-byte t)
+    (put-decimal-cast-put-byte t)
+    (put-decimal-put-byte-requires t)
+    (put-decimal-same-length t)
+    (put-decimal-returns t)
+    (put-decimal-put-decimal-requires t)
+    (put-decimal-add-put-byte-2 t)
+    (put-decimal-cast-put-byte-2 t)
+    (put-decimal-put-byte-requires-2 t)
+    (put-decimal-same-length-2 t)
+    (put-decimal-returns-2 t)

@@ -1,0 +1,3 @@
+-- The laws of texts and of writing them.
+pub mod Text
+pub mod Writing

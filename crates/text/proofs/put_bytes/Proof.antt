@@ -1,0 +1,66 @@
+-- `text::put_bytes`: the bytes before i are written.
+use Prim.Native.Nat.{_-_}
+use native.Mathlib.Omega.{arith}
+use lib.ListN.{length, take}
+use lib.Seq.{take-length}
+use borrow.Author.Needs.{needs}
+use denote.Ref.{now}
+use Rattle.text.proofs.Text.{take-next}
+use Rattle.text.proofs.Writing.{Through, wrote-nothing, wrote-length, through-next, through-end}
+use Rattle.text.proofs.put_bytes.Statement.{statement}
+use Rattle.text.proofs.put_bytes.Tie as tie
+
+abbrev Inv-loop : tie.InvT-loop
+Inv-loop out₀ at bytes next₀ i₀ out next i = Through (λ k. take k bytes) (length bytes) i at out₀ out next
+
+abbrev μ-loop : tie.MeasureT-loop
+μ-loop out₀ at bytes next₀ i₀ out next i = length bytes - i
+
+loop-holds : tie.Need-loop-holds Inv-loop μ-loop
+loop-holds c =
+    record {
+      within = omega arith;
+      wrote = wrote-nothing (c .before .before .args .at) (now (c .before .before .args .out)) (search needs) (search needs);
+    }
+
+shared-slice-read-put-byte : tie.Need-shared-slice-read-put-byte Inv-loop μ-loop
+shared-slice-read-put-byte c = search needs
+
+put-byte-requires : tie.Need-put-byte-requires Inv-loop μ-loop
+put-byte-requires c κs = search needs
+
+add-i : tie.Need-add-i Inv-loop μ-loop
+add-i c = search needs
+
+loop-less : tie.Need-loop-less Inv-loop μ-loop
+loop-less c = search needs
+
+loop-again : tie.Need-loop-again Inv-loop μ-loop
+loop-again c =
+    let after-byte = c .before .before in
+    let looped = after-byte .before .before .before .before in
+    let bytes = now (looped .before .before .before .args .bytes) in
+    through-next (looped .loop .inv) (omega arith) (take-next bytes (looped .loop .i) (omega arith)) (after-byte .put-byte .ensures)
+
+same-length : tie.Need-same-length Inv-loop μ-loop
+same-length c = wrote-length (c .before .loop .inv .wrote)
+
+returns : tie.Need-returns Inv-loop μ-loop
+returns c =
+    let bytes = now (c .before .before .before .before .args .bytes) in
+    rw (take-length bytes) at (through-end (c .before .loop .inv) (c .loop-test .left))
+
+pub put-bytes-spec : {M : Type 1} → statement M
+put-bytes-spec =
+    tie.close
+    (tie.spec
+    Inv-loop
+    μ-loop
+    loop-holds
+    shared-slice-read-put-byte
+    put-byte-requires
+    add-i
+    loop-less
+    loop-again
+    same-length
+    returns)
