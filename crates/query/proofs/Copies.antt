@@ -1,21 +1,25 @@
 -- The enquiry's own array: the loops that fill it and give its words back, by what is left to write.
 --
+--   padded words                 the array at the start: the table's words, and past them roots
 --   Writing goal now i rest      with `rest` written from place i on, the words `now` are the words `goal`
 --   Copying start words now i    i of the words are copied to `start`
 --   roots i                      the words of the array from place i on, each its own root
 --   Padding start from now i     the places of `start` from `from` up to i are roots
 --
 -- Main law: filled, what the two loops make of the array.
-use mathlib.Core.Path.{_≡_, refl, sym, ap, _∙_, subst}
+use mathlib.Core.Path.{_≡_, refl, sym, ap, _∙_}
 use mathlib.Core.List.{List, [], _∷_, _++_, map}
-use Prim.Native.Nat.{ℕ, zero, suc, _+_, _-_, _≤_, _<_}
+use Prim.Native.Nat.{ℕ, suc, _+_, _-_, _≤_, _<_}
 use native.Mathlib.Omega.{arith}
-use lib.ListN.{length, getD, set, take, drop, length-map, length-set, length-append, drop-of-length-le}
+use lib.ListN.{length, getD, set, drop, length-map, length-set, length-append, drop-of-length-le}
 use lib.Seq.{sets, length-sets, sets-eq, drop-cons, drop-length}
 use Rattle.word.specs.Word.{encode}
 use Rattle.rules.specs.Table.{freshFrom}
 use Rattle.rules.proofs.Table.{length-fresh}
-use Rattle.query.specs.Numbers.{padded}
+
+-- The array has room for the longest table. No step from a node of the table leads to one past it.
+abbrev pub padded : List ℕ → List ℕ
+padded words = words ++ map encode (freshFrom (length words) (4096 - length words))
 
 -- ---- the loops
 

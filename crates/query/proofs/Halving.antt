@@ -1,7 +1,9 @@
 -- A find's swap on a table whose ranks need not be backed by the sizes of its sets: a node gets a parent further up.
 --
+--   halved            the table after the swap
+--
 -- Main laws: halved-formed and halved-labelled, the table stays well formed and its sets stay; halved-later, what the
--- head knows stays.
+-- head knows stays; halved-admitted, the table stays admitted.
 use mathlib.Core.Path.{_≡_, sym, _∙_, subst, fun-ext}
 use Prim.Native.Nat.{ℕ, _<_}
 use native.Mathlib.Omega.{arith}
@@ -16,7 +18,7 @@ use Rattle.forest.proofs.Later.{Later}
 use Rattle.rules.specs.Table.{parent, rank}
 use Rattle.rules.proofs.Table.{parent-changed, rank-changed}
 use Rattle.query.specs.Admitted.{Admitted}
-use Rattle.query.proofs.Words.{formed}
+use Rattle.query.proofs.Words.{admitted-formed}
 
 module _ {n : ℕ} {p r B p′ r′ : ℕ → ℕ} {v k u : ℕ} (formed : WellFormed n p r) (halving : Halving n p r B v k u)
     (parents : Changed p p′ v u) (ranks : Changed r r′ v k) where
@@ -68,11 +70,12 @@ module _ {n : ℕ} {t : List Node} {B : ℕ → ℕ} {v k u : ℕ} (admitted : A
 
   pub halved-admitted : Admitted n halved
   halved-admitted =
-      let kept : WellFormed n (parent halved) (rank halved) = halved-formed (formed admitted) halving halved-parents halved-each-rank in
+      let start = admitted-formed admitted in
+      let kept : WellFormed n (parent halved) (rank halved) = halved-formed start halving halved-parents halved-each-rank in
       record {
         nodes = length-set t v (record { rank = k; parent = u }) ∙ admitted .nodes;
         few = admitted .few;
         inside = kept .inside;
-        ranks = λ i l. omega (arith, admitted .ranks i l, halved-ranks (formed admitted) halving halved-parents halved-each-rank i);
+        ranks = λ i l. omega (arith, admitted .ranks i l, halved-ranks start halving halved-parents halved-each-rank i);
         rising = kept .rising;
       }

@@ -7,7 +7,7 @@ use mathlib.Core.Bool.{Bool, true, false, not}
 use mathlib.Core.List.{List, map}
 use Prim.Native.Nat.{ℕ, _+_, _-_, _<_}
 use native.Mathlib.Omega.{arith}
-use lib.ListN.{length, length-map}
+use lib.ListN.{length-map}
 use Rattle.job.specs.declared.Answer.the-variants.{Unfinished, Yes, No}
 use Rattle.word.specs.declared.Node.{Node}
 use Rattle.word.specs.Word.{parentOf, decode}
@@ -20,8 +20,8 @@ use Rattle.query.proofs.Grants.{rereading, look-moves, look-turns, look
 use Rattle.query.proofs.Grants.{told-answer, spent}
 
 -- no grant is left, for looking or for moving on
-pub never : {words : List ℕ} {node other used left end : ℕ} (h : Head) → Ready words node other used left → left ≡ 0 → end ≡ packed Unfinished used
-    → ended end words ≡ steps left used h (map decode words)
+pub never : {words : List ℕ} {node other used left end : ℕ} (h : Head) → Ready words node other used left → left ≡ 0
+    → end ≡ packed Unfinished used → ended end words ≡ steps left used h (map decode words)
 never {words} {used = used} {left = left} {end = end} h ready none told =
     spent words (ready .admitted) left used h end none (omega (arith, ready .room)) told
 

@@ -23,7 +23,7 @@ use Rattle.table.proofs.Words.{at-decoded, decode-words}
 use Rattle.query.specs.Query.{wordAt, steps}
 use Rattle.query.specs.Admitted.{Admitted}
 use Rattle.query.specs.Numbers.{looking, moving, Ready, Lower, packed, ended}
-use Rattle.query.proofs.Words.{formed, admitted-worded, words-kept}
+use Rattle.query.proofs.Words.{admitted-formed, admitted-worded, words-kept}
 use Rattle.query.proofs.Labels.{rootLabel, root-labelled}
 use Rattle.query.proofs.Halving.{halved-admitted}
 use Rattle.query.proofs.Grants.{swapping, again, move-reads, move-swaps, move-ends, spent}
@@ -36,12 +36,12 @@ swap-admitted : {n : ℕ} {t : List Node} → Admitted n t → (v : ℕ) → v <
 swap-admitted {n} {t} admitted v node lower =
     split (same (at t v) (at t v)) (λ e. rw e (halved-admitted admitted may)) (λ e. rw e admitted)
   where
-    above : Above n (parent t) (rank t) (rootLabel (formed admitted)) v (parent t (parent t v))
+    above : Above n (parent t) (rank t) (rootLabel (admitted-formed admitted)) v (parent t (parent t v))
     above =
-        above-parent (formed admitted) (root-labelled (formed admitted))
-        (own-parent (formed admitted) (root-labelled (formed admitted)) v node lower)
+        above-parent (admitted-formed admitted) (root-labelled (admitted-formed admitted))
+        (own-parent (admitted-formed admitted) (root-labelled (admitted-formed admitted)) v node lower)
 
-    may : Halving n (parent t) (rank t) (rootLabel (formed admitted)) v (rank t v) (parent t (parent t v))
+    may : Halving n (parent t) (rank t) (rootLabel (admitted-formed admitted)) v (rank t v) (parent t (parent t v))
     may = record { node = node; target = above .node; lower = lower; rank = refl; same = above .same; before = above .before }
 
 -- a swap that compares words compares their nodes

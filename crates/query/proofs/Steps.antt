@@ -1,7 +1,11 @@
 -- One step of an enquiry, stage by stage: the table stays admitted, its sets stay, and an answer is right about them.
 --
---   Known t′ head    what the head knows after its grant, on the table t′
---   Next t′ next     what holds of the enquiry after the grant that led to `next`, on the table t′
+-- B gives each node a label: two nodes have one label when they share a set.
+--
+--   Says B x y answer           the answer is right about the sets of x and y
+--   Serving n B x y t used h    what holds of the enquiry about x and y after so many grants, on the table t of n nodes
+--   Known t′ head               what the head knows after its grant, on the table t′
+--   Next t′ next                what holds of the enquiry after the grant that led to `next`, on the table t′
 --
 -- Main laws: serving-step, what holds of an enquiry holds after one step more; serving-start, it holds at the start.
 use mathlib.Core.Path.{_≡_, refl, sym, ap, _∙_, subst}
@@ -11,7 +15,6 @@ use mathlib.Core.List.{List}
 use Prim.Native.Nat.{ℕ, suc}
 use native.Mathlib.Omega.{arith}
 use lib.Dec.{eqb}
-use lib.ListN.{set}
 use borrow.Author.Tests.{eqb-true, eqb-false}
 use Rattle.job.specs.declared.Kind.{Kind}
 use Rattle.job.specs.declared.Kind.the-variants.{Union, SameSet}
@@ -42,7 +45,7 @@ use Rattle.table.specs.Touch.{Within}
 use Rattle.table.proofs.Within.{access-within}
 use Rattle.query.specs.Query.{granted, sameSet}
 use Rattle.query.specs.Admitted.{Admitted}
-use Rattle.query.proofs.Words.{formed}
+use Rattle.query.proofs.Words.{admitted-formed}
 use Rattle.query.proofs.Halving.{halved-ranks, halved-labelled, halved-later}
 use Rattle.query.proofs.Halving.{halved, halved-parents, halved-each-rank, halved-admitted}
 
@@ -132,7 +135,7 @@ module _ {n : ℕ} {t : List Node} {B : ℕ → ℕ} {a b : ℕ} (admitted : Adm
       (read-on (staged h (ReadParent k s (rank t v) (parent t v))) refl
       (record {
         finding = f;
-        parent = own-parent (formed admitted) labelled v (side-node h f s) (eqb-false (parent t v) v e);
+        parent = own-parent (admitted-formed admitted) labelled v (side-node h f s) (eqb-false (parent t v) v e);
         rank = refl;
       })))
     where
@@ -147,7 +150,7 @@ module _ {n : ℕ} {t : List Node} {B : ℕ → ℕ} {a b : ℕ} (admitted : Adm
       (record {
         finding = knows .finding;
         parent = knows .parent;
-        grandparent = above-parent (formed admitted) labelled (knows .parent);
+        grandparent = above-parent (admitted-formed admitted) labelled (knows .parent);
         rank = knows .rank;
       })
 
@@ -168,10 +171,10 @@ module _ {n : ℕ} {t : List Node} {B : ℕ → ℕ} {a b : ℕ} (admitted : Adm
     wrote =
         record {
           admitted = halved-admitted admitted may;
-          labelled = halved-labelled (formed admitted) may (halved-parents admitted may) (halved-each-rank admitted may) labelled;
+          labelled = halved-labelled (admitted-formed admitted) may (halved-parents admitted may) (halved-each-rank admitted may) labelled;
           inside = inside;
           knows =
-              knows-later (halved-later (formed admitted) may (halved-parents admitted may) (halved-each-rank admitted may)) inside
+              knows-later (halved-later (admitted-formed admitted) may (halved-parents admitted may) (halved-each-rank admitted may)) inside
               {Apart = λ point. B a ≢ B b} {Apart′ = λ point. B a ≢ B b} {now = used} {now′ = suc used}
               (omega arith) (λ point l z. z) h (ReadAgain k s u)
               (record { finding = knows .finding; parent = knows .parent });
@@ -190,7 +193,7 @@ module _ {n : ℕ} {t : List Node} {B : ℕ → ℕ} {a b : ℕ} (admitted : Adm
     halve-ranks : (i : ℕ) → rank (cond (same (at t (nodeAt h s)) (record { rank = r; parent = u })) (halved admitted may) t) i ≡ rank t i
     halve-ranks i =
         split (same (at t (nodeAt h s)) (record { rank = r; parent = u }))
-        (λ e. rw e (halved-ranks (formed admitted) may (halved-parents admitted may) (halved-each-rank admitted may) i))
+        (λ e. rw e (halved-ranks (admitted-formed admitted) may (halved-parents admitted may) (halved-each-rank admitted may) i))
         (λ e. rw e refl)
 
   read-again : (k : Kind) (s : Side) (u : ℕ)

@@ -23,8 +23,8 @@ module _ (words : List ℕ) (i : ℕ) (inside : i < length words) where
   rank-decoded = ap (λ v. v .rank) (at-decoded words i inside)
 
 -- what the laws of forests ask
-pub formed : {n : ℕ} {t : List Node} → Admitted n t → WellFormed n (parent t) (rank t)
-formed admitted = record { limit = omega (arith, admitted .few); inside = admitted .inside; rising = admitted .rising }
+pub admitted-formed : {n : ℕ} {t : List Node} → Admitted n t → WellFormed n (parent t) (rank t)
+admitted-formed admitted = record { limit = omega (arith, admitted .few); inside = admitted .inside; rising = admitted .rising }
 
 pub admitted-worded : {n : ℕ} {t : List Node} → Admitted n t → Worded t
 admitted-worded admitted =
