@@ -12,13 +12,12 @@ use lib.Seq.{sets, take-at}
 use borrow.Author.Tests.{eq-eqb, ne-eqb}
 use Rattle.word.specs.declared.Node.{Node}
 use Rattle.word.specs.Word.{decode, encode}
-use Rattle.rules.specs.Table.{freshFrom}
 use Rattle.rules.proofs.Table.{length-fresh}
 use Rattle.query.specs.Query.{Result, refusal, steps, queried}
 use Rattle.query.specs.Numbers.{looking, Ready, ended}
 use Rattle.query.proofs.Refusal.{Accepted, accepted, accepted-admitted}
 use Rattle.query.proofs.Faithful.{steps-ended, start-serving}
-use Rattle.query.proofs.Copies.{padded, filled}
+use Rattle.query.proofs.Copies.{roots, padded, filled}
 use Rattle.query.proofs.Padded.{others, padded-nodes, padded-admitted, extended, steps-padded}
 
 pub query-refused : (words : List ℕ) (x y number budget : ℕ) → number ≡ refusal words x y → number ≢ 0
@@ -37,10 +36,10 @@ module _ (words : List ℕ) (x y : ℕ) (none : refusal words x y ≡ 0) where
 
   -- both loops make the array of zeros the padded one
   pub enquiry-array : (copied array : List ℕ) → copied ≡ sets (replicate 4096 0) 0 words
-      → array ≡ sets copied (length words) (map encode (freshFrom (length words) (4096 - length words))) → array ≡ padded words
+      → array ≡ sets copied (length words) (roots (length words)) → array ≡ padded words
   enquiry-array copied array copies pads =
       pads
-      ∙ ap (λ l. sets l (length words) (map encode (freshFrom (length words) (4096 - length words)))) copies
+      ∙ ap (λ l. sets l (length words) (roots (length words))) copies
       ∙ filled (replicate 4096 0) words (length-replicate {A = ℕ} 4096 0) (good .few)
 
   pub enquiry-ready : (array : List ℕ) (budget : ℕ) → array ≡ padded words → budget ≤ 65535 → Ready array x y 0 budget
