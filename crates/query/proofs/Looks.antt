@@ -1,6 +1,9 @@
--- One look at a node, on words: each end that it may have, and each way on.
+-- One look at a node, on words: each end that it may have, and each way on. The code hands over the parent that it read.
 --
--- Main laws: looked-on, looked-turned, looked-met, looked-spent, looked-no and looked-again, one for each return of the code.
+--   looks   the result from here on
+--
+-- Main laws: never, no grant is left; looked-on, looked-turned, looked-met, looked-spent, looked-no and looked-again, one for each
+-- return of the code.
 use mathlib.Core.Path.{_≡_, refl, sym, ap, _∙_}
 use mathlib.Core.Logic.{_≢_}
 use mathlib.Core.Bool.{Bool, true, false, not}
