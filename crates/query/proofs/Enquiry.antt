@@ -1,25 +1,23 @@
 -- The whole enquiry: refused, or made on the array of its own.
 --
 -- Main laws: query-refused; enquired, the array's front and the number at the end are the enquiry's result.
-use mathlib.Core.Path.{_≡_, refl, sym, ap, _∙_}
+use mathlib.Core.Path.{_≡_, ap, _∙_}
 use mathlib.Core.Logic.{_≢_}
-use mathlib.Core.Bool.{true, false}
-use mathlib.Core.List.{List, _++_, map}
+use mathlib.Core.Bool.{false}
+use mathlib.Core.List.{List, map}
 use Prim.Native.Nat.{ℕ, _-_, _≤_}
 use native.Mathlib.Omega.{arith}
-use lib.Dec.{eqb}
 use lib.ListN.{length, take, replicate, length-map, length-append, length-replicate}
 use lib.Seq.{sets, take-at}
 use borrow.Author.Tests.{eq-eqb, ne-eqb}
 use Rattle.word.specs.declared.Node.{Node}
 use Rattle.word.specs.Word.{decode, encode}
-use Rattle.rules.specs.Table.{freshFrom}
 use Rattle.rules.proofs.Table.{length-fresh}
 use Rattle.query.specs.Query.{Result, refusal, steps, queried}
-use Rattle.query.specs.Numbers.{looking, Ready, ended, padded}
+use Rattle.query.specs.Numbers.{looking, Ready, ended}
 use Rattle.query.proofs.Refusal.{Accepted, accepted, accepted-admitted}
 use Rattle.query.proofs.Faithful.{steps-ended, start-serving}
-use Rattle.query.proofs.Copies.{filled}
+use Rattle.query.proofs.Copies.{roots, padded, filled}
 use Rattle.query.proofs.Padded.{others, padded-nodes, padded-admitted, extended, steps-padded}
 
 pub query-refused : (words : List ℕ) (x y number budget : ℕ) → number ≡ refusal words x y → number ≢ 0
@@ -38,10 +36,10 @@ module _ (words : List ℕ) (x y : ℕ) (none : refusal words x y ≡ 0) where
 
   -- both loops make the array of zeros the padded one
   pub enquiry-array : (copied array : List ℕ) → copied ≡ sets (replicate 4096 0) 0 words
-      → array ≡ sets copied (length words) (map encode (freshFrom (length words) (4096 - length words))) → array ≡ padded words
+      → array ≡ sets copied (length words) (roots (length words)) → array ≡ padded words
   enquiry-array copied array copies pads =
       pads
-      ∙ ap (λ l. sets l (length words) (map encode (freshFrom (length words) (4096 - length words)))) copies
+      ∙ ap (λ l. sets l (length words) (roots (length words))) copies
       ∙ filled (replicate 4096 0) words (length-replicate {A = ℕ} 4096 0) (good .few)
 
   pub enquiry-ready : (array : List ℕ) (budget : ℕ) → array ≡ padded words → budget ≤ 65535 → Ready array x y 0 budget

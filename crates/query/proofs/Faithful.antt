@@ -32,7 +32,7 @@ use Rattle.table.proofs.Words.{decode-words}
 use Rattle.query.proofs.Labels.{rootLabel, root-labelled}
 use Rattle.query.proofs.Refusal.{Accepted, accepted, accepted-admitted}
 use Rattle.query.proofs.Steps.{Says, Serving, serving-step, serving-goes-on, serving-start}
-use Rattle.query.proofs.Words.{formed, admitted-worded}
+use Rattle.query.proofs.Words.{admitted-formed, admitted-worded}
 use Rattle.query.proofs.Enough.{steps-enough, start-enough}
 
 pub record Ended (n : ℕ) (B : ℕ → ℕ) (x y limit : ℕ) (result : Result) : Type 0 where
@@ -105,10 +105,10 @@ module _ (words : List ℕ) (x y budget : ℕ) (good : Accepted words x y) where
   start = map decode words
 
   abbrev pub labels : ℕ → ℕ
-  labels = rootLabel (formed (accepted-admitted good))
+  labels = rootLabel (admitted-formed (accepted-admitted good))
 
   start-labelled : Labelled (length words) (parent start) labels
-  start-labelled = root-labelled (formed (accepted-admitted good))
+  start-labelled = root-labelled (admitted-formed (accepted-admitted good))
 
   pub start-serving : Serving (length words) labels x y start 0 (begin (sameSet x y) 0) Unfinished
   start-serving = serving-start (accepted-admitted good) start-labelled (record { x = good .left; y = good .right })
@@ -120,10 +120,10 @@ module _ (words : List ℕ) (x y budget : ℕ) (good : Accepted words x y) where
     same-sets : (i j : ℕ) → i < length words → j < length words
         → forest.Together (parentsOf words) i j ↔ forest.Together (parent (end .nodes)) i j
     same-sets i j inside-i inside-j = (
-      λ z. label-together (formed (end .admitted)) (end .labelled) i j inside-i inside-j
-          (together-label (formed (accepted-admitted good)) start-labelled i j inside-i inside-j z),
-      λ z. label-together (formed (accepted-admitted good)) start-labelled i j inside-i inside-j
-          (together-label (formed (end .admitted)) (end .labelled) i j inside-i inside-j z),
+      λ z. label-together (admitted-formed (end .admitted)) (end .labelled) i j inside-i inside-j
+          (together-label (admitted-formed (accepted-admitted good)) start-labelled i j inside-i inside-j z),
+      λ z. label-together (admitted-formed (accepted-admitted good)) start-labelled i j inside-i inside-j
+          (together-label (admitted-formed (end .admitted)) (end .labelled) i j inside-i inside-j z),
     )
 
     ended-faithful : (4 * length words + 3 ≤ budget → result .queried .answer ≢ 0) → Faithful words x y budget result
@@ -133,8 +133,8 @@ module _ (words : List ℕ) (x y budget : ℕ) (good : Accepted words x y) where
           sets = λ i j inside-i inside-j.
               subst (λ t. forest.Together (parentsOf words) i j ↔ forest.Together (parent t) i j) (sym end-nodes)
               (same-sets i j inside-i inside-j);
-          yes = λ e. label-together (formed (accepted-admitted good)) start-labelled x y (good .left) (good .right) (end .yes e);
-          no = λ e z. end .no e (together-label (formed (accepted-admitted good)) start-labelled x y (good .left) (good .right) z);
+          yes = λ e. label-together (admitted-formed (accepted-admitted good)) start-labelled x y (good .left) (good .right) (end .yes e);
+          no = λ e z. end .no e (together-label (admitted-formed (accepted-admitted good)) start-labelled x y (good .left) (good .right) z);
           within = end .within;
           spent = end .spent;
           enough = enough;

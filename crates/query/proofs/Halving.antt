@@ -17,7 +17,7 @@ use Rattle.rules.proofs.Table.{parent-changed, rank-changed}
 use Rattle.rules.proofs.Finds.{stored, Halved}
 use Rattle.rules.proofs.Finds.Halved.{kept, written}
 use Rattle.query.specs.Admitted.{Admitted}
-use Rattle.query.proofs.Words.{formed}
+use Rattle.query.proofs.Words.{admitted-formed}
 
 pub record Kept (n : ℕ) (t t′ : List Node) (B : ℕ → ℕ) : Type 0 where
   pub admitted : Admitted n t′
@@ -33,11 +33,11 @@ module _ {n : ℕ} {t : List Node} {B : ℕ → ℕ} (admitted : Admitted n t) w
     each-rank = rank-changed t v (record { rank = k; parent = u }) (omega (arith, halving .node, admitted .nodes))
 
     same-ranks : (i : ℕ) → rank (stored t v k u) i ≡ rank t i
-    same-ranks = halving-ranks (formed admitted) halving parents each-rank
+    same-ranks = halving-ranks (admitted-formed admitted) halving parents each-rank
 
     pub halved-admitted : Admitted n (stored t v k u)
     halved-admitted =
-        let stays = halving-formed (formed admitted) halving parents each-rank in
+        let stays = halving-formed (admitted-formed admitted) halving parents each-rank in
         record {
           nodes = length-set t v (record { rank = k; parent = u }) ∙ admitted .nodes;
           few = admitted .few;
@@ -55,6 +55,6 @@ module _ {n : ℕ} {t : List Node} {B : ℕ → ℕ} (admitted : Admitted n t) w
       subst (λ t′. Kept n t t′ B) (sym e)
       (record {
         admitted = halved-admitted halving;
-        labelled = halving-labelled (formed admitted) halving (parents halving) (each-rank halving) labelled;
+        labelled = halving-labelled (admitted-formed admitted) halving (parents halving) (each-rank halving) labelled;
         ranks = same-ranks halving;
       })

@@ -1,27 +1,29 @@
--- One look at a node, on words: each end that it may have, and each way on.
+-- One look at a node, on words: each end that it may have, and each way on. The code hands over the parent that it read.
 --
--- Main laws: looked-on, looked-turned, looked-met, looked-spent, looked-no and looked-again, one for each return of the code.
+--   looks   the result from here on
+--
+-- Main laws: never, no grant is left; looked-on, looked-turned, looked-met, looked-spent, looked-no and looked-again, one for each
+-- return of the code.
 use mathlib.Core.Path.{_≡_, refl, sym, ap, _∙_}
 use mathlib.Core.Logic.{_≢_}
 use mathlib.Core.Bool.{Bool, true, false, not}
 use mathlib.Core.List.{List, map}
-use Prim.Native.Nat.{ℕ, _+_, _-_, _<_}
+use Prim.Native.Nat.{ℕ, _+_, _-_}
 use native.Mathlib.Omega.{arith}
-use lib.ListN.{length, length-map}
 use Rattle.job.specs.declared.Answer.the-variants.{Unfinished, Yes, No}
 use Rattle.word.specs.declared.Node.{Node}
 use Rattle.word.specs.Word.{parentOf, decode}
 use Rattle.process.specs.declared.Head.{Head}
-use Rattle.rules.specs.Table.{at, parent}
-use Rattle.table.proofs.Words.{at-decoded}
+use Rattle.rules.specs.Table.{parent}
 use Rattle.query.specs.Query.{Result, wordAt, steps}
 use Rattle.query.specs.Numbers.{looking, moving, Ready, packed, ended}
+use Rattle.query.proofs.Words.{admitted-at}
 use Rattle.query.proofs.Grants.{rereading, look-moves, look-turns, look-meets, look-differs, reread-root, reread-lower}
 use Rattle.query.proofs.Grants.{told-answer, spent}
 
 -- no grant is left, for looking or for moving on
-pub never : {words : List ℕ} {node other used left end : ℕ} (h : Head) → Ready words node other used left → left ≡ 0 → end ≡ packed Unfinished used
-    → ended end words ≡ steps left used h (map decode words)
+pub never : {words : List ℕ} {node other used left end : ℕ} (h : Head) → Ready words node other used left → left ≡ 0
+    → end ≡ packed Unfinished used → ended end words ≡ steps left used h (map decode words)
 never {words} {used = used} {left = left} {end = end} h ready none told =
     spent words (ready .admitted) left used h end none (omega (arith, ready .room)) told
 
@@ -41,20 +43,17 @@ module _ {words : List ℕ} {node other used left : ℕ} (ready : Ready words no
   abbrev looks : Result
   looks = steps left used (looking node other fromY) t
 
-  own : (i : ℕ) → i < 4096 → at t i ≡ decode (wordAt words i)
-  own i l = at-decoded words i (omega (arith, l, ready .admitted .nodes, length-map words decode))
-
   pub looked-on : {up : ℕ} → up ≡ parentOf (wordAt words node) → up ≢ node
       → looks ≡ steps (left - 1) (used + 1) (moving node other fromY (decode (wordAt words node))) t
   looked-on its lower =
-      let read = own node (ready .inside) in
+      let read = admitted-at words (ready .admitted) node (ready .inside) in
       look-moves t node other left used (left - 1) (used + 1) (omega (arith, some)) (omega arith) fromY
       (λ e. lower (its ∙ sym (ap (λ v. v .parent) read) ∙ e))
       ∙ ap (λ w. steps (left - 1) (used + 1) (moving node other fromY w) t) read
 
   module _ {up : ℕ} (its : up ≡ parentOf (wordAt words node)) (found : up ≡ node) where
     root : parent t node ≡ node
-    root = ap (λ v. v .parent) (own node (ready .inside)) ∙ sym its ∙ found
+    root = ap (λ v. v .parent) (admitted-at words (ready .admitted) node (ready .inside)) ∙ sym its ∙ found
 
     pub looked-turned : not fromY ≡ true → looks ≡ steps (left - 1) (used + 1) (looking other node true) t
     looked-turned first =
@@ -82,7 +81,7 @@ module _ {words : List ℕ} {node other used left : ℕ} (ready : Ready words no
 
         module _ (two : left ≢ 1) where
           reread : {up′ : ℕ} → up′ ≡ parentOf (wordAt words other) → parent t other ≡ up′
-          reread its′ = ap (λ v. v .parent) (own other (ready .within)) ∙ sym its′
+          reread its′ = ap (λ v. v .parent) (admitted-at words (ready .admitted) other (ready .within)) ∙ sym its′
 
           pub looked-no : {up′ end : ℕ} → up′ ≡ parentOf (wordAt words other) → up′ ≡ other → end ≡ packed No (used + 2)
               → ended end words ≡ looks

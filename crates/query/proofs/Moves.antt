@@ -7,7 +7,7 @@ use mathlib.Core.Bool.{Bool}
 use mathlib.Core.List.{List, map}
 use Prim.Native.Nat.{ℕ, _+_, _-_, _≤_, _<_}
 use native.Mathlib.Omega.{arith}
-use lib.ListN.{length, set, length-map}
+use lib.ListN.{set}
 use borrow.Author.Tests.{eq-eqb}
 use Rattle.linearization.proofs.Tests.{split}
 use Rattle.mask.proofs.Lists.{set-mapped}
@@ -19,11 +19,11 @@ use Rattle.process.specs.declared.Access.the-variants.{Cas}
 use Rattle.forest.proofs.Halving.{Halving}
 use Rattle.rules.specs.Table.{at, parent, rank, touched}
 use Rattle.rules.proofs.Finds.{Above, own-parent, above-parent}
-use Rattle.table.proofs.Words.{at-decoded, decode-words}
+use Rattle.table.proofs.Words.{decode-words}
 use Rattle.query.specs.Query.{wordAt, steps}
 use Rattle.query.specs.Admitted.{Admitted}
 use Rattle.query.specs.Numbers.{looking, moving, Ready, Lower, packed, ended}
-use Rattle.query.proofs.Words.{formed, admitted-worded, words-kept}
+use Rattle.query.proofs.Words.{admitted-formed, admitted-worded, admitted-at, words-kept}
 use Rattle.query.proofs.Labels.{rootLabel, root-labelled}
 use Rattle.query.proofs.Halving.{halved-admitted}
 use Rattle.query.proofs.Grants.{swapping, again, move-reads, move-swaps, move-ends, spent}
@@ -36,12 +36,12 @@ swap-admitted : {n : ℕ} {t : List Node} → Admitted n t → (v : ℕ) → v <
 swap-admitted {n} {t} admitted v node lower =
     split (same (at t v) (at t v)) (λ e. rw e (halved-admitted admitted may)) (λ e. rw e admitted)
   where
-    above : Above n (parent t) (rank t) (rootLabel (formed admitted)) v (parent t (parent t v))
+    above : Above n (parent t) (rank t) (rootLabel (admitted-formed admitted)) v (parent t (parent t v))
     above =
-        above-parent (formed admitted) (root-labelled (formed admitted))
-        (own-parent (formed admitted) (root-labelled (formed admitted)) v node lower)
+        above-parent (admitted-formed admitted) (root-labelled (admitted-formed admitted))
+        (own-parent (admitted-formed admitted) (root-labelled (admitted-formed admitted)) v node lower)
 
-    may : Halving n (parent t) (rank t) (rootLabel (formed admitted)) v (rank t v) (parent t (parent t v))
+    may : Halving n (parent t) (rank t) (rootLabel (admitted-formed admitted)) v (rank t v) (parent t (parent t v))
     may = record { node = node; target = above .node; lower = lower; rank = refl; same = above .same; before = above .before }
 
 -- a swap that compares words compares their nodes
@@ -50,11 +50,8 @@ module _ (words : List ℕ) (node word above : ℕ) (admitted : Admitted 4096 (m
   abbrev new : Node
   new = record { rank = rankOf word; parent = above }
 
-  within : node < length words
-  within = omega (arith, inside, admitted .nodes, length-map words decode)
-
   found : at (map decode words) node ≡ decode (wordAt words node)
-  found = at-decoded words node within
+  found = admitted-at words admitted node inside
 
   pub swap-wrote : wordAt words node ≡ word → (stored : ℕ) → stored ≡ encode new
       → set words node stored ≡ map encode (touched (map decode words) (Cas node (decode word) new))
@@ -84,12 +81,9 @@ module _ {words : List ℕ} {node other used left : ℕ} (ready : Ready words no
   abbrev t : List Node
   t = map decode words
 
-  read : (i : ℕ) → i < 4096 → at t i ≡ decode (wordAt words i)
-  read i l = at-decoded words i (omega (arith, l, ready .admitted .nodes, length-map words decode))
-
   -- the word read is the node's own
   own : at t node ≡ decode word
-  own = read node (ready .inside) ∙ ap decode (sym (lower .read))
+  own = admitted-at words (ready .admitted) node (ready .inside) ∙ ap decode (sym (lower .read))
 
   own-parent-up : parent t node ≡ up
   own-parent-up = ap (λ v. v .parent) own ∙ sym its
@@ -102,7 +96,7 @@ module _ {words : List ℕ} {node other used left : ℕ} (ready : Ready words no
 
   module _ {above : ℕ} (seen : above ≡ parentOf (wordAt words up)) where
     grandparent : parent t up ≡ above
-    grandparent = ap (λ v. v .parent) (read up up-inside) ∙ sym seen
+    grandparent = ap (λ v. v .parent) (admitted-at words (ready .admitted) up up-inside) ∙ sym seen
 
     pub above-inside : above < 4096
     above-inside = omega (arith, ready .admitted .inside up up-inside, grandparent)
@@ -162,8 +156,7 @@ module _ {words : List ℕ} {node other used left : ℕ} (ready : Ready words no
       module _ {next : ℕ} (seen-again : next ≡ parentOf (wordAt words′ up)) (three : 3 ≤ left) where
         next-parent : parent (map decode words′) up ≡ next
         next-parent =
-            ap (λ v. v .parent) (at-decoded words′ up (omega (arith, up-inside, admitted′ .nodes, length-map words′ decode)))
-            ∙ sym seen-again
+            ap (λ v. v .parent) (admitted-at words′ admitted′ up up-inside) ∙ sym seen-again
 
         pub moved-ready : Ready words′ next other (used + 3) (left - 3)
         moved-ready =

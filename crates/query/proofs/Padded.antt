@@ -5,12 +5,11 @@
 -- Main laws: padded-admitted, the array is admitted; steps-padded, the steps are the same on it.
 use mathlib.Core.Path.{_≡_, refl, sym, ap, _∙_, subst}
 use mathlib.Core.Logic.{_≢_}
-use mathlib.Core.Bool.{cond}
 use mathlib.Core.List.{List, _++_, map, map-append}
 use Prim.Native.Nat.{ℕ, zero, suc, _+_, _-_, _≤_, _<_}
 use native.Mathlib.Omega.{arith}
 use native.Mathlib.Decide.{decLt}
-use lib.ListN.{length, set, length-append, List·getD-append}
+use lib.ListN.{length, length-append, List·getD-append}
 use lib.Seq.{getD-append-add, set-append-left}
 use Rattle.linearization.proofs.Tests.{split}
 use Rattle.job.specs.declared.Answer.{Answer}
@@ -28,8 +27,8 @@ use Rattle.table.specs.Touch.{Within}
 use Rattle.table.proofs.Words.{decode-words}
 use Rattle.query.specs.Query.{Result, answered, granted, steps}
 use Rattle.query.specs.Admitted.{Admitted}
-use Rattle.query.specs.Numbers.{padded}
 use Rattle.query.proofs.Words.{admitted-worded, words-kept}
+use Rattle.query.proofs.Copies.{padded}
 use Rattle.query.proofs.Steps.{Serving, serving-within, serving-goes-on}
 
 -- ---- the array is admitted

@@ -1,8 +1,10 @@
 -- One step of an enquiry, stage by stage: the table stays admitted, its sets stay, and an answer is right about them.
 --
---   Says B x y answer   the answer is right about the sets of x and y
---   Serving             what holds of the enquiry about x and y between two grants
---   Next t′ next     what holds of the enquiry after the grant that led to `next`, on the table t′
+-- B gives each node a label: two nodes have one label when they share a set.
+--
+--   Says B x y answer           the answer is right about the sets of x and y
+--   Serving n B x y t used h    what holds of the enquiry about x and y after so many grants, on the table t of n nodes
+--   Next t′ next                what holds of the enquiry after the grant that led to `next`, on the table t′
 --
 -- Main laws: serving-step, what holds of an enquiry holds after one step more; serving-start, it holds at the start.
 use mathlib.Core.Path.{_≡_, refl, sym, ap, _∙_, subst}
@@ -45,7 +47,7 @@ use Rattle.table.specs.Touch.{Within}
 use Rattle.table.proofs.Within.{access-within}
 use Rattle.query.specs.Query.{granted, sameSet}
 use Rattle.query.specs.Admitted.{Admitted}
-use Rattle.query.proofs.Words.{formed}
+use Rattle.query.proofs.Words.{admitted-formed}
 use Rattle.query.proofs.Halving.{Kept, unwritten, halved-keeps}
 
 abbrev pub Says : (ℕ → ℕ) → ℕ → ℕ → Answer → Type 0
@@ -141,12 +143,12 @@ module _ {n : ℕ} (B : ℕ → ℕ) {a b : ℕ} (inside : Inside n (sameSet a b
       node = find-node k (knows .finding) e
 
       pub find-keeps : Kept n t (touched t (findAccess (nodeAt k e) s)) B
-      find-keeps = halved-keeps admitted labelled (find-halved t (admitted .nodes) (formed admitted) labelled node s (knows .find))
+      find-keeps = halved-keeps admitted labelled (find-halved t (admitted .nodes) (admitted-formed admitted) labelled node s (knows .find))
 
       find-step : Next (touched t (findAccess (nodeAt k e) s)) (followed k e (suc used) (walked (nodeAt k e) (seen t (findAccess (nodeAt k e) s)) s))
       find-step =
           follows find-keeps e (knows .finding) (walked (nodeAt k e) (seen t (findAccess (nodeAt k e) s)) s)
-          (find-walks t (admitted .nodes) (formed admitted) labelled node s (knows .find))
+          (find-walks t (admitted .nodes) (admitted-formed admitted) labelled node s (knows .find))
 
     reread-x : (point : ℕ) → Rereading n (parent t) B (λ point. B a ≢ B b) used (sameSet a b) (k .x) (k .y) point
         → Next t (reread k point (at t (k .x)))
