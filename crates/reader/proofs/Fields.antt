@@ -13,7 +13,7 @@ use borrow.Author.Tests.{le-ltb}
 use Rattle.job.specs.declared.Kind.{Kind}
 use Rattle.job.specs.Job.{kindOf}
 use Rattle.jobfile.specs.declared.Run.{Run}
-use Rattle.jobfile.specs.Format.{word, extends}
+use Rattle.jobfile.specs.Format.{runSize, word, extends}
 use Rattle.jobfile.specs.Meaning.{fieldsAt, requestAt, runAt, runRefusal}
 
 module _ (s : List ℕ) (at : ℕ) where
@@ -41,7 +41,7 @@ module _ (s : List ℕ) (at : ℕ) where
   run-read head count h n = λ i. record { head = (h ∙ sym (getD-drop at s 2 0)) i; count = (n ∙ sym (getD-drop at s 3 0)) i }
 
 -- The refusal of a run that is whole, by its numbers.
-pub run-numbers : (heads : ℕ) (before r : Run) (t : List ℕ) → r ≡ runAt t → 4 ≤ length t
+pub run-numbers : (heads : ℕ) (before r : Run) (t : List ℕ) → r ≡ runAt t → runSize ≤ length t
     → runRefusal heads before t ≡ cond (leb heads (r .head)) 10 (cond (eqb (r .count) 0) 10 (cond (extends before (r .head)) 11 0))
 unfolding runRefusal
-run-numbers heads before r t e l = rw (e, le-ltb (length t) 4 l)
+run-numbers heads before r t e l = rw (e, le-ltb (length t) runSize l)

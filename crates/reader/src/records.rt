@@ -2,6 +2,8 @@
 use job::Kind;
 use job::Request;
 use jobfile::Fields;
+use jobfile::REQUEST_SIZE;
+use jobfile::RUN_SIZE;
 use jobfile::Run;
 use jobfile::bytes::byte_at;
 use jobfile::bytes::word_at;
@@ -11,7 +13,7 @@ ghost use mathlib.Core.Path.{_≡_};
 ghost use Prim.Native.Nat.{_+_, _≤_};
 ghost use lib.ListN.{length, drop};
 ghost use Rattle.job.specs.Job.{kindOf};
-ghost use Rattle.jobfile.specs.Format.{mostBytes};
+ghost use Rattle.jobfile.specs.Format.{requestSize, mostBytes};
 ghost use Rattle.jobfile.specs.Meaning.{fieldsAt, requestAt, runAt, requestRefusal, runRefusal};
 
 // The kind of an admitted number.
@@ -27,7 +29,7 @@ fn kind_of(number: u8) -> Kind
 
 // The request at a place.
 pub fn request_here(file: &[u8], at: usize) -> Request
-    requires { ⌜ at + 8 ≤ mostBytes ⌝ }
+    requires { ⌜ at + requestSize ≤ mostBytes ⌝ }
     ensures { λ r. ⌜ r ≡ requestAt (drop at (now (file .entry))) ⌝ }
 {
     let head = byte_at(file, at + 2);
@@ -44,7 +46,7 @@ pub fn request_here(file: &[u8], at: usize) -> Request
 
 // The numbers of the request at a place.
 fn fields_here(file: &[u8], at: usize) -> Fields
-    requires { ⌜ at + 8 ≤ mostBytes ⌝ }
+    requires { ⌜ at + requestSize ≤ mostBytes ⌝ }
     ensures { λ r. ⌜ r ≡ fieldsAt (drop at (now (file .entry))) ⌝ }
 {
     let head = byte_at(file, at + 2);
@@ -65,7 +67,7 @@ pub fn request_refusal(file: &[u8], at: usize, nodes: u32, heads: u32, number: u
     requires { ⌜ length (now file) ≤ mostBytes ⌝ }
     ensures { λ r. ⌜ r ≡ requestRefusal nodes heads number (drop at (now (file .entry))) ⌝ }
 {
-    if file.len() - at < 8 {
+    if file.len() - at < REQUEST_SIZE {
         return 2;
     }
     if 512 <= number {
@@ -93,7 +95,7 @@ pub fn run_refusal(file: &[u8], at: usize, heads: u32, before: Run) -> u32
     requires { ⌜ length (now file) ≤ mostBytes ⌝ }
     ensures { λ r. ⌜ r ≡ runRefusal heads before (drop at (now (file .entry))) ⌝ }
 {
-    if file.len() - at < 4 {
+    if file.len() - at < RUN_SIZE {
         return 2;
     }
     let run = run_here(file, at);
