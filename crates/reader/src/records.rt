@@ -17,30 +17,13 @@ ghost use Rattle.jobfile.specs.Format.{requestSize, mostBytes};
 ghost use Rattle.jobfile.specs.Meaning.{fieldsAt, requestAt, runAt, requestRefusal, runRefusal};
 
 // The kind of an admitted number.
-fn kind_of(number: u8) -> Kind
+fn kind_of(number: u32) -> Kind
     ensures { λ r. ⌜ r ≡ kindOf number ⌝ }
 {
     if number == 1 {
         Kind::Union
     } else {
         Kind::SameSet
-    }
-}
-
-// The request at a place.
-pub fn request_here(file: &[u8], at: usize) -> Request
-    requires { ⌜ at + requestSize ≤ mostBytes ⌝ }
-    ensures { λ r. ⌜ r ≡ requestAt (drop at (now (file .entry))) ⌝ }
-{
-    let head = byte_at(file, at + 2);
-    let kind = kind_of(byte_at(file, at + 3));
-    let x = word_at(file, at + 4);
-    let y = word_at(file, at + 6);
-    Request {
-        head: head,
-        kind: kind,
-        x: x,
-        y: y,
     }
 }
 
@@ -58,6 +41,21 @@ fn fields_here(file: &[u8], at: usize) -> Fields
         kind: kind as u32,
         x: x as u32,
         y: y as u32,
+    }
+}
+
+// The request at a place.
+pub fn request_here(file: &[u8], at: usize) -> Request
+    requires { ⌜ at + requestSize ≤ mostBytes ⌝ }
+    ensures { λ r. ⌜ r ≡ requestAt (drop at (now (file .entry))) ⌝ }
+{
+    let fields = fields_here(file, at);
+    let kind = kind_of(fields.kind);
+    Request {
+        head: fields.head as u8,
+        kind: kind,
+        x: fields.x as u16,
+        y: fields.y as u16,
     }
 }
 
