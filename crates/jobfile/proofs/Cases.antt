@@ -4,26 +4,14 @@
 use mathlib.Core.Path.{_≡_, refl}
 use mathlib.Core.List.{map}
 use Rattle.jobfile.specs.Format.{sizesRefusal, fieldsRefusal, lengthRefusal}
-use Rattle.jobfile.specs.Meaning.{
-  recordsWithin,
-  records,
-  headerRefusal,
-  requestRefusal,
-  requestsRefusal,
-  runRefusal,
-  runsRefusal,
-  closeRefusal,
-  balanceRefusal,
-  fileRefusal,
-  jobIn,
-  meaning,
-}
+use Rattle.jobfile.specs.Meaning.{recordsWithin, records, sectionRefusal, headerRefusal, requestRefusal, runRefusal, closeRefusal}
+use Rattle.jobfile.specs.Meaning.{balanceRefusal, fileRefusal, jobIn, meaning}
 use Rattle.jobfile.specs.Written.{fileWith, written}
 use Rattle.jobfile.specs.Draft.{jobOf, countRefusal, eachRefusal, grantsRefusal, draftRefusal}
 use Rattle.jobfile.specs.Cases.{cases, outcome, wanted}
 
 pub format-cases : map outcome cases ≡ map wanted cases
-unfolding sizesRefusal fieldsRefusal lengthRefusal recordsWithin records headerRefusal requestRefusal requestsRefusal runRefusal
-    runsRefusal closeRefusal balanceRefusal fileRefusal jobIn meaning fileWith written jobOf countRefusal eachRefusal grantsRefusal
+unfolding sizesRefusal fieldsRefusal lengthRefusal recordsWithin records sectionRefusal headerRefusal requestRefusal runRefusal
+    closeRefusal balanceRefusal fileRefusal jobIn meaning fileWith written jobOf countRefusal eachRefusal grantsRefusal
     draftRefusal
 format-cases = refl

@@ -5,6 +5,7 @@ mod Sums
 pub mod Records
 pub mod Runs
 pub mod Passed
+pub mod Layouts
 pub mod Forward
 pub mod Backward
 pub mod Drafts

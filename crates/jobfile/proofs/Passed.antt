@@ -3,39 +3,43 @@
 --   RequestPassed, RunPassed, ClosePassed, HeaderPassed, FilePassed   the facts, by what is checked
 --   requests-few        requests that are not refused are at most 512
 --   each-serves         and each is served by one of the heads, on two of the nodes
---   requests-fit, runs-fit   the records of a section that is not refused are whole
 use mathlib.Core.Path.{_≡_}
 use mathlib.Core.Bool.{false, not}
 use mathlib.Core.List.{List, [], _∷_, map}
-use Prim.Native.Nat.{ℕ, zero, suc, _+_, _*_, _%_, _≤_, _<_}
+use Prim.Native.Nat.{ℕ, zero, suc, _+_, _%_, _≤_, _<_}
 use native.Mathlib.Omega.{arith}
 use lib.Dec.{eqb, ltb, leb}
-use lib.ListN.{length, getD, drop, length-drop}
+use lib.ListN.{length, getD, drop}
 use borrow.Author.Tests.{eqb-true, eqb-false, ltb-false, leb-false, not-false}
 use Rattle.job.specs.declared.Request.{Request}
 use Rattle.jobfile.specs.declared.Run.{Run}
-use Rattle.jobfile.specs.Format.{jobMark, requestMark, runMark, closeMark, mostBytes, mostRequests, word, wordSum, extends, lengthRefusal}
-use Rattle.jobfile.specs.Meaning.{nodesIn, headsIn, headerRefusal, fieldsAt, requestAt, requestRefusal, requestsRefusal, runAt, runRefusal, runsRefusal, fullRun, closeRefusal, balanceRefusal, requestRecords, runRecords, closeStart, fileRefusal}
+use Rattle.jobfile.specs.Format.{jobMark, closeMark, jobSize, requestSize, runSize, closeSize, mostBytes, mostRequests, word, wordSum}
+use Rattle.jobfile.specs.Format.{extends, lengthRefusal}
+use Rattle.jobfile.specs.Meaning.{sectionRefusal, nodesIn, headsIn, headerRefusal, fieldsAt, requestAt, requestRefusal}
+use Rattle.jobfile.specs.Meaning.{requestsRefusal, runRefusal, runsRefusal, fullRun, closeRefusal, balanceRefusal, requestRecords}
+use Rattle.jobfile.specs.Meaning.{runRecords, closeStart, fileRefusal}
 use Rattle.jobfile.specs.Admitted.{Serves}
 use Rattle.jobfile.proofs.Tests.{passed, through, Sized, sized, Fit, fit}
-use Rattle.jobfile.proofs.Records.{Section}
-use Rattle.jobfile.proofs.Records.Section.{over, more}
 
 pub record RequestPassed (nodes heads number : ℕ) (t : List ℕ) : Type 0 where
-  pub whole : 8 ≤ length t
+  pub whole : requestSize ≤ length t
   pub counted : number < mostRequests
   pub fields : Fit nodes heads (fieldsAt t)
 
 pub request-passed : (nodes heads number : ℕ) (t : List ℕ) → requestRefusal nodes heads number t ≡ 0 → RequestPassed nodes heads number t
 unfolding requestRefusal
 request-passed nodes heads number t e =
-    let a = passed (ltb (length t) 8) 1 _ e in
+    let a = passed (ltb (length t) requestSize) 1 _ e in
     let b = passed (leb mostRequests number) 8 _ (a .rest) in
-    record { whole = ltb-false (length t) 8 (a .test); counted = leb-false mostRequests number (b .test); fields = fit nodes heads (fieldsAt t) (b .rest) }
+    record {
+      whole = ltb-false (length t) requestSize (a .test);
+      counted = leb-false mostRequests number (b .test);
+      fields = fit nodes heads (fieldsAt t) (b .rest);
+    }
 
 pub requests-few : (nodes heads number : ℕ) (ts : List (List ℕ)) → number ≤ mostRequests → requestsRefusal nodes heads number ts ≡ 0
     → number + length ts ≤ mostRequests
-unfolding requestsRefusal
+unfolding sectionRefusal
 requests-few nodes heads number [] l e = omega arith
 requests-few nodes heads number (t ∷ ts) l e =
     let p = through _ _ e in
@@ -44,7 +48,7 @@ requests-few nodes heads number (t ∷ ts) l e =
 
 pub each-serves : (nodes heads number : ℕ) (ts : List (List ℕ)) → requestsRefusal nodes heads number ts ≡ 0
     → (q : ℕ) (none : Request) → q < length (map requestAt ts) → Serves nodes heads (getD (map requestAt ts) q none)
-unfolding requestsRefusal
+unfolding sectionRefusal
 each-serves nodes heads number [] e q none l = absurd (omega arith)
 each-serves nodes heads number (t ∷ ts) e zero none l =
     let f = request-passed nodes heads number t (through _ _ e .first) .fields in
@@ -55,7 +59,7 @@ each-serves nodes heads number (t ∷ ts) e (suc q) none l =
 
 -- What it says of a run that its head is admitted, it grants something, and it could not have joined the run before it.
 pub record RunPassed (heads : ℕ) (before : Run) (t : List ℕ) : Type 0 where
-  pub whole : 4 ≤ length t
+  pub whole : runSize ≤ length t
   pub head : getD t 2 0 < heads
   pub some : 0 < getD t 3 0
   pub apart : extends before (getD t 2 0) ≡ false
@@ -63,52 +67,36 @@ pub record RunPassed (heads : ℕ) (before : Run) (t : List ℕ) : Type 0 where
 pub run-passed : (heads : ℕ) (before : Run) (t : List ℕ) → runRefusal heads before t ≡ 0 → RunPassed heads before t
 unfolding runRefusal
 run-passed heads before t e =
-    let a = passed (ltb (length t) 4) 1 _ e in
+    let a = passed (ltb (length t) runSize) 1 _ e in
     let h = passed (leb heads (getD t 2 0)) 9 _ (a .rest) in
     let n = passed (eqb (getD t 3 0) 0) 9 _ (h .rest) in
     let x = passed (extends before (getD t 2 0)) 10 _ (n .rest) in
     record {
-      whole = ltb-false (length t) 4 (a .test);
+      whole = ltb-false (length t) runSize (a .test);
       head = leb-false heads (getD t 2 0) (h .test);
       some = omega (arith, eqb-false (getD t 3 0) 0 (n .test));
       apart = x .test;
     }
 
--- Requests and runs that are not refused are whole, so their bytes are in the file.
-pub requests-fit : {t rest : List ℕ} {ts : List (List ℕ)} (nodes heads number : ℕ) → Section 8 requestMark t ts rest
-    → requestsRefusal nodes heads number ts ≡ 0 → 8 * length ts ≤ length t
-unfolding requestsRefusal
-requests-fit nodes heads number over e = omega arith
-requests-fit {t} nodes heads number (more m s) e =
-    let p = through (requestRefusal nodes heads number t) _ e in
-    let q = request-passed nodes heads number t (p .first) in
-    omega (arith, requests-fit nodes heads (number + 1) s (p .second), length-drop 8 t)
-
-pub runs-fit : {t rest : List ℕ} {ts : List (List ℕ)} (heads : ℕ) (before : Run) → Section 4 runMark t ts rest
-    → runsRefusal heads before ts ≡ 0 → 4 * length ts ≤ length t
-unfolding runsRefusal
-runs-fit heads before over e = omega arith
-runs-fit {t} heads before (more m s) e =
-    let p = through (runRefusal heads before t) _ e in
-    let q = run-passed heads before t (p .first) in
-    omega (arith, runs-fit heads (runAt t) s (p .second), length-drop 4 t)
-
 pub record ClosePassed (t : List ℕ) : Type 0 where
   pub marked : word t ≡ closeMark
-  pub whole : length t ≡ 4
+  pub whole : length t ≡ closeSize
 
 pub close-passed : (t : List ℕ) → closeRefusal t ≡ 0 → ClosePassed t
 unfolding closeRefusal
 close-passed t e =
     let a = passed (ltb (length t) 2) 1 _ e in
     let m = passed (not (eqb (word t) closeMark)) 2 _ (a .rest) in
-    let w = passed (ltb (length t) 4) 1 _ (m .rest) in
-    let n = passed (ltb 4 (length t)) 11 _ (w .rest) in
-    record { marked = eqb-true (word t) closeMark (not-false _ (m .test)); whole = omega (arith, ltb-false (length t) 4 (w .test), ltb-false 4 (length t) (n .test)) }
+    let w = passed (ltb (length t) closeSize) 1 _ (m .rest) in
+    let n = passed (ltb closeSize (length t)) 11 _ (w .rest) in
+    record {
+      marked = eqb-true (word t) closeMark (not-false _ (m .test));
+      whole = omega (arith, ltb-false (length t) closeSize (w .test), ltb-false closeSize (length t) (n .test));
+    }
 
 pub record HeaderPassed (s : List ℕ) : Type 0 where
   pub marked : word s ≡ jobMark
-  pub whole : 6 ≤ length s
+  pub whole : jobSize ≤ length s
   pub sizes : Sized (nodesIn s) (headsIn s)
 
 pub header-passed : (s : List ℕ) → headerRefusal s ≡ 0 → HeaderPassed s
@@ -116,8 +104,12 @@ unfolding headerRefusal
 header-passed s e =
     let a = passed (ltb (length s) 2) 1 _ e in
     let m = passed (not (eqb (word s) jobMark)) 2 _ (a .rest) in
-    let w = passed (ltb (length s) 6) 1 _ (m .rest) in
-    record { marked = eqb-true (word s) jobMark (not-false _ (m .test)); whole = ltb-false (length s) 6 (w .test); sizes = sized (nodesIn s) (headsIn s) (w .rest) }
+    let w = passed (ltb (length s) jobSize) 1 _ (m .rest) in
+    record {
+      marked = eqb-true (word s) jobMark (not-false _ (m .test));
+      whole = ltb-false (length s) jobSize (w .test);
+      sizes = sized (nodesIn s) (headsIn s) (w .rest);
+    }
 
 -- What it says that a file is not refused, check by check.
 pub record FilePassed (s : List ℕ) : Type 0 where

@@ -1,10 +1,9 @@
 -- Where the parts of an accepted file stand, so that they can be read in place, and how many there can be.
 --
---   length-requests, length-runs, length-written   the lengths of what is written
+--   length-written      the length of what is written
 --   file-short          an accepted file is at most 32,768 bytes
---   file-length         an accepted file is its header, 8 bytes a request, 4 a run, and the close
---   request-stands      request q of an accepted file stands at byte 6 + 8 q
---   run-stands          run i of an accepted file stands 4 i bytes behind the requests
+--   file-length         an accepted file is its header, its requests, its runs and the close
+--   request-stands, run-stands   request q and run i of an accepted file stand in their places
 --   runs-meant          the runs of an accepted file are the longest of its schedule
 --   granted-next, granted-end   the schedule of the runs from run i on
 --   few-grants          an admitted job has at most 2,088,195 grants
@@ -18,27 +17,21 @@ use lib.Seq.{drop-drop, drop-cons}
 use Rattle.job.specs.declared.Request.{Request}
 use Rattle.job.specs.Job.{Job}
 use Rattle.jobfile.specs.declared.Run.{Run}
-use Rattle.jobfile.specs.Format.{mostBytes}
-use Rattle.jobfile.specs.Meaning.{headsIn, requestAt, runAt, fullRun, granted, requestRecords, runsStart, runRecords, runsIn, jobIn, meaning}
-use Rattle.jobfile.specs.Written.{requestsBytes, runsBytes, longestRuns, fileWith, written}
+use Rattle.jobfile.specs.Format.{runSize, requestPlace, runPlace, fileSize, mostBytes}
+use Rattle.jobfile.specs.Meaning.{headsIn, requestAt, runAt, fullRun, granted, requestRecords, runsStart, runRecords, runsIn, jobIn}
+use Rattle.jobfile.specs.Meaning.{meaning}
+use Rattle.jobfile.specs.Written.{longestRuns, fileWith, written}
 use Rattle.jobfile.specs.Admitted.{Admitted, Bytes}
-use Rattle.jobfile.proofs.Records.{section-at}
+use Rattle.jobfile.proofs.Records.{section-at, length-records}
 use Rattle.jobfile.proofs.Runs.{longest-follow, longest-granted, granted-longest, granted-few}
 use Rattle.jobfile.proofs.Passed.{file-passed}
+use Rattle.jobfile.proofs.Layouts.{requestLayout, runLayout}
 use Rattle.jobfile.proofs.Backward.{request-section, run-section, runs-rule}
 use Rattle.jobfile.proofs.RoundTrip.{accepts-all, job-meant, written-meaning}
 
-pub length-requests : (qs : List Request) → length (requestsBytes qs) ≡ 8 * length qs
-length-requests [] = refl
-length-requests (q ∷ qs) = omega (arith, length-requests qs)
-
-pub length-runs : (rs : List Run) → length (runsBytes rs) ≡ 4 * length rs
-length-runs [] = refl
-length-runs (r ∷ rs) = omega (arith, length-runs rs)
-
-pub length-written : (j : Job) → length (written j) ≡ 10 + 8 * length (j .requests) + 4 * length (longestRuns (j .schedule))
+pub length-written : (j : Job) → length (written j) ≡ fileSize (length (j .requests)) (length (longestRuns (j .schedule)))
 unfolding written fileWith
-length-written j = simp (length-append, length-requests, length-runs) (omega arith)
+length-written j = simp (length-append, length-records (requestLayout 0 0), length-records (runLayout 0)) (omega arith)
 
 pub few-grants : (j : Job) → Admitted j → length (j .schedule) ≤ 2088195
 few-grants j a =
@@ -50,25 +43,31 @@ module _ (s : List ℕ) (bytes : Bytes s) (accepts : meaning s .number ≡ 0) wh
   unfolding jobIn
   requests-counted = rw (job-meant s bytes accepts, length-map)
 
-  pub request-stands : (q : ℕ) (none : Request) → q < length (meaning s .job .requests) → getD (meaning s .job .requests) q none ≡ requestAt (drop (6 + 8 * q) s)
+  pub request-stands : (q : ℕ) (none : Request) → q < length (meaning s .job .requests)
+      → getD (meaning s .job .requests) q none ≡ requestAt (drop (requestPlace q) s)
   unfolding jobIn
-  request-stands q none l = rw (job-meant s bytes accepts, ← drop-drop) (section-at (request-section s) requestAt q none (omega (arith, requests-counted)))
+  request-stands q none l =
+      rw (job-meant s bytes accepts, ← drop-drop) (section-at (request-section s) requestAt q none (omega (arith, requests-counted)))
 
   pub runs-meant : longestRuns (meaning s .job .schedule) ≡ runsIn s
   unfolding jobIn
-  runs-meant = rw (job-meant s bytes accepts) (longest-granted (headsIn s) fullRun (runsIn s) (runs-rule s bytes (file-passed s (accepts-all s bytes accepts))))
+  runs-meant =
+      rw (job-meant s bytes accepts)
+      (longest-granted (headsIn s) fullRun (runsIn s) (runs-rule s bytes (file-passed s (accepts-all s bytes accepts))))
 
   runs-counted : length (longestRuns (meaning s .job .schedule)) ≡ length (runRecords s)
   runs-counted = rw (runs-meant, length-map)
 
   pub run-stands : (i : ℕ) (none : Run) → i < length (longestRuns (meaning s .job .schedule))
-      → getD (longestRuns (meaning s .job .schedule)) i none ≡ runAt (drop (6 + 8 * length (meaning s .job .requests) + 4 * i) s)
-  run-stands i none l = rw (runs-meant, requests-counted) (section-at (run-section s) runAt i none (omega (arith, runs-counted)) ∙ ap runAt (drop-drop (4 * i) (runsStart s) s))
+      → getD (longestRuns (meaning s .job .schedule)) i none ≡ runAt (drop (runPlace (length (meaning s .job .requests)) i) s)
+  run-stands i none l =
+      rw (runs-meant, requests-counted)
+      (section-at (run-section s) runAt i none (omega (arith, runs-counted)) ∙ ap runAt (drop-drop (runSize * i) (runsStart s) s))
 
   pub file-short : length s ≤ mostBytes
   file-short = file-passed s (accepts-all s bytes accepts) .short
 
-  pub file-length : length s ≡ 10 + 8 * length (meaning s .job .requests) + 4 * length (longestRuns (meaning s .job .schedule))
+  pub file-length : length s ≡ fileSize (length (meaning s .job .requests)) (length (longestRuns (meaning s .job .schedule)))
   file-length = ap length (sym (written-meaning s bytes accepts)) ∙ length-written (meaning s .job)
 
 -- The schedule of the runs from run i on: that run's grants, then those of the runs behind it.

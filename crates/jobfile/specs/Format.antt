@@ -2,6 +2,9 @@
 -- A refusal is its number in document 01; 0 is none.
 --
 --   jobMark, requestMark, runMark, closeMark   the marks of the four records, as 16-bit words
+--   jobSize, requestSize, runSize, closeSize   the bytes of each
+--   requestPlace q, runPlace n i   the bytes where request q stands, and run i behind n requests
+--   fileSize n i            the bytes of a file with n requests and i runs
 --   mostBytes, mostNodes, mostHeads, mostRequests, mostGrants   the largest file, job and run
 --   word t, wordBytes w     the 16-bit word at the start of t, and the two bytes of the word w
 --   wordSum s               the sum of the 16-bit words of s
@@ -36,6 +39,34 @@ runMark = 0x5247
 -- and the close's.
 abbrev pub closeMark : ℕ
 closeMark = 0x4C43
+
+-- With its mark, the job's record has 6 bytes,
+abbrev pub jobSize : ℕ
+jobSize = 6
+
+-- a request 8,
+abbrev pub requestSize : ℕ
+requestSize = 8
+
+-- a run 4
+abbrev pub runSize : ℕ
+runSize = 4
+
+-- and the close 4.
+abbrev pub closeSize : ℕ
+closeSize = 4
+
+-- Request q stands behind the job's record and q requests,
+abbrev pub requestPlace : ℕ → ℕ
+requestPlace q = jobSize + requestSize * q
+
+-- run i behind all requests and i runs; the close is where a run more would be,
+abbrev pub runPlace : ℕ → ℕ → ℕ
+runPlace requests i = requestPlace requests + runSize * i
+
+-- and it ends the file.
+abbrev pub fileSize : ℕ → ℕ → ℕ
+fileSize requests runs = runPlace requests runs + closeSize
 
 -- A file has at most 32,768 bytes.
 abbrev pub mostBytes : ℕ

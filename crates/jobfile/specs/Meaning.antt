@@ -3,6 +3,7 @@
 --   records size m t    the rest of the file at each record of a section: t, then what follows each record of that
 --                       size, as long as the mark is m
 --   recordsWithin n size m t   the first n of them
+--   sectionRefusal check next before ts   the first refusal of a section's records, each checked with what those before it leave
 --   fieldsAt t, requestAt t, runAt t   the numbers of the request, the request and the run at the start of t
 --   headerRefusal, requestRefusal, requestsRefusal, runRefusal, runsRefusal, closeRefusal, balanceRefusal   the checks
 --   fullRun             what stands before the first run
@@ -22,7 +23,9 @@ use Rattle.job.specs.declared.Request.{Request}
 use Rattle.job.specs.Job.{Job}
 use Rattle.jobfile.specs.declared.Fields.{Fields}
 use Rattle.jobfile.specs.declared.Run.{Run}
-use Rattle.jobfile.specs.Format.{jobMark, requestMark, runMark, closeMark, mostRequests, mostGrants, word, wordSum, _then_, sizesRefusal, fieldsRefusal, requestOf, extends, lengthRefusal}
+use Rattle.jobfile.specs.Format.{jobMark, requestMark, runMark, closeMark, jobSize, requestSize, runSize, closeSize, requestPlace}
+use Rattle.jobfile.specs.Format.{runPlace, mostRequests, mostGrants, word, wordSum, _then_, sizesRefusal, fieldsRefusal, requestOf}
+use Rattle.jobfile.specs.Format.{extends, lengthRefusal}
 
 -- A section goes on as long as its mark follows; no section has more records than the file has bytes.
 unfoldable pub recordsWithin : ℕ → ℕ → ℕ → List ℕ → List (List ℕ)
@@ -32,6 +35,11 @@ recordsWithin (suc n) size m t = cond (eqb (word t) m) (t ∷ recordsWithin n si
 -- What is left of the file at each record of a section of that size and mark.
 unfoldable pub records : ℕ → ℕ → List ℕ → List (List ℕ)
 records size m t = recordsWithin (length t) size m t
+
+-- Record by record: each is checked with what the records before it leave.
+unfoldable pub sectionRefusal : {S : Type 0} → (S → List ℕ → ℕ) → (S → List ℕ → S) → S → List (List ℕ) → ℕ
+sectionRefusal check next before [] = 0
+sectionRefusal check next before (t ∷ ts) = check before t then sectionRefusal check next (next before t) ts
 
 -- 44 4B, places (16 bits), heads (16 bits): one. 2: the file ends before a record is whole. 3: a mark not allowed.
 abbrev pub nodesIn : List ℕ → ℕ
@@ -46,7 +54,7 @@ unfoldable pub headerRefusal : List ℕ → ℕ
 headerRefusal s =
     cond (ltb (length s) 2) 2
     (cond (not (eqb (word s) jobMark)) 3
-    (cond (ltb (length s) 6) 2
+    (cond (ltb (length s) jobSize) 2
     (sizesRefusal (nodesIn s) (headsIn s))))
 
 -- 52 51, head (8), kind (8), place x (16), place y (16): none to 512. 9: a 513th request, checked before its fields.
@@ -60,14 +68,13 @@ requestAt t = requestOf (fieldsAt t)
 -- The whole record, the request's count, its fields.
 unfoldable pub requestRefusal : ℕ → ℕ → ℕ → List ℕ → ℕ
 requestRefusal nodes heads number t =
-    cond (ltb (length t) 8) 2
+    cond (ltb (length t) requestSize) 2
     (cond (leb mostRequests number) 9
     (fieldsRefusal nodes heads (fieldsAt t)))
 
 -- Request numbers count from 0 in file order.
-unfoldable pub requestsRefusal : ℕ → ℕ → ℕ → List (List ℕ) → ℕ
-requestsRefusal nodes heads number [] = 0
-requestsRefusal nodes heads number (t ∷ ts) = requestRefusal nodes heads number t then requestsRefusal nodes heads (number + 1) ts
+abbrev pub requestsRefusal : ℕ → ℕ → ℕ → List (List ℕ) → ℕ
+requestsRefusal nodes heads = sectionRefusal (requestRefusal nodes heads) (λ number t. number + 1)
 
 -- 47 52, head (8), run (8): none or more; the head gets that many grants. 10: a grant's head not below the heads, or run 0.
 -- 11: a run's head equals that of the run before, which is under 255.
@@ -77,15 +84,14 @@ runAt t = record { head = getD t 2 0; count = getD t 3 0 }
 -- The whole record, its head, its run, then the run before.
 unfoldable pub runRefusal : ℕ → Run → List ℕ → ℕ
 runRefusal heads before t =
-    cond (ltb (length t) 4) 2
+    cond (ltb (length t) runSize) 2
     (cond (leb heads (getD t 2 0)) 10
     (cond (eqb (getD t 3 0) 0) 10
     (cond (extends before (getD t 2 0)) 11 0)))
 
--- The runs one after the other, each with the run before it.
-unfoldable pub runsRefusal : ℕ → Run → List (List ℕ) → ℕ
-runsRefusal heads before [] = 0
-runsRefusal heads before (t ∷ ts) = runRefusal heads before t then runsRefusal heads (runAt t) ts
+-- Each with the run before it.
+abbrev pub runsRefusal : ℕ → Run → List (List ℕ) → ℕ
+runsRefusal heads = sectionRefusal (runRefusal heads) (λ before t. runAt t)
 
 -- Nothing extends a full run, so it stands for "no run before the first".
 abbrev pub fullRun : Run
@@ -102,8 +108,8 @@ unfoldable pub closeRefusal : List ℕ → ℕ
 closeRefusal t =
     cond (ltb (length t) 2) 2
     (cond (not (eqb (word t) closeMark)) 3
-    (cond (ltb (length t) 4) 2
-    (cond (ltb 4 (length t)) 12 0)))
+    (cond (ltb (length t) closeSize) 2
+    (cond (ltb closeSize (length t)) 12 0)))
 
 -- 13: the words don't balance. All 16-bit words, the close's too, add up to zero when carries out of 16 bits are dropped.
 unfoldable pub balanceRefusal : List ℕ → ℕ
@@ -111,19 +117,19 @@ balanceRefusal s = cond (not (eqb (wordSum s % 65536) 0)) 13 0
 
 -- Where each section stands.
 abbrev pub requestRecords : List ℕ → List (List ℕ)
-requestRecords s = records 8 requestMark (drop 6 s)
+requestRecords s = records requestSize requestMark (drop jobSize s)
 
 -- The runs stand behind the requests,
 abbrev pub runsStart : List ℕ → ℕ
-runsStart s = 6 + 8 * length (requestRecords s)
+runsStart s = requestPlace (length (requestRecords s))
 
 -- as long as their mark follows,
 abbrev pub runRecords : List ℕ → List (List ℕ)
-runRecords s = records 4 runMark (drop (runsStart s) s)
+runRecords s = records runSize runMark (drop (runsStart s) s)
 
 -- and the close behind the runs.
 abbrev pub closeStart : List ℕ → ℕ
-closeStart s = runsStart s + 4 * length (runRecords s)
+closeStart s = runPlace (length (requestRecords s)) (length (runRecords s))
 
 -- Checked first: length. Then record by record. Then bytes after the close, then balance.
 unfoldable pub fileRefusal : List ℕ → ℕ

@@ -1,5 +1,6 @@
 -- Document 01, "Job file": the file that is written for a job.
 --
+--   recordsBytes bytes l             the bytes of records, one behind the other
 --   requestBytes q, runBytes r       the bytes of a request and of a run
 --   requestsBytes qs, runsBytes rs   the bytes of requests and of runs
 --   nextRun r g         the run under way after a grant for head g
@@ -16,14 +17,18 @@ use Rattle.job.specs.Job.{Job, kindNumber}
 use Rattle.jobfile.specs.declared.Run.{Run}
 use Rattle.jobfile.specs.Format.{jobMark, requestMark, runMark, closeMark, wordBytes, wordSum, extends}
 
+-- Records, in order.
+abbrev pub recordsBytes : {A : Type 0} → (A → List ℕ) → List A → List ℕ
+recordsBytes bytes [] = []
+recordsBytes bytes (a ∷ l) = bytes a ++ recordsBytes bytes l
+
 -- 52 51, head (8), kind (8; 1 union, 2 same-set), place x (16), place y (16).
 abbrev pub requestBytes : Request → List ℕ
 requestBytes q = wordBytes requestMark ++ (q .head ∷ kindNumber (q .kind) ∷ []) ++ wordBytes (q .x) ++ wordBytes (q .y)
 
 -- The requests in file order.
 abbrev pub requestsBytes : List Request → List ℕ
-requestsBytes [] = []
-requestsBytes (q ∷ qs) = requestBytes q ++ requestsBytes qs
+requestsBytes = recordsBytes requestBytes
 
 -- 47 52, head (8), run (8).
 abbrev pub runBytes : Run → List ℕ
@@ -31,8 +36,7 @@ runBytes r = wordBytes runMark ++ (r .head ∷ r .count ∷ [])
 
 -- The runs in their order.
 abbrev pub runsBytes : List Run → List ℕ
-runsBytes [] = []
-runsBytes (r ∷ rs) = runBytes r ++ runsBytes rs
+runsBytes = recordsBytes runBytes
 
 -- The run under way after one more grant.
 abbrev pub nextRun : Run → ℕ → Run

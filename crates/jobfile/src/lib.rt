@@ -2,7 +2,7 @@
 pub mod bytes;
 
 ghost use mathlib.Core.Path.{_≡_};
-ghost use Rattle.jobfile.specs.Format.{sizesRefusal, fieldsRefusal, extends};
+ghost use Rattle.jobfile.specs.Format.{requestPlace, runPlace, sizesRefusal, fieldsRefusal, extends};
 
 // The marks of the four records, as 16-bit words, low byte first.
 pub const JOB_MARK: u16 = 0x4B44;
@@ -12,6 +12,17 @@ pub const REQUEST_MARK: u16 = 0x5152;
 pub const RUN_MARK: u16 = 0x5247;
 
 pub const CLOSE_MARK: u16 = 0x4C43;
+
+// The bytes of the four records, and of the longest file.
+pub const JOB_SIZE: usize = 6;
+
+pub const REQUEST_SIZE: usize = 8;
+
+pub const RUN_SIZE: usize = 4;
+
+pub const CLOSE_SIZE: usize = 4;
+
+pub const MOST_BYTES: usize = 32768;
 
 // The four numbers of a request, before they are known to fit.
 pub struct Fields {
@@ -25,6 +36,20 @@ pub struct Fields {
 pub struct Run {
     pub head: u8,
     pub count: u8,
+}
+
+// Where request q stands; behind the last request stand the runs.
+pub fn request_place(q: u32) -> usize
+    ensures { λ r. ⌜ r ≡ requestPlace q ⌝ }
+{
+    JOB_SIZE + REQUEST_SIZE * (q as usize)
+}
+
+// Where run number `index` stands behind that many requests; behind the last run stands the close.
+pub fn run_place(requests: u32, index: u32) -> usize
+    ensures { λ r. ⌜ r ≡ runPlace requests index ⌝ }
+{
+    request_place(requests) + RUN_SIZE * (index as usize)
 }
 
 // The refusal of the number of nodes or of heads, 0 for none.

@@ -3,6 +3,7 @@
 --   RequestsRead s q       the length and the header are accepted, and q is what reading the requests gave
 --   RunsRead s q r         the requests are accepted too, and r is what reading the runs gave
 --   CloseRead s q r n      the runs are accepted too, and n is the refusal of the close and the balance
+--   requests-told, runs-told, close-told   that they are, by what the functions promise
 --   length-answers .. close-answers   the answer where that check refuses
 --   counts-answer          the answer where none does
 --   runs-room, close-room  where the next section starts is within the file
@@ -12,10 +13,14 @@ use Prim.Native.Nat.{ℕ, _+_, _*_, _≤_, _<_}
 use native.Mathlib.Omega.{arith}
 use lib.ListN.{length, drop, length-drop, length-map}
 use borrow.Author.Tests.{lt-ltb, le-ltb, ne-eqb}
-use Rattle.jobfile.specs.Format.{mostBytes, runMark, _then_, lengthRefusal}
-use Rattle.jobfile.specs.Meaning.{records, nodesIn, headsIn, headerRefusal, requestsRefusal, requestAt, runsRefusal, runAt, fullRun, granted, closeRefusal, balanceRefusal, requestRecords, runsStart, runRecords, closeStart, fileRefusal, runsIn, jobIn, refused, meaning}
+use Rattle.jobfile.specs.Format.{runMark, jobSize, runSize, requestPlace, runPlace, mostBytes, _then_, lengthRefusal}
+use Rattle.jobfile.specs.Meaning.{records, nodesIn, headsIn, headerRefusal, requestsRefusal, requestAt, runsRefusal, runAt, fullRun}
+use Rattle.jobfile.specs.Meaning.{granted, closeRefusal, balanceRefusal, requestRecords, runsStart, runRecords, closeStart, fileRefusal}
+use Rattle.jobfile.specs.Meaning.{runsIn, jobIn, refused, meaning}
 use Rattle.jobfile.specs.Admitted.{Bytes}
-use Rattle.jobfile.proofs.Passed.{header-passed, requests-fit, runs-fit}
+use Rattle.jobfile.proofs.Records.{section-fits}
+use Rattle.jobfile.proofs.Passed.{header-passed}
+use Rattle.jobfile.proofs.Layouts.{requestLayout, runLayout}
 use Rattle.jobfile.proofs.Backward.{request-section, run-section}
 use Rattle.jobfile.proofs.RoundTrip.{meaning-number, meaning-accepted, meaning-refused}
 use Rattle.jobfile.proofs.Places.{runs-meant}
@@ -35,7 +40,8 @@ length-passes : (s : List ℕ) → length s ≤ mostBytes → lengthRefusal s �
 unfolding lengthRefusal
 length-passes s l = rw (le-ltb mostBytes (length s) l)
 
-pub header-answers : (s : List ℕ) (n : ℕ) → length s ≤ mostBytes → n ≡ headerRefusal s → (n ≡ 0 → ⊥) → countsOf (refused n) ≡ countsOf (meaning s)
+pub header-answers : (s : List ℕ) (n : ℕ) → length s ≤ mostBytes → n ≡ headerRefusal s → (n ≡ 0 → ⊥)
+    → countsOf (refused n) ≡ countsOf (meaning s)
 unfolding fileRefusal
 header-answers s n l e z = refusal-answers s n (simp (length-passes s l, ← e, ne-eqb n 0 z)) z
 
@@ -45,6 +51,10 @@ pub record RequestsRead (s : List ℕ) (q : RequestSection) : Type 0 where
   pub header : headerRefusal s ≡ 0
   pub read : q ≡ requestSectionOf (nodesIn s) (headsIn s) (requestRecords s)
 
+pub requests-told : {s : List ℕ} {nodes heads : ℕ} {q : RequestSection} → (length s ≤ mostBytes) × (headerRefusal s ≡ 0)
+    → nodes ≡ nodesIn s → heads ≡ headsIn s → q ≡ requestSectionOf nodes heads (requestRecords s) → RequestsRead s q
+requests-told p n h r = record { short = p .0; header = p .1; read = rw (n, h) at r }
+
 module _ {s : List ℕ} {q : RequestSection} (h : RequestsRead s q) where
   request-number : q .number ≡ requestsRefusal (nodesIn s) (headsIn s) 0 (requestRecords s)
   unfolding requestSectionOf
@@ -52,48 +62,53 @@ module _ {s : List ℕ} {q : RequestSection} (h : RequestsRead s q) where
 
   pub requests-answer : (q .number ≡ 0 → ⊥) → countsOf (refused (q .number)) ≡ countsOf (meaning s)
   unfolding fileRefusal
-  requests-answer z = refusal-answers s (q .number) (simp (length-passes s (h .short), h .header, ← request-number, ne-eqb (q .number) 0 z)) z
+  requests-answer z =
+      refusal-answers s (q .number) (simp (length-passes s (h .short), h .header, ← request-number, ne-eqb (q .number) 0 z)) z
 
   request-count : q .number ≡ 0 → q .count ≡ length (requestRecords s)
   unfolding requestSectionOf
   request-count z = ap (λ (q : RequestSection). q .count) (h .read) ∙ rw (← request-number, z)
 
   -- the runs start within the file
-  pub runs-room : q .number ≡ 0 → 6 + 8 * q .count ≤ length s
+  pub runs-room : q .number ≡ 0 → requestPlace (q .count) ≤ length s
   runs-room z =
       let whole = header-passed s (h .header) .whole in
-      omega (arith, request-count z, length-drop 6 s, requests-fit (nodesIn s) (headsIn s) 0 (request-section s) (sym request-number ∙ z))
+      let fits = section-fits (requestLayout (nodesIn s) (headsIn s)) 0 (request-section s) (sym request-number ∙ z) in
+      omega (arith, request-count z, length-drop jobSize s, fits)
 
 -- The requests are accepted too, and r is what reading the runs gave.
 pub record RunsRead (s : List ℕ) (q : RequestSection) (r : RunSection) : Type 0 where
   pub before : RequestsRead s q
   pub requests : q .number ≡ 0
-  pub read : r ≡ runSectionOf (headsIn s) (records 4 runMark (drop (6 + 8 * q .count) s))
+  pub read : r ≡ runSectionOf (headsIn s) (runRecords s)
+
+pub runs-told : {s : List ℕ} {q : RequestSection} {heads start : ℕ} {r : RunSection} → RequestsRead s q → q .number ≡ 0
+    → heads ≡ headsIn s → start ≡ requestPlace (q .count) → r ≡ runSectionOf heads (records runSize runMark (drop start s))
+    → RunsRead s q r
+runs-told b z h p r = record { before = b; requests = z; read = rw (h, p, request-count b z) at r }
 
 module _ {s : List ℕ} {q : RequestSection} {r : RunSection} (h : RunsRead s q r) where
-  run-read : r ≡ runSectionOf (headsIn s) (runRecords s)
-  run-read = rw (request-count (h .before) (h .requests)) at (h .read)
-
   run-number : r .number ≡ runsRefusal (headsIn s) fullRun (runRecords s)
   unfolding runSectionOf
-  run-number = ap (λ (r : RunSection). r .number) run-read
+  run-number = ap (λ (r : RunSection). r .number) (h .read)
 
   pub runs-answer : (r .number ≡ 0 → ⊥) → countsOf (refused (r .number)) ≡ countsOf (meaning s)
   unfolding fileRefusal
   runs-answer z =
       let b = h .before in
-      refusal-answers s (r .number) (simp (length-passes s (b .short), b .header, ← request-number b, h .requests, ← run-number, ne-eqb (r .number) 0 z)) z
+      let short = length-passes s (b .short) in
+      refusal-answers s (r .number) (simp (short, b .header, ← request-number b, h .requests, ← run-number, ne-eqb (r .number) 0 z)) z
 
   run-count : r .number ≡ 0 → r .count ≡ length (runRecords s)
   unfolding runSectionOf
-  run-count z = ap (λ (r : RunSection). r .count) run-read ∙ rw (← run-number, z)
+  run-count z = ap (λ (r : RunSection). r .count) (h .read) ∙ rw (← run-number, z)
 
   run-grants : r .number ≡ 0 → r .grants ≡ length (granted (runsIn s))
   unfolding runSectionOf
-  run-grants z = ap (λ (r : RunSection). r .grants) run-read ∙ rw (← run-number, z)
+  run-grants z = ap (λ (r : RunSection). r .grants) (h .read) ∙ rw (← run-number, z)
 
   -- the close starts within the file
-  pub close-room : r .number ≡ 0 → 6 + 8 * q .count + 4 * r .count ≤ length s
+  pub close-room : r .number ≡ 0 → runPlace (q .count) (r .count) ≤ length s
   close-room z =
       omega (
         arith,
@@ -101,24 +116,25 @@ module _ {s : List ℕ} {q : RequestSection} {r : RunSection} (h : RunsRead s q 
         request-count (h .before) (h .requests),
         run-count z,
         length-drop (runsStart s) s,
-        runs-fit (headsIn s) fullRun (run-section s) (sym run-number ∙ z),
+        section-fits (runLayout (headsIn s)) fullRun (run-section s) (sym run-number ∙ z),
       )
 
 -- The runs are accepted too, and n is the refusal of the close and the balance.
 pub record CloseRead (s : List ℕ) (q : RequestSection) (r : RunSection) (n : ℕ) : Type 0 where
   pub before : RunsRead s q r
   pub runs : r .number ≡ 0
-  pub read : n ≡ (closeRefusal (drop (6 + 8 * q .count + 4 * r .count) s) then balanceRefusal s)
+  pub read : n ≡ (closeRefusal (drop (closeStart s) s) then balanceRefusal s)
+
+pub close-told : {s : List ℕ} {q : RequestSection} {r : RunSection} {at n : ℕ} → RunsRead s q r → r .number ≡ 0
+    → at ≡ runPlace (q .count) (r .count) → n ≡ (closeRefusal (drop at s) then balanceRefusal s) → CloseRead s q r n
+close-told b z p e = record { before = b; runs = z; read = rw (p, request-count (b .before) (b .requests), run-count b z) at e }
 
 module _ {s : List ℕ} {q : RequestSection} {r : RunSection} {n : ℕ} (h : CloseRead s q r n) where
-  close-number : n ≡ (closeRefusal (drop (closeStart s) s) then balanceRefusal s)
-  close-number = rw (request-count (h .before .before) (h .before .requests), run-count (h .before) (h .runs)) at (h .read)
-
   file-number : fileRefusal s ≡ n
   unfolding fileRefusal
   file-number =
       let b = h .before .before in
-      simp (length-passes s (b .short), b .header, ← request-number b, h .before .requests, ← run-number (h .before), h .runs) (sym close-number)
+      simp (length-passes s (b .short), b .header, ← request-number b, h .before .requests, ← run-number (h .before), h .runs) (sym (h .read))
 
   pub close-answers : (n ≡ 0 → ⊥) → countsOf (refused n) ≡ countsOf (meaning s)
   close-answers z = refusal-answers s n file-number z

@@ -1,24 +1,29 @@
 -- The numbers of a record, by the bytes and words that they are read from.
 --
---   fields-read, request-read, run-read   a record of numbers is the one at that place, if each was read from its bytes
+--   fields-read, run-read  a record of numbers is the one at that place, if each was read from its bytes
+--   narrow, request-read   numbers read from bytes fit a request's fields, and give the request at that place
 --   run-numbers            the refusal of a run that is whole, by its numbers
 use mathlib.Core.Path.{_≡_, _∙_, sym, ap}
 use mathlib.Core.Bool.{cond}
 use mathlib.Core.List.{List}
-use Prim.Native.Nat.{ℕ, _+_, _≤_}
+use Prim.Native.Nat.{ℕ, _+_, _≤_, _<_}
+use native.Mathlib.Omega.{arith}
 use lib.Dec.{eqb, leb}
 use lib.ListN.{length, getD, drop}
 use lib.Seq.{getD-drop, drop-drop}
 use borrow.Author.Tests.{le-ltb}
 use Rattle.job.specs.declared.Kind.{Kind}
 use Rattle.job.specs.Job.{kindOf}
+use Rattle.jobfile.specs.declared.Fields.{Fields}
 use Rattle.jobfile.specs.declared.Run.{Run}
-use Rattle.jobfile.specs.Format.{word, extends}
+use Rattle.jobfile.specs.Format.{runSize, word, extends}
 use Rattle.jobfile.specs.Meaning.{fieldsAt, requestAt, runAt, runRefusal}
+use Rattle.jobfile.specs.Admitted.{Bytes}
+use Rattle.jobfile.proofs.Records.{bytes-drop}
 
 module _ (s : List ℕ) (at : ℕ) where
-  pub fields-read : (head kind x y : ℕ) → head ≡ getD s (at + 2) 0 → kind ≡ getD s (at + 3) 0 → x ≡ word (drop (at + 4) s) → y ≡ word (drop (at + 6) s)
-      → record { head = head; kind = kind; x = x; y = y } ≡ fieldsAt (drop at s)
+  pub fields-read : (head kind x y : ℕ) → head ≡ getD s (at + 2) 0 → kind ≡ getD s (at + 3) 0
+      → x ≡ word (drop (at + 4) s) → y ≡ word (drop (at + 6) s) → record { head = head; kind = kind; x = x; y = y } ≡ fieldsAt (drop at s)
   fields-read head kind x y h k ex ey =
       λ i. record {
         head = (h ∙ sym (getD-drop at s 2 0)) i;
@@ -27,21 +32,30 @@ module _ (s : List ℕ) (at : ℕ) where
         y = (ey ∙ ap word (sym (drop-drop 6 at s))) i;
       }
 
-  pub request-read : (head : ℕ) (kind : Kind) (number x y : ℕ) → head ≡ getD s (at + 2) 0 → kind ≡ kindOf number → number ≡ getD s (at + 3) 0
-      → x ≡ word (drop (at + 4) s) → y ≡ word (drop (at + 6) s) → record { head = head; kind = kind; x = x; y = y } ≡ requestAt (drop at s)
-  request-read head kind number x y h k n ex ey =
-      λ i. record {
-        head = (h ∙ sym (getD-drop at s 2 0)) i;
-        kind = (k ∙ ap kindOf (n ∙ sym (getD-drop at s 3 0))) i;
-        x = (ex ∙ ap word (sym (drop-drop 4 at s))) i;
-        y = (ey ∙ ap word (sym (drop-drop 6 at s))) i;
-      }
-
-  pub run-read : (head count : ℕ) → head ≡ getD s (at + 2) 0 → count ≡ getD s (at + 3) 0 → record { head = head; count = count } ≡ runAt (drop at s)
+  pub run-read : (head count : ℕ) → head ≡ getD s (at + 2) 0 → count ≡ getD s (at + 3) 0
+      → record { head = head; count = count } ≡ runAt (drop at s)
   run-read head count h n = λ i. record { head = (h ∙ sym (getD-drop at s 2 0)) i; count = (n ∙ sym (getD-drop at s 3 0)) i }
 
+-- Numbers that are read from bytes fit the fields of a request.
+pub record Narrow (q : Fields) : Type 0 where
+  pub head : q .head < 256
+  pub x : q .x < 65536
+  pub y : q .y < 65536
+
+module _ (s : List ℕ) (at : ℕ) (q : Fields) (is : q ≡ fieldsAt (drop at s)) where
+  pub narrow : Bytes s → Narrow q
+  narrow bytes =
+      let b = bytes-drop at s bytes in
+      let x = bytes-drop 4 (drop at s) b in
+      let y = bytes-drop 6 (drop at s) b in
+      rw is (record { head = b 2; x = omega (arith, x 0, x 1); y = omega (arith, y 0, y 1) })
+
+  pub request-read : (kind : Kind) → kind ≡ kindOf (q .kind)
+      → record { head = q .head; kind = kind; x = q .x; y = q .y } ≡ requestAt (drop at s)
+  request-read kind k = rw (k, is)
+
 -- The refusal of a run that is whole, by its numbers.
-pub run-numbers : (heads : ℕ) (before r : Run) (t : List ℕ) → r ≡ runAt t → 4 ≤ length t
+pub run-numbers : (heads : ℕ) (before r : Run) (t : List ℕ) → r ≡ runAt t → runSize ≤ length t
     → runRefusal heads before t ≡ cond (leb heads (r .head)) 10 (cond (eqb (r .count) 0) 10 (cond (extends before (r .head)) 11 0))
 unfolding runRefusal
-run-numbers heads before r t e l = rw (e, le-ltb (length t) 4 l)
+run-numbers heads before r t e l = rw (e, le-ltb (length t) runSize l)

@@ -9,8 +9,11 @@ use crate::sections::header_refusal;
 use crate::sections::read_requests;
 use crate::sections::read_runs;
 use job::Request;
+use jobfile::MOST_BYTES;
 use jobfile::Run;
 use jobfile::bytes::word_at;
+use jobfile::request_place;
+use jobfile::run_place;
 ghost use mathlib.Core.Path.{_≡_};
 ghost use Prim.Native.Nat.{_<_, _≤_};
 ghost use lib.ListN.{length, getD};
@@ -57,11 +60,11 @@ fn check_records(file: &[u8]) -> Checked
     if requests.number != 0 {
         return refuse(requests.number);
     }
-    let runs = read_runs(file, heads, requests.count);
+    let runs = read_runs(file, heads, request_place(requests.count));
     if runs.number != 0 {
         return refuse(runs.number);
     }
-    let number = close_refusal(file, requests.count, runs.count);
+    let number = close_refusal(file, run_place(requests.count, runs.count));
     if number != 0 {
         return refuse(number);
     }
@@ -79,7 +82,7 @@ fn check_records(file: &[u8]) -> Checked
 pub fn check(file: &[u8]) -> Checked
     ensures { λ r. ⌜ r ≡ countsOf (meaning (now (file .entry))) ⌝ }
 {
-    if 32768 < file.len() {
+    if MOST_BYTES < file.len() {
         return refuse(1);
     }
     let number = header_refusal(file);
@@ -95,7 +98,7 @@ pub fn request_at(file: &[u8], q: u32) -> Request
     requires { ⌜ q < length (meaning (now file) .job .requests) ⌝ }
     ensures { λ r. ⌜ ((none : Request) → r ≡ getD (meaning (now (file .entry)) .job .requests) q none) ⌝ }
 {
-    request_here(file, 6 + 8 * (q as usize))
+    request_here(file, request_place(q))
 }
 
 // Run number `index` of an accepted file, which has that many requests.
@@ -105,5 +108,5 @@ pub fn run_at(file: &[u8], requests: u32, index: u32) -> Run
     requires { ⌜ index < length (longestRuns (meaning (now file) .job .schedule)) ⌝ }
     ensures { λ r. ⌜ ((none : Run) → r ≡ getD (longestRuns (meaning (now (file .entry)) .job .schedule)) index none) ⌝ }
 {
-    run_here(file, 6 + 8 * (requests as usize) + 4 * (index as usize))
+    run_here(file, run_place(requests, index))
 }

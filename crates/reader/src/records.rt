@@ -2,6 +2,8 @@
 use job::Kind;
 use job::Request;
 use jobfile::Fields;
+use jobfile::REQUEST_SIZE;
+use jobfile::RUN_SIZE;
 use jobfile::Run;
 use jobfile::bytes::byte_at;
 use jobfile::bytes::word_at;
@@ -11,11 +13,11 @@ ghost use mathlib.Core.Path.{_≡_};
 ghost use Prim.Native.Nat.{_+_, _≤_};
 ghost use lib.ListN.{length, drop};
 ghost use Rattle.job.specs.Job.{kindOf};
-ghost use Rattle.jobfile.specs.Format.{mostBytes};
+ghost use Rattle.jobfile.specs.Format.{requestSize, mostBytes};
 ghost use Rattle.jobfile.specs.Meaning.{fieldsAt, requestAt, runAt, requestRefusal, runRefusal};
 
 // The kind of an admitted number.
-fn kind_of(number: u8) -> Kind
+fn kind_of(number: u32) -> Kind
     ensures { λ r. ⌜ r ≡ kindOf number ⌝ }
 {
     if number == 1 {
@@ -25,26 +27,9 @@ fn kind_of(number: u8) -> Kind
     }
 }
 
-// The request at a place.
-pub fn request_here(file: &[u8], at: usize) -> Request
-    requires { ⌜ at + 8 ≤ mostBytes ⌝ }
-    ensures { λ r. ⌜ r ≡ requestAt (drop at (now (file .entry))) ⌝ }
-{
-    let head = byte_at(file, at + 2);
-    let kind = kind_of(byte_at(file, at + 3));
-    let x = word_at(file, at + 4);
-    let y = word_at(file, at + 6);
-    Request {
-        head: head,
-        kind: kind,
-        x: x,
-        y: y,
-    }
-}
-
 // The numbers of the request at a place.
 fn fields_here(file: &[u8], at: usize) -> Fields
-    requires { ⌜ at + 8 ≤ mostBytes ⌝ }
+    requires { ⌜ at + requestSize ≤ mostBytes ⌝ }
     ensures { λ r. ⌜ r ≡ fieldsAt (drop at (now (file .entry))) ⌝ }
 {
     let head = byte_at(file, at + 2);
@@ -59,13 +44,28 @@ fn fields_here(file: &[u8], at: usize) -> Fields
     }
 }
 
+// The request at a place.
+pub fn request_here(file: &[u8], at: usize) -> Request
+    requires { ⌜ at + requestSize ≤ mostBytes ⌝ }
+    ensures { λ r. ⌜ r ≡ requestAt (drop at (now (file .entry))) ⌝ }
+{
+    let fields = fields_here(file, at);
+    let kind = kind_of(fields.kind);
+    Request {
+        head: fields.head as u8,
+        kind: kind,
+        x: fields.x as u16,
+        y: fields.y as u16,
+    }
+}
+
 // The refusal of request number `number` at a place: the whole record, the count, the fields.
 pub fn request_refusal(file: &[u8], at: usize, nodes: u32, heads: u32, number: u32) -> u32
     requires { ⌜ at ≤ length (now file) ⌝ }
     requires { ⌜ length (now file) ≤ mostBytes ⌝ }
     ensures { λ r. ⌜ r ≡ requestRefusal nodes heads number (drop at (now (file .entry))) ⌝ }
 {
-    if file.len() - at < 8 {
+    if file.len() - at < REQUEST_SIZE {
         return 2;
     }
     if 512 <= number {
@@ -93,7 +93,7 @@ pub fn run_refusal(file: &[u8], at: usize, heads: u32, before: Run) -> u32
     requires { ⌜ length (now file) ≤ mostBytes ⌝ }
     ensures { λ r. ⌜ r ≡ runRefusal heads before (drop at (now (file .entry))) ⌝ }
 {
-    if file.len() - at < 4 {
+    if file.len() - at < RUN_SIZE {
         return 2;
     }
     let run = run_here(file, at);

@@ -3,18 +3,22 @@ use crate::records::request_refusal;
 use crate::records::run_here;
 use crate::records::run_refusal;
 use jobfile::CLOSE_MARK;
+use jobfile::CLOSE_SIZE;
 use jobfile::JOB_MARK;
+use jobfile::JOB_SIZE;
 use jobfile::REQUEST_MARK;
+use jobfile::REQUEST_SIZE;
 use jobfile::RUN_MARK;
+use jobfile::RUN_SIZE;
 use jobfile::Run;
 use jobfile::bytes::sum_words;
 use jobfile::bytes::word_at;
 use jobfile::sizes_refusal;
 ghost use mathlib.Core.Path.{_≡_};
-ghost use Prim.Native.Nat.{_+_, _*_, _≤_};
+ghost use Prim.Native.Nat.{_≤_};
 ghost use lib.ListN.{length, drop};
-ghost use Rattle.jobfile.specs.Format.{mostBytes, requestMark, runMark, _then_};
-ghost use Rattle.jobfile.specs.Meaning.{records, headerRefusal, closeRefusal, balanceRefusal};
+ghost use Rattle.jobfile.specs.Format.{runMark, jobSize, runSize, mostBytes, _then_};
+ghost use Rattle.jobfile.specs.Meaning.{records, headerRefusal, closeRefusal, balanceRefusal, requestRecords};
 ghost use Rattle.reader.specs.Reader.{requestSectionOf, runSectionOf};
 
 // The requests of a file: how many there are, or their refusal.
@@ -40,7 +44,7 @@ pub fn header_refusal(file: &[u8]) -> u32
     if word_at(file, 0) != JOB_MARK {
         return 3;
     }
-    if file.len() < 6 {
+    if file.len() < JOB_SIZE {
         return 2;
     }
     sizes_refusal(word_at(file, 2) as u32, word_at(file, 4) as u32)
@@ -48,11 +52,11 @@ pub fn header_refusal(file: &[u8]) -> u32
 
 // Reads the requests behind the header.
 pub fn read_requests(file: &[u8], nodes: u32, heads: u32) -> RequestSection
-    requires { ⌜ 6 ≤ length (now file) ⌝ }
+    requires { ⌜ jobSize ≤ length (now file) ⌝ }
     requires { ⌜ length (now file) ≤ mostBytes ⌝ }
-    ensures { λ r. ⌜ r ≡ requestSectionOf nodes heads (records 8 requestMark (drop 6 (now (file .entry)))) ⌝ }
+    ensures { λ r. ⌜ r ≡ requestSectionOf nodes heads (requestRecords (now (file .entry))) ⌝ }
 {
-    let mut at: usize = 6;
+    let mut at = JOB_SIZE;
     let mut count: u32 = 0;
     while word_at(file, at) == REQUEST_MARK {
         let number = request_refusal(file, at, nodes, heads, count);
@@ -62,7 +66,7 @@ pub fn read_requests(file: &[u8], nodes: u32, heads: u32) -> RequestSection
                 count: 0,
             };
         }
-        at += 8;
+        at += REQUEST_SIZE;
         count += 1;
     }
     RequestSection {
@@ -71,13 +75,13 @@ pub fn read_requests(file: &[u8], nodes: u32, heads: u32) -> RequestSection
     }
 }
 
-// Reads the runs behind that many requests.
-pub fn read_runs(file: &[u8], heads: u32, requests: u32) -> RunSection
-    requires { ⌜ 6 + 8 * requests ≤ length (now file) ⌝ }
+// Reads the runs from where they start.
+pub fn read_runs(file: &[u8], heads: u32, start: usize) -> RunSection
+    requires { ⌜ start ≤ length (now file) ⌝ }
     requires { ⌜ length (now file) ≤ mostBytes ⌝ }
-    ensures { λ r. ⌜ r ≡ runSectionOf heads (records 4 runMark (drop (6 + 8 * requests) (now (file .entry)))) ⌝ }
+    ensures { λ r. ⌜ r ≡ runSectionOf heads (records runSize runMark (drop start (now (file .entry)))) ⌝ }
 {
-    let mut at: usize = 6 + 8 * (requests as usize);
+    let mut at = start;
     let mut before = Run {
         head: 0,
         count: 255,
@@ -94,7 +98,7 @@ pub fn read_runs(file: &[u8], heads: u32, requests: u32) -> RunSection
             };
         }
         before = run_here(file, at);
-        at += 4;
+        at += RUN_SIZE;
         count += 1;
         grants += before.count as u32;
     }
@@ -105,13 +109,12 @@ pub fn read_runs(file: &[u8], heads: u32, requests: u32) -> RunSection
     }
 }
 
-// The refusal of what stands behind the requests and the runs: the close, then the balance of the whole file.
-pub fn close_refusal(file: &[u8], requests: u32, runs: u32) -> u32
-    requires { ⌜ 6 + 8 * requests + 4 * runs ≤ length (now file) ⌝ }
+// The refusal of what stands behind the runs: the close, then the balance of the whole file.
+pub fn close_refusal(file: &[u8], at: usize) -> u32
+    requires { ⌜ at ≤ length (now file) ⌝ }
     requires { ⌜ length (now file) ≤ mostBytes ⌝ }
-    ensures { λ r. ⌜ r ≡ (closeRefusal (drop (6 + 8 * requests + 4 * runs) (now (file .entry))) then balanceRefusal (now (file .entry))) ⌝ }
+    ensures { λ r. ⌜ r ≡ (closeRefusal (drop at (now (file .entry))) then balanceRefusal (now (file .entry))) ⌝ }
 {
-    let at = 6 + 8 * (requests as usize) + 4 * (runs as usize);
     let left = file.len() - at;
     if left < 2 {
         return 2;
@@ -119,10 +122,10 @@ pub fn close_refusal(file: &[u8], requests: u32, runs: u32) -> u32
     if word_at(file, at) != CLOSE_MARK {
         return 3;
     }
-    if left < 4 {
+    if left < CLOSE_SIZE {
         return 2;
     }
-    if 4 < left {
+    if CLOSE_SIZE < left {
         return 12;
     }
     if sum_words(file) != 0 {

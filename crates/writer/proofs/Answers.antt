@@ -10,7 +10,8 @@ use native.Mathlib.Omega.{arith}
 use lib.Dec.{eqb, ltb}
 use lib.ListN.{length, length-map}
 use borrow.Author.Tests.{ne-eqb, lt-ltb, le-ltb, ltb-false}
-use Rattle.jobfile.specs.Format.{mostBytes, mostNodes, mostHeads, mostRequests, _then_, sizesRefusal, lengthRefusal}
+use Rattle.jobfile.specs.Format.{runSize, closeSize, requestPlace, fileSize, mostBytes, mostNodes, mostHeads, mostRequests, _then_}
+use Rattle.jobfile.specs.Format.{sizesRefusal, lengthRefusal}
 use Rattle.jobfile.specs.Written.{longestRuns, written}
 use Rattle.jobfile.specs.Draft.{Draft, fieldsOf, jobOf, countRefusal, eachRefusal, grantsRefusal, draftRefusal}
 use Rattle.jobfile.proofs.Tests.{split, passed, through, sized}
@@ -28,7 +29,7 @@ numbersRefusal d =
 then-then : (a b c : ℕ) → ((a then b) then c) ≡ (a then (b then c))
 then-then a b c = split (eqb a 0) (λ e. rw e) (λ e. rw (e, e))
 
-pub length-file : (d : Draft) → length (written (jobOf d)) ≡ 10 + 8 * (length (d .requests) / 4) + 4 * length (longestRuns (d .schedule))
+pub length-file : (d : Draft) → length (written (jobOf d)) ≡ fileSize (length (d .requests) / 4) (length (longestRuns (d .schedule)))
 unfolding jobOf
 length-file d = length-written (jobOf d) ∙ simp (length-map, fields-count)
 
@@ -56,29 +57,31 @@ module _ (d : Draft) (n : ℕ) (is : n ≡ numbersRefusal d) (none : n ≡ 0) wh
       let few = through (countRefusal count) _ (through (sizesRefusal (d .nodes) (d .heads)) _ passes .second) .first in
       rw fields-count at (ltb-false mostRequests count (passed (ltb mostRequests count) 8 0 few .test))
 
-  module _ (room runs : ℕ) (counted : runs ≡ length (longestRuns (d .schedule))) where
-    long : (32758 - 8 * (length (d .requests) / 4)) / 4 < runs → mostBytes < length (written (jobOf d))
+  module _ (room start runs : ℕ) (placed : start ≡ requestPlace (length (d .requests) / 4))
+      (counted : runs ≡ length (longestRuns (d .schedule))) where
+    long : (mostBytes - (start + closeSize)) / runSize < runs → mostBytes < length (written (jobOf d))
     long many = omega (arith, few-requests, length-file d)
 
-    short : runs ≤ (32758 - 8 * (length (d .requests) / 4)) / 4 → length (written (jobOf d)) ≤ mostBytes
+    short : runs ≤ (mostBytes - (start + closeSize)) / runSize → length (written (jobOf d)) ≤ mostBytes
     short few = omega (arith, few-requests, length-file d)
 
-    pub answer-length : (32758 - 8 * (length (d .requests) / 4)) / 4 < runs → refused 1 ≡ answer d room
+    pub answer-length : (mostBytes - (start + closeSize)) / runSize < runs → refused 1 ≡ answer d room
     unfolding lengthRefusal
     answer-length many =
         refuses d room 1 (rw (in-order d room, passes, lt-ltb mostBytes (length (written (jobOf d))) (long many))) (λ e. omega arith)
 
-    module _ (few : runs ≤ (32758 - 8 * (length (d .requests) / 4)) / 4) where
+    module _ (few : runs ≤ (mostBytes - (start + closeSize)) / runSize) where
       rest : writeRefusal d room ≡ bufferRefusal (written (jobOf d)) room
       unfolding lengthRefusal
       rest = rw (in-order d room, passes, le-ltb mostBytes (length (written (jobOf d))) (short few))
 
-      pub answer-buffer : room < 10 + 8 * (length (d .requests) / 4) + 4 * runs → refused 14 ≡ answer d room
+      pub answer-buffer : room < start + closeSize + runSize * runs → refused 14 ≡ answer d room
       unfolding bufferRefusal
       answer-buffer small =
           refuses d room 14 (rw (rest, lt-ltb room (length (written (jobOf d))) (omega (arith, length-file d)))) (λ e. omega arith)
 
-      pub answer-written : (bytes : ℕ) → bytes ≡ 10 + 8 * (length (d .requests) / 4) + 4 * runs → bytes ≤ room → record { number = 0; bytes = bytes } ≡ answer d room
+      pub answer-written : (bytes : ℕ) → bytes ≡ start + closeSize + runSize * runs → bytes ≤ room
+          → record { number = 0; bytes = bytes } ≡ answer d room
       unfolding answer bufferRefusal
       answer-written bytes is fits =
           let file : bytes ≡ length (written (jobOf d)) = omega (arith, length-file d) in

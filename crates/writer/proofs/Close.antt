@@ -7,12 +7,13 @@ use Prim.Native.Nat.{ℕ, _+_, _-_, _%_, _^_, _≤_, _<_}
 use native.Mathlib.Omega.{arith}
 use lib.ListN.{length, take, drop, length-append}
 use lib.Seq.{length-take-le, take-at, sets, sets-eq}
-use Rattle.jobfile.specs.Format.{closeMark, wordBytes, wordSum}
+use Rattle.jobfile.specs.Format.{closeMark, closeSize, wordBytes, wordSum}
 use Rattle.writer.specs.Write.{closeBytes}
 use Rattle.writer.proofs.Stores.{stored-on}
 
 -- What the first bytes are once the mark is stored.
-marked : (l : List ℕ) (at : ℕ) → at + 2 ≤ length l → take (at + 2) (sets l at (wordBytes closeMark)) ≡ take at l ++ wordBytes closeMark
+marked : (l : List ℕ) (at : ℕ) → at + 2 ≤ length l
+    → take (at + 2) (sets l at (wordBytes closeMark)) ≡ take at l ++ wordBytes closeMark
 marked l at room =
     let front = take at l ++ wordBytes closeMark in
     let size : length front ≡ at + 2 = length-append (take at l) (wordBytes closeMark) ∙ ap (λ n. n + 2) (length-take-le at l (omega arith)) in
@@ -22,7 +23,7 @@ marked l at room =
 difference : (sum balance : ℕ) → balance < 65536 → (balance + sum % 65536) % 2 ^ 16 ≡ 0 → balance ≡ (65536 - sum % 65536) % 65536
 difference sum balance small zero = omega arith
 
-pub close-stored : (l a b : List ℕ) (at sum balance : ℕ) → at + 4 ≤ length l → balance < 65536
+pub close-stored : (l a b : List ℕ) (at sum balance : ℕ) → at + closeSize ≤ length l → balance < 65536
     → a ≡ sets l at (wordBytes closeMark) → sum ≡ wordSum (take (at + 2) a) % 65536 → (balance + sum) % 2 ^ 16 ≡ 0
     → b ≡ sets a (at + 2) (wordBytes balance) → b ≡ sets l at (closeBytes (take at l))
 close-stored l a b at sum balance room small mark sums zero last =

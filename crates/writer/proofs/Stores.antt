@@ -3,25 +3,27 @@
 --   sets-after, stored-on   stores that follow on others are one row of stores
 --   sets-front          what stores from the front leave
 --   request-stored      the four stores of a request make its record
---   bytesOf qs          the bytes of the requests that admitted numbers stand for
---   RequestsStored out₀ l at out     the requests before the position at are stored
---   RunsStored out₀ start gs i at out   the runs of the grants before the i-th are stored, up to the byte at
+--   Storing k out₀ start all left at out   of the records `all` from the byte start on, those before `left` are stored
+--   RequestsStored out₀ start l i at out   the requests before the position i are stored, up to the byte at
+--   RunsStored out₀ start gs i at out      the runs of the grants before the i-th are stored, up to the byte at
 use mathlib.Core.Path.{_≡_, _∙_, sym, ap}
 use mathlib.Core.List.{List, [], _∷_, _++_, map}
 use Prim.Native.Nat.{ℕ, suc, _+_, _*_, _≤_, _<_}
 use native.Mathlib.Omega.{arith}
-use lib.ListN.{length, drop, set, drop-of-length-le}
+use native.Mathlib.Nat.{add-zero, mul-zero, mul-suc}
+use lib.ListN.{length, drop, set, drop-of-length-le, length-map}
 use lib.Seq.{sets, sets-eq, length-sets}
+use Rattle.job.specs.declared.Request.{Request}
 use Rattle.jobfile.specs.declared.Fields.{Fields}
-use Rattle.jobfile.specs.declared.Run.{Run}
-use Rattle.jobfile.specs.Format.{requestMark, mostNodes, mostHeads, wordBytes, fieldsRefusal, requestOf}
-use Rattle.jobfile.specs.Written.{requestBytes, requestsBytes, runBytes, runsBytes, longestRuns}
+use Rattle.jobfile.specs.Format.{requestMark, requestSize, runSize, mostNodes, mostHeads, wordBytes, fieldsRefusal, requestOf}
+use Rattle.jobfile.specs.Written.{recordsBytes, requestBytes, requestsBytes, longestRuns}
 use Rattle.jobfile.specs.Draft.{fieldsOf, eachRefusal}
 use Rattle.jobfile.proofs.KindNumbers.{kind-written}
 use Rattle.jobfile.proofs.Tests.{Both, through, fit}
+use Rattle.jobfile.proofs.Records.{Layout}
+use Rattle.jobfile.proofs.Layouts.{requestLayout, runLayout}
 use Rattle.writer.specs.Write.{fieldsFrom}
 use Rattle.writer.proofs.Requests.{fields-next, fields-end}
-use Rattle.writer.proofs.Grants.{run-taken}
 
 pub sets-after : (l vs ws : List ℕ) (i k : ℕ) → k ≡ i + length vs → sets (sets l i vs) k ws ≡ sets l i (vs ++ ws)
 sets-after l [] ws i k e = let z : k ≡ i = omega arith in rw z
@@ -46,79 +48,81 @@ request-stored l a b c d at q fits first second third fourth =
     rw (kind-written (q .kind) (f .some-kind) (f .few-kinds))
     (stored-on l c d (mark ++ (q .head ∷ q .kind ∷ []) ++ wordBytes (q .x)) (wordBytes (q .y)) at (at + 6) (omega arith) three fourth)
 
--- The bytes of the requests that admitted numbers stand for.
-abbrev bytesOf : List Fields → List ℕ
-bytesOf qs = requestsBytes (map requestOf qs)
-
-pub record RequestsStored (out₀ l : List ℕ) (at : ℕ) (out : List ℕ) : Type 0 where
-  pub within : at ≤ length l
+-- The records `left` of `all` are to be stored from the byte `at` on, those before them are stored.
+pub record Storing {A S : Type 0} (k : Layout A S) (out₀ : List ℕ) (start : ℕ) (all left : List A) (at : ℕ) (out : List ℕ) : Type 0 where
   pub size : length out ≡ length out₀
-  -- the requests that are left fit the largest job, and there is room for them
-  pub fits : eachRefusal mostNodes mostHeads (fieldsOf (drop at l)) ≡ 0
-  pub room : 6 + 2 * at + 8 * length (fieldsOf (drop at l)) ≤ length out₀
-  -- with them, the buffer is as it has to be
-  pub same : sets out (6 + 2 * at) (bytesOf (fieldsOf (drop at l))) ≡ sets out₀ 6 (bytesOf (fieldsOf l))
+  -- with the records that are left, the position and the buffer are as they have to be
+  pub place : at + k .size * length left ≡ start + k .size * length all
+  pub same : sets out at (recordsBytes (k .bytes) left) ≡ sets out₀ start (recordsBytes (k .bytes) all)
 
-module _ (out₀ l : List ℕ) (at : ℕ) (out : List ℕ) (stored : RequestsStored out₀ l at out) where
-  pub next-room : at + 4 ≤ length l → 6 + 2 * at + 8 ≤ length out
-  next-room more = let z : suc (length (fieldsOf (drop (at + 4) l))) ≡ length (fieldsOf (drop at l)) = sym (ap length (fields-next l at more)) in omega (arith, stored .size, stored .room)
+module _ {A S : Type 0} {k : Layout A S} {out₀ : List ℕ} {start : ℕ} {all left : List A} {at : ℕ} {out : List ℕ}
+    (storing : Storing k out₀ start all left at out) where
+  module _ (a : A) (rest : List A) (next : left ≡ a ∷ rest) where
+    further : at + k .size + k .size * length rest ≡ start + k .size * length all
+    further = omega (arith, rw (next, mul-suc) at (storing .place))
 
-  next-fits : at + 4 ≤ length l → Both (fieldsRefusal mostNodes mostHeads (fieldsFrom l at)) (eachRefusal mostNodes mostHeads (fieldsOf (drop (at + 4) l)))
-  unfolding eachRefusal
-  next-fits more = through (fieldsRefusal mostNodes mostHeads (fieldsFrom l at)) _ (sym (ap (eachRefusal mostNodes mostHeads) (fields-next l at more)) ∙ stored .fits)
+    pub record-room : start + k .size * length all ≤ length out₀ → at + k .size ≤ length out
+    record-room room = omega (arith, further, storing .size)
 
-  pub request-fits : (q : Fields) → q ≡ fieldsFrom l at → at + 4 ≤ length l → fieldsRefusal mostNodes mostHeads q ≡ 0
-  request-fits q is more = rw is (next-fits more .first)
+    pub storing-on : (after : List ℕ) → after ≡ sets out at (k .bytes a) → Storing k out₀ start all rest (at + k .size) after
+    storing-on after store =
+        record {
+          size = ap length store ∙ length-sets out at (k .bytes a) ∙ storing .size;
+          place = further;
+          same =
+              ap (λ (t : List ℕ). sets t (at + k .size) (recordsBytes (k .bytes) rest)) store
+              ∙ sets-after out (k .bytes a) (recordsBytes (k .bytes) rest) at (at + k .size) (ap (λ n. at + n) (sym (k .sized a)))
+              ∙ sym (ap (λ l. sets out at (recordsBytes (k .bytes) l)) next)
+              ∙ storing .same;
+        }
 
-  pub requests-stored-on : (q : Fields) (after : List ℕ) → q ≡ fieldsFrom l at → at + 4 ≤ length l
-      → after ≡ sets out (6 + 2 * at) (requestBytes (requestOf q)) → RequestsStored out₀ l (at + 4) after
-  requests-stored-on q after is more store =
-      let rest = fieldsOf (drop (at + 4) l) in
-      let next : fieldsOf (drop at l) ≡ q ∷ rest = rw is (fields-next l at more) in
-      let z : suc (length rest) ≡ length (fieldsOf (drop at l)) = sym (ap length next) in
-      record {
-        within = more;
-        size = ap length store ∙ length-sets out (6 + 2 * at) (requestBytes (requestOf q)) ∙ stored .size;
-        fits = next-fits more .second;
-        room = omega (arith, stored .room);
-        same =
-            ap (λ (t : List ℕ). sets t (6 + 2 * (at + 4)) (bytesOf rest)) store
-            ∙ sets-after out (requestBytes (requestOf q)) (bytesOf rest) (6 + 2 * at) (6 + 2 * (at + 4)) (omega arith)
-            ∙ sym (ap (λ qs. sets out (6 + 2 * at) (bytesOf qs)) next)
-            ∙ stored .same;
-      }
+  module _ (none : left ≡ []) where
+    pub stored : out ≡ sets out₀ start (recordsBytes (k .bytes) all)
+    stored = sym (ap (λ l. sets out at (recordsBytes (k .bytes) l)) none) ∙ storing .same
 
-  pub requests-stored : length l < at + 4 → out ≡ sets out₀ 6 (bytesOf (fieldsOf l))
-  requests-stored done = sym (ap (λ qs. sets out (6 + 2 * at) (bytesOf qs)) (fields-end l at done)) ∙ stored .same
+    pub stored-end : at ≡ start + k .size * length all
+    stored-end = rw (none, mul-zero, add-zero) at (storing .place)
+
+-- The requests that admitted numbers stand for.
+abbrev pub requestsOf : List ℕ → List Request
+requestsOf l = map requestOf (fieldsOf l)
+
+pub record RequestsStored (out₀ : List ℕ) (start : ℕ) (l : List ℕ) (i at : ℕ) (out : List ℕ) : Type 0 where
+  pub within : i ≤ length l
+  pub storing : Storing (requestLayout 0 0) out₀ start (requestsOf l) (requestsOf (drop i l)) at out
+  -- the requests that are left fit the largest job
+  pub fits : eachRefusal mostNodes mostHeads (fieldsOf (drop i l)) ≡ 0
+
+module _ {out₀ : List ℕ} {start : ℕ} {l : List ℕ} {i at : ℕ} {out : List ℕ} (h : RequestsStored out₀ start l i at out) where
+  module _ (q : Fields) (is : q ≡ fieldsFrom l i) (more : i + 4 ≤ length l) where
+    next : fieldsOf (drop i l) ≡ q ∷ fieldsOf (drop (i + 4) l)
+    next = rw is (fields-next l i more)
+
+    next-fits : Both (fieldsRefusal mostNodes mostHeads q) (eachRefusal mostNodes mostHeads (fieldsOf (drop (i + 4) l)))
+    unfolding eachRefusal
+    next-fits = through (fieldsRefusal mostNodes mostHeads q) _ (sym (ap (eachRefusal mostNodes mostHeads) next) ∙ h .fits)
+
+    pub request-fits : fieldsRefusal mostNodes mostHeads q ≡ 0
+    request-fits = next-fits .first
+
+    pub request-room : start + requestSize * length (fieldsOf l) ≤ length out₀ → at + requestSize ≤ length out
+    request-room room = record-room (h .storing) (requestOf q) (requestsOf (drop (i + 4) l)) (ap (map requestOf) next) (rw length-map room)
+
+    pub requests-stored-on : (after : List ℕ) → after ≡ sets out at (requestBytes (requestOf q))
+        → RequestsStored out₀ start l (i + 4) (at + requestSize) after
+    requests-stored-on after store =
+        record {
+          within = more;
+          storing = storing-on (h .storing) (requestOf q) (requestsOf (drop (i + 4) l)) (ap (map requestOf) next) after store;
+          fits = next-fits .second;
+        }
+
+pub requests-over : (l : List ℕ) (i : ℕ) → length l < i + 4 → requestsOf (drop i l) ≡ []
+requests-over l i done = ap (map requestOf) (fields-end l i done)
 
 pub record RunsStored (out₀ : List ℕ) (start : ℕ) (gs : List ℕ) (i at : ℕ) (out : List ℕ) : Type 0 where
   pub within : i ≤ length gs
-  pub size : length out ≡ length out₀
-  -- with the runs that are left, the position and the buffer are as they have to be
-  pub place : at + 4 * length (longestRuns (drop i gs)) ≡ start + 4 * length (longestRuns gs)
-  pub same : sets out at (runsBytes (longestRuns (drop i gs))) ≡ sets out₀ start (runsBytes (longestRuns gs))
+  pub storing : Storing (runLayout 0) out₀ start (longestRuns gs) (longestRuns (drop i gs)) at out
 
-module _ (out₀ : List ℕ) (start : ℕ) (gs : List ℕ) (i at : ℕ) (out : List ℕ) (stored : RunsStored out₀ start gs i at out) where
-  module _ (r : Run) (first : longestRuns (drop i gs) ≡ r ∷ longestRuns (drop (i + r .count) gs)) where
-    pub run-room : start + 4 * length (longestRuns gs) ≤ length out₀ → at + 4 ≤ length out
-    run-room room = omega (arith, stored .place, stored .size, ap length first)
-
-    pub runs-stored-on : (after : List ℕ) → after ≡ sets out at (runBytes r) → RunsStored out₀ start gs (i + r .count) (at + 4) after
-    runs-stored-on after store =
-        let rest = longestRuns (drop (i + r .count) gs) in
-        record {
-          within = run-taken gs i r (stored .within) first;
-          size = ap length store ∙ length-sets out at (runBytes r) ∙ stored .size;
-          place = omega (arith, stored .place, ap length first);
-          same =
-              ap (λ (t : List ℕ). sets t (at + 4) (runsBytes rest)) store
-              ∙ sets-after out (runBytes r) (runsBytes rest) at (at + 4) (omega arith)
-              ∙ sym (ap (λ rs. sets out at (runsBytes rs)) first)
-              ∙ stored .same;
-        }
-
-  pub runs-stored : length gs ≤ i → out ≡ sets out₀ start (runsBytes (longestRuns gs))
-  runs-stored done = sym (ap (λ gs. sets out at (runsBytes (longestRuns gs))) (drop-of-length-le gs {i = i} done)) ∙ stored .same
-
-  pub runs-end : length gs ≤ i → at ≡ start + 4 * length (longestRuns gs)
-  runs-end done = omega (arith, stored .place, ap (λ gs. length (longestRuns gs)) (drop-of-length-le gs {i = i} done))
+pub runs-over : (gs : List ℕ) (i : ℕ) → length gs ≤ i → longestRuns (drop i gs) ≡ []
+runs-over gs i done = ap longestRuns (drop-of-length-le gs {i = i} done)

@@ -1,9 +1,13 @@
 // What the writer checks before it writes a byte, in document 01's order, and the length of the file.
 use crate::Written;
+use jobfile::CLOSE_SIZE;
 use jobfile::Fields;
+use jobfile::MOST_BYTES;
+use jobfile::RUN_SIZE;
 use jobfile::Run;
 use jobfile::does_extend;
 use jobfile::fields_refusal;
+use jobfile::request_place;
 use jobfile::sizes_refusal;
 ghost use mathlib.Core.Path.{_≡_};
 ghost use mathlib.Core.List.{_∷_};
@@ -132,13 +136,13 @@ pub fn checked(nodes: u32, heads: u32, requests: &[u32], grants: &[u8], room: us
     if number != 0 {
         return refusal(number);
     }
-    let count = requests.len() / 4;
+    // what the file has beside its runs
+    let others = request_place((requests.len() / 4) as u32) + CLOSE_SIZE;
     let runs = run_count(grants);
-    // beside the header and the close, a file has 32,758 bytes for requests and runs
-    if (32758 - 8 * count) / 4 < runs {
+    if (MOST_BYTES - others) / RUN_SIZE < runs {
         return refusal(1);
     }
-    let bytes = 10 + 8 * count + 4 * runs;
+    let bytes = others + RUN_SIZE * runs;
     if room < bytes {
         return refusal(14);
     }

@@ -4,8 +4,11 @@ use crate::checks::run_at;
 use jobfile::CLOSE_MARK;
 use jobfile::Fields;
 use jobfile::JOB_MARK;
+use jobfile::JOB_SIZE;
 use jobfile::REQUEST_MARK;
+use jobfile::REQUEST_SIZE;
 use jobfile::RUN_MARK;
+use jobfile::RUN_SIZE;
 use jobfile::Run;
 use jobfile::bytes::sum_words;
 use std::num::wrapping_sub_u16;
@@ -14,7 +17,8 @@ ghost use mathlib.Core.List.{[], _∷_, _++_, map};
 ghost use Prim.Native.Nat.{_+_, _*_, _≤_};
 ghost use lib.ListN.{length, take};
 ghost use lib.Seq.{sets};
-ghost use Rattle.jobfile.specs.Format.{jobMark, mostNodes, mostHeads, wordBytes, fieldsRefusal, requestOf};
+ghost use Rattle.jobfile.specs.Format.{jobMark, jobSize, requestSize, runSize, closeSize, mostNodes, mostHeads, wordBytes, fieldsRefusal};
+ghost use Rattle.jobfile.specs.Format.{requestOf};
 ghost use Rattle.jobfile.specs.Written.{requestBytes, requestsBytes, runBytes, runsBytes, longestRuns, written};
 ghost use Rattle.jobfile.specs.Draft.{fieldsOf, eachRefusal, jobOf};
 ghost use Rattle.writer.specs.Write.{given, writeRefusal, closeBytes};
@@ -38,7 +42,7 @@ fn put_word(out: &mut [u8], at: usize, word: u16)
 
 // Writes the job's record.
 fn put_header(out: &mut [u8], nodes: u16, heads: u16)
-    requires { ⌜ 6 ≤ length (now out) ⌝ }
+    requires { ⌜ jobSize ≤ length (now out) ⌝ }
     ensures { λ _. ⌜ now (out .exit) ≡ sets (now (out .entry)) 0 (wordBytes jobMark ++ wordBytes nodes ++ wordBytes heads) ⌝ }
 {
     put_word(out, 0, JOB_MARK);
@@ -48,7 +52,7 @@ fn put_header(out: &mut [u8], nodes: u16, heads: u16)
 
 // Writes a request whose numbers are admitted in the largest job, so that each fits its field.
 fn put_request(out: &mut [u8], at: usize, fields: Fields)
-    requires { ⌜ at + 8 ≤ length (now out) ⌝ }
+    requires { ⌜ at + requestSize ≤ length (now out) ⌝ }
     requires { ⌜ fieldsRefusal mostNodes mostHeads fields ≡ 0 ⌝ }
     ensures { λ _. ⌜ now (out .exit) ≡ sets (now (out .entry)) at (requestBytes (requestOf fields)) ⌝ }
 {
@@ -58,22 +62,26 @@ fn put_request(out: &mut [u8], at: usize, fields: Fields)
     put_word(out, at + 6, fields.y as u16);
 }
 
-// Writes the requests behind the job's record.
-fn put_requests(out: &mut [u8], requests: &[u32])
-    requires { ⌜ 6 + 8 * length (fieldsOf (now requests)) ≤ length (now out) ⌝ }
+// Writes the requests, and gives the position behind them.
+fn put_requests(out: &mut [u8], start: usize, requests: &[u32]) -> usize
+    requires { ⌜ start + requestSize * length (fieldsOf (now requests)) ≤ length (now out) ⌝ }
     requires { ⌜ eachRefusal mostNodes mostHeads (fieldsOf (now requests)) ≡ 0 ⌝ }
-    ensures { λ _. ⌜ now (out .exit) ≡ sets (now (out .entry)) 6 (requestsBytes (map requestOf (fieldsOf (now (requests .entry))))) ⌝ }
+    ensures { λ r. ⌜ r ≡ start + requestSize * length (fieldsOf (now (requests .entry))) ⌝ }
+    ensures { λ _. ⌜ now (out .exit) ≡ sets (now (out .entry)) start (requestsBytes (map requestOf (fieldsOf (now (requests .entry))))) ⌝ }
 {
-    let mut at = 0;
-    while 4 <= requests.len() - at {
-        put_request(out, 6 + 2 * at, fields_at(requests, at));
-        at += 4;
+    let mut at = start;
+    let mut i = 0;
+    while 4 <= requests.len() - i {
+        put_request(out, at, fields_at(requests, i));
+        i += 4;
+        at += REQUEST_SIZE;
     }
+    at
 }
 
 // Writes a run.
 fn put_run(out: &mut [u8], at: usize, run: Run)
-    requires { ⌜ at + 4 ≤ length (now out) ⌝ }
+    requires { ⌜ at + runSize ≤ length (now out) ⌝ }
     ensures { λ _. ⌜ now (out .exit) ≡ sets (now (out .entry)) at (runBytes run) ⌝ }
 {
     put_word(out, at, RUN_MARK);
@@ -82,8 +90,8 @@ fn put_run(out: &mut [u8], at: usize, run: Run)
 
 // Writes the longest runs of the grants, and gives the position behind them.
 fn put_runs(out: &mut [u8], start: usize, grants: &[u8]) -> usize
-    requires { ⌜ start + 4 * length (longestRuns (now grants)) ≤ length (now out) ⌝ }
-    ensures { λ r. ⌜ r ≡ start + 4 * length (longestRuns (now (grants .entry))) ⌝ }
+    requires { ⌜ start + runSize * length (longestRuns (now grants)) ≤ length (now out) ⌝ }
+    ensures { λ r. ⌜ r ≡ start + runSize * length (longestRuns (now (grants .entry))) ⌝ }
     ensures { λ _. ⌜ now (out .exit) ≡ sets (now (out .entry)) start (runsBytes (longestRuns (now (grants .entry)))) ⌝ }
 {
     let mut at = start;
@@ -92,7 +100,7 @@ fn put_runs(out: &mut [u8], start: usize, grants: &[u8]) -> usize
         let run = run_at(grants, i);
         put_run(out, at, run);
         i += run.count as usize;
-        at += 4;
+        at += RUN_SIZE;
     }
     at
 }
@@ -100,7 +108,7 @@ fn put_runs(out: &mut [u8], start: usize, grants: &[u8]) -> usize
 // Writes the close of a file whose other records end at a position. The balance is the difference from zero of all
 // words before it, the close's mark included.
 fn put_close(out: &mut [u8], at: usize)
-    requires { ⌜ at + 4 ≤ length (now out) ⌝ }
+    requires { ⌜ at + closeSize ≤ length (now out) ⌝ }
     ensures { λ _. ⌜ now (out .exit) ≡ sets (now (out .entry)) at (closeBytes (take at (now (out .entry)))) ⌝ }
 {
     put_word(out, at, CLOSE_MARK);
@@ -112,10 +120,11 @@ fn put_close(out: &mut [u8], at: usize)
 // Writes the file of a job that is admitted, into a buffer that it fits.
 pub fn put_file(nodes: u32, heads: u32, requests: &[u32], grants: &[u8], out: &mut [u8])
     requires { ⌜ writeRefusal (given nodes heads (now requests) (now grants)) (length (now out)) ≡ 0 ⌝ }
-    ensures { λ _. ⌜ now (out .exit) ≡ sets (now (out .entry)) 0 (written (jobOf (given nodes heads (now (requests .entry)) (now (grants .entry))))) ⌝ }
+    ensures { λ _. ⌜ now (out .exit)
+        ≡ sets (now (out .entry)) 0 (written (jobOf (given nodes heads (now (requests .entry)) (now (grants .entry))))) ⌝ }
 {
     put_header(out, nodes as u16, heads as u16);
-    put_requests(out, requests);
-    let at = put_runs(out, 6 + 8 * (requests.len() / 4), grants);
-    put_close(out, at);
+    let runs = put_requests(out, JOB_SIZE, requests);
+    let close = put_runs(out, runs, grants);
+    put_close(out, close);
 }

@@ -4,7 +4,8 @@ use native.Mathlib.Omega.{arith}
 use denote.Ref.{now}
 use borrow.Author.Needs.{needs}
 use Rattle.jobfile.proofs.Passed.{header-passed}
-use Rattle.reader.proofs.Checks.{RequestsRead, requests-answer, runs-room, RunsRead, runs-answer, close-room, CloseRead, close-answers, counts-answer}
+use Rattle.reader.proofs.Checks.{requests-told, requests-answer, runs-room, runs-told, runs-answer, close-room, close-told}
+use Rattle.reader.proofs.Checks.{close-answers, counts-answer}
 use Rattle.reader.proofs.check_records.Statement.{statement}
 use Rattle.reader.proofs.check_records.Tie as tie
 
@@ -31,81 +32,76 @@ refuse-requires c κs = search needs
 
 returns : tie.Need-returns
 returns c =
-    let start = c .before .before .before .before .before .before .before in
-    let s = now (start .args .file) in
-    let nodes = c .before .before .before .before .before .word-at .ensures in
-    let heads = c .before .before .before .before .word-at2 .ensures in
-    let q = c .before .before .before .read-requests in
-    let requests : RequestsRead s (q .result) = record { short = start .pre .0; header = start .pre .1; read = rw (nodes, heads) at (q .ensures) } in
+    let read = c .before .before .before in
+    let start = read .before .before .before .before in
+    let heads = read .before .word-at2 .ensures in
+    let requests = requests-told (start .pre) (read .before .before .word-at .ensures) heads (read .read-requests .ensures) in
     c .refuse .ensures ∙ requests-answer requests (c .before .if1 .taken)
+
+request-place-requires : tie.Need-request-place-requires
+request-place-requires c κs = search needs
 
 read-runs-requires : tie.Need-read-runs-requires
 read-runs-requires c κs =
-    let start = c .before .before .before .before .before .before in
-    let s = now (start .args .file) in
-    let nodes = c .before .before .before .before .word-at .ensures in
-    let heads = c .before .before .before .word-at2 .ensures in
-    let q = c .before .before .read-requests in
-    let requests : RequestsRead s (q .result) = record { short = start .pre .0; header = start .pre .1; read = rw (nodes, heads) at (q .ensures) } in
-    (runs-room requests (c .if1 .left), start .pre .0)
+    let read = c .before .before .before in
+    let start = read .before .before .before .before in
+    let heads = read .before .word-at2 .ensures in
+    let requests = requests-told (start .pre) (read .before .before .word-at .ensures) heads (read .read-requests .ensures) in
+    (rw (c .request-place .ensures) (runs-room requests (c .before .if1 .left)), start .pre .0)
 
 refuse-requires-2 : tie.Need-refuse-requires-2
 refuse-requires-2 c κs = search needs
 
 returns-2 : tie.Need-returns-2
 returns-2 c =
-    let start = c .before .before .before .before .before .before .before .before .before .before in
-    let s = now (start .args .file) in
-    let nodes = c .before .before .before .before .before .before .before .before .word-at .ensures in
-    let heads = c .before .before .before .before .before .before .before .word-at2 .ensures in
-    let q = c .before .before .before .before .before .before .read-requests in
-    let requests : RequestsRead s (q .result) = record { short = start .pre .0; header = start .pre .1; read = rw (nodes, heads) at (q .ensures) } in
-    let r = c .before .before .before .read-runs in
-    let runs : RunsRead s (q .result) (r .result) = record { before = requests; requests = c .before .before .before .before .if1 .left; read = rw heads at (r .ensures) } in
+    let ran = c .before .before .before in
+    let read = ran .before .before .before .before in
+    let start = read .before .before .before .before in
+    let heads = read .before .word-at2 .ensures in
+    let requests = requests-told (start .pre) (read .before .before .word-at .ensures) heads (read .read-requests .ensures) in
+    let runs = runs-told requests (ran .before .before .if1 .left) heads (ran .before .request-place .ensures) (ran .read-runs .ensures) in
     c .refuse2 .ensures ∙ runs-answer runs (c .before .if2 .taken)
+
+run-place-requires : tie.Need-run-place-requires
+run-place-requires c κs = search needs
 
 close-refusal-requires : tie.Need-close-refusal-requires
 close-refusal-requires c κs =
-    let start = c .before .before .before .before .before .before .before .before .before in
-    let s = now (start .args .file) in
-    let nodes = c .before .before .before .before .before .before .before .word-at .ensures in
-    let heads = c .before .before .before .before .before .before .word-at2 .ensures in
-    let q = c .before .before .before .before .before .read-requests in
-    let requests : RequestsRead s (q .result) = record { short = start .pre .0; header = start .pre .1; read = rw (nodes, heads) at (q .ensures) } in
-    let r = c .before .before .read-runs in
-    let runs : RunsRead s (q .result) (r .result) = record { before = requests; requests = c .before .before .before .if1 .left; read = rw heads at (r .ensures) } in
-    (close-room runs (c .if2 .left), start .pre .0)
+    let ran = c .before .before .before in
+    let read = ran .before .before .before .before in
+    let start = read .before .before .before .before in
+    let heads = read .before .word-at2 .ensures in
+    let requests = requests-told (start .pre) (read .before .before .word-at .ensures) heads (read .read-requests .ensures) in
+    let runs = runs-told requests (ran .before .before .if1 .left) heads (ran .before .request-place .ensures) (ran .read-runs .ensures) in
+    (rw (c .run-place .ensures) (close-room runs (c .before .if2 .left)), start .pre .0)
 
 refuse-requires-3 : tie.Need-refuse-requires-3
 refuse-requires-3 c κs = search needs
 
 returns-3 : tie.Need-returns-3
 returns-3 c =
-    let start = c .before .before .before .before .before .before .before .before .before .before .before .before in
-    let s = now (start .args .file) in
-    let nodes = c .before .before .before .before .before .before .before .before .before .before .word-at .ensures in
-    let heads = c .before .before .before .before .before .before .before .before .before .word-at2 .ensures in
-    let q = c .before .before .before .before .before .before .before .before .read-requests in
-    let requests : RequestsRead s (q .result) = record { short = start .pre .0; header = start .pre .1; read = rw (nodes, heads) at (q .ensures) } in
-    let r = c .before .before .before .before .before .read-runs in
-    let runs : RunsRead s (q .result) (r .result) = record { before = requests; requests = c .before .before .before .before .before .before .if1 .left; read = rw heads at (r .ensures) } in
-    let n = c .before .before .close-refusal in
-    let close : CloseRead s (q .result) (r .result) (n .result) = record { before = runs; runs = c .before .before .before .if2 .left; read = n .ensures } in
+    let ended = c .before .before in
+    let ran = ended .before .before .before .before in
+    let read = ran .before .before .before .before in
+    let start = read .before .before .before .before in
+    let heads = read .before .word-at2 .ensures in
+    let requests = requests-told (start .pre) (read .before .before .word-at .ensures) heads (read .read-requests .ensures) in
+    let runs = runs-told requests (ran .before .before .if1 .left) heads (ran .before .request-place .ensures) (ran .read-runs .ensures) in
+    let close = close-told runs (ended .before .before .if2 .left) (ended .before .run-place .ensures) (ended .close-refusal .ensures) in
     c .refuse3 .ensures ∙ close-answers close (c .before .if3 .taken)
 
 returns-4 : tie.Need-returns-4
 returns-4 c =
-    let start = c .before .before .before .before .before .before .before .before .before .before .before in
-    let s = now (start .args .file) in
-    let nodes = c .before .before .before .before .before .before .before .before .before .word-at .ensures in
-    let heads = c .before .before .before .before .before .before .before .before .word-at2 .ensures in
-    let q = c .before .before .before .before .before .before .before .read-requests in
-    let requests : RequestsRead s (q .result) = record { short = start .pre .0; header = start .pre .1; read = rw (nodes, heads) at (q .ensures) } in
-    let r = c .before .before .before .before .read-runs in
-    let runs : RunsRead s (q .result) (r .result) = record { before = requests; requests = c .before .before .before .before .before .if1 .left; read = rw heads at (r .ensures) } in
-    let n = c .before .close-refusal in
-    let close : CloseRead s (q .result) (r .result) (n .result) = record { before = runs; runs = c .before .before .if2 .left; read = n .ensures } in
-    rw (nodes, heads) (counts-answer close (λ i. omega (arith, c .before .before .before .before .before .before .before .before .before .before .shared-slice-known .given i)) (c .if3 .left))
+    let ended = c .before in
+    let ran = ended .before .before .before .before in
+    let read = ran .before .before .before .before in
+    let start = read .before .before .before .before in
+    let heads = read .before .word-at2 .ensures in
+    let requests = requests-told (start .pre) (read .before .before .word-at .ensures) heads (read .read-requests .ensures) in
+    let runs = runs-told requests (ran .before .before .if1 .left) heads (ran .before .request-place .ensures) (ran .read-runs .ensures) in
+    let close = close-told runs (ended .before .before .if2 .left) (ended .before .run-place .ensures) (ended .close-refusal .ensures) in
+    rw (read .before .before .word-at .ensures, heads)
+    (counts-answer close (λ i. omega (arith, read .before .before .before .shared-slice-known .given i)) (c .if3 .left))
 
 pub check-records-spec : {M : Type 1} → statement M
 check-records-spec =
@@ -118,9 +114,11 @@ check-records-spec =
     read-requests-requires
     refuse-requires
     returns
+    request-place-requires
     read-runs-requires
     refuse-requires-2
     returns-2
+    run-place-requires
     close-refusal-requires
     refuse-requires-3
     returns-3

@@ -1,5 +1,4 @@
 -- `reader::run_at`: a run stands behind the requests and the runs before it.
-use mathlib.Core.Path.{_∙_, sym}
 use native.Mathlib.Omega.{arith}
 use denote.Ref.{now}
 use borrow.Author.Needs.{needs}
@@ -8,31 +7,23 @@ use Rattle.jobfile.specs.Admitted.{Bytes}
 use Rattle.reader.proofs.run_at.Statement.{statement}
 use Rattle.reader.proofs.run_at.Tie as tie
 
-mul-run-here : tie.Need-mul-run-here
-mul-run-here c = search needs
-
-add-run-here : tie.Need-add-run-here
-add-run-here c = search needs
-
-mul-run-here-2 : tie.Need-mul-run-here-2
-mul-run-here-2 c = search needs
-
-add-run-here-2 : tie.Need-add-run-here-2
-add-run-here-2 c = search needs
+run-place-requires : tie.Need-run-place-requires
+run-place-requires c κs = search needs
 
 run-here-requires : tie.Need-run-here-requires
 run-here-requires c κs =
-    let s = now (c .before .args .file) in
-    let bytes : Bytes s = λ i. omega (arith, c .shared-slice-known .given i) in
-    omega (arith, file-length s bytes (c .before .pre .0), file-short s bytes (c .before .pre .0))
+    let start = c .before .before in
+    let s = now (start .args .file) in
+    let bytes : Bytes s = λ i. omega (arith, c .before .shared-slice-known .given i) in
+    omega (arith, c .run-place .ensures, file-length s bytes (start .pre .0), file-short s bytes (start .pre .0))
 
 returns : tie.Need-returns
 returns c = λ none.
-    let s = now (c .before .before .args .file) in
-    let bytes : Bytes s = λ i. omega (arith, c .before .shared-slice-known .given i) in
-    c .run-here .ensures ∙ rw (c .before .before .pre .1 .0) (sym (run-stands s bytes (c .before .before .pre .0) (c .before .before .args .index) none (c .before .before .pre .1 .1)))
+    let start = c .before .before .before in
+    let s = now (start .args .file) in
+    let bytes : Bytes s = λ i. omega (arith, c .before .before .shared-slice-known .given i) in
+    let stands = run-stands s bytes (start .pre .0) (start .args .index) none (start .pre .1 .1) in
+    rw (stands, ← start .pre .1 .0, ← c .before .run-place .ensures) (c .run-here .ensures)
 
 pub run-at-spec : {M : Type 1} → statement M
-run-at-spec =
-    tie.close
-    (tie.spec mul-run-here add-run-here mul-run-here-2 add-run-here-2 run-here-requires returns)
+run-at-spec = tie.close (tie.spec run-place-requires run-here-requires returns)

@@ -1,58 +1,47 @@
--- `records::request_here`: each field from its bytes.
+-- `records::request_here`: the numbers of the request, each of which fits its field.
+use native.Mathlib.Omega.{arith}
 use denote.Ref.{now}
 use borrow.Author.Needs.{needs}
-use Rattle.reader.proofs.Fields.{request-read}
+use Rattle.jobfile.specs.Admitted.{Bytes}
+use Rattle.reader.proofs.Fields.{narrow, request-read}
 use Rattle.reader.proofs.records.request_here.Statement.{statement}
 use Rattle.reader.proofs.records.request_here.Tie as tie
 
-add-byte-at : tie.Need-add-byte-at
-add-byte-at c = search needs
-
-byte-at-requires : tie.Need-byte-at-requires
-byte-at-requires c κs = search needs
-
-add-byte-at-2 : tie.Need-add-byte-at-2
-add-byte-at-2 c = search needs
-
-byte-at-requires-2 : tie.Need-byte-at-requires-2
-byte-at-requires-2 c κs = search needs
+fields-here-requires : tie.Need-fields-here-requires
+fields-here-requires c κs = search needs
 
 kind-of-requires : tie.Need-kind-of-requires
 kind-of-requires c κs = search needs
 
-add-word-at : tie.Need-add-word-at
-add-word-at c = search needs
+cast-t5 : tie.Need-cast-t5
+cast-t5 c =
+    let read = c .before .before in
+    let a = read .before .before .args in
+    let bytes : Bytes (now (a .file)) = λ i. omega (arith, read .before .shared-slice-known .given i) in
+    omega (arith, narrow (now (a .file)) (a .at) _ (read .fields-here .ensures) bytes)
 
-word-at-requires : tie.Need-word-at-requires
-word-at-requires c κs = search needs
+cast-t6 : tie.Need-cast-t6
+cast-t6 c =
+    let read = c .before .before .before in
+    let a = read .before .before .args in
+    let bytes : Bytes (now (a .file)) = λ i. omega (arith, read .before .shared-slice-known .given i) in
+    omega (arith, narrow (now (a .file)) (a .at) _ (read .fields-here .ensures) bytes)
 
-add-word-at-2 : tie.Need-add-word-at-2
-add-word-at-2 c = search needs
-
-word-at-requires-2 : tie.Need-word-at-requires-2
-word-at-requires-2 c κs = search needs
+cast-t7 : tie.Need-cast-t7
+cast-t7 c =
+    let read = c .before .before .before .before in
+    let a = read .before .before .args in
+    let bytes : Bytes (now (a .file)) = λ i. omega (arith, read .before .shared-slice-known .given i) in
+    omega (arith, narrow (now (a .file)) (a .at) _ (read .fields-here .ensures) bytes)
 
 returns : tie.Need-returns
 returns c =
-    let after-word-at = c .before in
-    let after-kind-of = after-word-at .before in
-    let after-byte-at2 = after-kind-of .before in
-    let after-byte-at = after-byte-at2 .before in
-    let start = after-byte-at .before .before in
-    let a = start .args in
-    request-read (now (a .file)) (a .at) _ _ (after-byte-at2 .byte-at2 .result) _ _ (after-byte-at .byte-at .ensures) (after-kind-of .kind-of .ensures) (after-byte-at2 .byte-at2 .ensures) (after-word-at .word-at .ensures) (c .word-at2 .ensures)
+    let known = c .before .before .before in
+    let read = known .before in
+    let a = read .before .before .args in
+    request-read (now (a .file)) (a .at) _ (read .fields-here .ensures) _ (known .kind-of .ensures)
 
 pub request-here-spec : {M : Type 1} → statement M
 request-here-spec =
     tie.close
-    (tie.spec
-    add-byte-at
-    byte-at-requires
-    add-byte-at-2
-    byte-at-requires-2
-    kind-of-requires
-    add-word-at
-    word-at-requires
-    add-word-at-2
-    word-at-requires-2
-    returns)
+    (tie.spec fields-here-requires kind-of-requires cast-t5 cast-t6 cast-t7 returns)

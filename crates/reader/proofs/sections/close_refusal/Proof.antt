@@ -7,18 +7,6 @@ use Rattle.jobfile.specs.Meaning.{closeRefusal, balanceRefusal}
 use Rattle.reader.proofs.sections.close_refusal.Statement.{statement}
 use Rattle.reader.proofs.sections.close_refusal.Tie as tie
 
-mul-at : tie.Need-mul-at
-mul-at c = search needs
-
-add-at : tie.Need-add-at
-add-at c = search needs
-
-mul-at-2 : tie.Need-mul-at-2
-mul-at-2 c = search needs
-
-add-at-2 : tie.Need-add-at-2
-add-at-2 c = search needs
-
 sub-left : tie.Need-sub-left
 sub-left c = search needs
 
@@ -75,10 +63,6 @@ pub close-refusal-spec : {M : Type 1} → statement M
 close-refusal-spec =
     tie.close
     (tie.spec
-    mul-at
-    add-at
-    mul-at-2
-    add-at-2
     sub-left
     returns
     word-at-requires

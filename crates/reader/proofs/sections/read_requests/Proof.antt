@@ -4,18 +4,20 @@ use Prim.Native.Nat.{_+_, _-_}
 use native.Mathlib.Omega.{arith}
 use lib.ListN.{length}
 use borrow.Author.Needs.{needs}
-use Rattle.reader.proofs.Loops.{RequestsTo, requests-start, requests-next, requests-refused, requests-end}
+use Rattle.jobfile.specs.Format.{jobSize, requestSize}
+use Rattle.jobfile.proofs.Layouts.{requestLayout}
+use Rattle.reader.proofs.Loops.{ReadTo, read-start, read-next, requests-refused, requests-end}
 use Rattle.reader.proofs.sections.read_requests.Statement.{statement}
 use Rattle.reader.proofs.sections.read_requests.Tie as tie
 
 abbrev Inv-loop : tie.InvT-loop
-Inv-loop file nodes heads at₀ count₀ at count = RequestsTo file nodes heads at count
+Inv-loop file nodes heads at₀ count₀ at count = ReadTo (requestLayout nodes heads) file jobSize 0 at count count
 
 abbrev μ-loop : tie.MeasureT-loop
-μ-loop file nodes heads at₀ count₀ at count = length file + 8 - at
+μ-loop file nodes heads at₀ count₀ at count = length file + requestSize - at
 
 loop-holds : tie.Need-loop-holds Inv-loop μ-loop
-loop-holds c = requests-start _ _ _ (c .before .pre .0)
+loop-holds c = read-start _ _ _ _ (c .before .pre .0)
 
 word-at-requires : tie.Need-word-at-requires Inv-loop μ-loop
 word-at-requires c κs = search needs
@@ -24,7 +26,7 @@ request-refusal-requires : tie.Need-request-refusal-requires Inv-loop μ-loop
 request-refusal-requires c κs = search needs
 
 returns : tie.Need-returns Inv-loop μ-loop
-returns c = requests-refused (c .before .before .before .before .loop .inv) _ (cc) (c .before .request-refusal .ensures) (c .if2 .taken)
+returns c = requests-refused _ _ (c .before .before .before .before .loop .inv) _ (cc) (c .before .request-refusal .ensures) (c .if2 .taken)
 
 add-at : tie.Need-add-at Inv-loop μ-loop
 add-at c = omega arith
@@ -36,10 +38,10 @@ loop-less : tie.Need-loop-less Inv-loop μ-loop
 loop-less c = omega arith
 
 loop-again : tie.Need-loop-again Inv-loop μ-loop
-loop-again c = requests-next (c .before .before .before .before .loop .inv) (cc) (cc)
+loop-again c = read-next (c .before .before .before .before .loop .inv) (cc) (cc)
 
 returns-2 : tie.Need-returns-2 Inv-loop μ-loop
-returns-2 c = requests-end (c .before .before .loop .inv) (λ e. c .if1 .left (c .before .word-at .ensures ∙ e))
+returns-2 c = requests-end _ _ (c .before .before .loop .inv) (λ e. c .if1 .left (c .before .word-at .ensures ∙ e))
 
 pub read-requests-spec : {M : Type 1} → statement M
 read-requests-spec =

@@ -4,21 +4,16 @@ use Prim.Native.Nat.{_+_, _*_, _-_}
 use native.Mathlib.Omega.{arith}
 use lib.ListN.{length}
 use borrow.Author.Needs.{needs}
+use Rattle.jobfile.specs.Format.{runSize}
 use Rattle.reader.proofs.Loops.{RunsTo, runs-start, runs-next, runs-refused, runs-end}
 use Rattle.reader.proofs.sections.read_runs.Statement.{statement}
 use Rattle.reader.proofs.sections.read_runs.Tie as tie
 
 abbrev Inv-loop : tie.InvT-loop
-Inv-loop file heads requests at₀ before₀ count₀ grants₀ at before count grants = RunsTo file heads (6 + 8 * requests) at before count grants
+Inv-loop file heads start at₀ before₀ count₀ grants₀ at before count grants = RunsTo file heads start at before count grants
 
 abbrev μ-loop : tie.MeasureT-loop
-μ-loop file heads requests at₀ before₀ count₀ grants₀ at before count grants = length file + 4 - at
-
-mul-at : tie.Need-mul-at Inv-loop μ-loop
-mul-at c = omega arith
-
-add-at : tie.Need-add-at Inv-loop μ-loop
-add-at c = omega arith
+μ-loop file heads start at₀ before₀ count₀ grants₀ at before count grants = length file + runSize - at
 
 loop-holds : tie.Need-loop-holds Inv-loop μ-loop
 loop-holds c = runs-start _ _ _ (c .before .pre .0)
@@ -35,8 +30,8 @@ returns c = runs-refused (c .before .before .before .before .loop .inv) _ (cc) (
 run-here-requires : tie.Need-run-here-requires Inv-loop μ-loop
 run-here-requires c κs = omega arith
 
-add-at-2 : tie.Need-add-at-2 Inv-loop μ-loop
-add-at-2 c = omega arith
+add-at : tie.Need-add-at Inv-loop μ-loop
+add-at c = omega arith
 
 add-count : tie.Need-add-count Inv-loop μ-loop
 add-count c = omega arith
@@ -62,14 +57,12 @@ read-runs-spec =
     (tie.spec
     Inv-loop
     μ-loop
-    mul-at
-    add-at
     loop-holds
     word-at-requires
     run-refusal-requires
     returns
     run-here-requires
-    add-at-2
+    add-at
     add-count
     cast-grants
     add-grants

@@ -21,30 +21,44 @@ returns c =
     let d = given (a .nodes) (a .heads) (now (a .requests)) (now (a .grants)) in
     c .refusal .ensures ∙ answer-numbers d (a .room) (numbers .result) (numbers .ensures) (c .before .if1 .taken)
 
+cast-request-place : tie.Need-cast-request-place
+cast-request-place c =
+    let told = c .before in
+    let a = told .before .before .before .args in
+    let d = given (a .nodes) (a .heads) (now (a .requests)) (now (a .grants)) in
+    omega (arith, few-requests d _ (told .numbers-refusal .ensures) (c .if1 .left))
+
+request-place-requires : tie.Need-request-place-requires
+request-place-requires c κs = search needs
+
+add-others : tie.Need-add-others
+add-others c = search needs
+
 run-count-requires : tie.Need-run-count-requires
 run-count-requires c κs = search needs
 
-mul-if2 : tie.Need-mul-if2
-mul-if2 c = search needs
-
 sub-if2 : tie.Need-sub-if2
 sub-if2 c =
-    let a = c .before .before .before .before .before .args in
-    let numbers = c .before .before .numbers-refusal in
+    let placed = c .before in
+    let told = placed .before .before in
+    let a = told .before .before .before .args in
     let d = given (a .nodes) (a .heads) (now (a .requests)) (now (a .grants)) in
-    omega (arith, few-requests d (numbers .result) (numbers .ensures) (c .before .if1 .left))
+    let none = placed .before .if1 .left in
+    omega (arith, placed .request-place .ensures, few-requests d _ (told .numbers-refusal .ensures) none)
 
 refusal-requires-2 : tie.Need-refusal-requires-2
 refusal-requires-2 c κs = search needs
 
 returns-2 : tie.Need-returns-2
 returns-2 c =
-    let a = c .before .before .before .before .before .before .before .args in
-    let numbers = c .before .before .before .before .numbers-refusal in
-    let runs = c .before .before .run-count in
+    let placed = c .before .before .before in
+    let told = placed .before .before in
+    let a = told .before .before .before .args in
     let d = given (a .nodes) (a .heads) (now (a .requests)) (now (a .grants)) in
+    let none = placed .before .if1 .left in
     c .refusal2 .ensures
-    ∙ answer-length d (numbers .result) (numbers .ensures) (c .before .before .before .if1 .left) (a .room) (runs .result) (runs .ensures) (omega arith)
+    ∙ answer-length d _ (told .numbers-refusal .ensures) none (a .room) _ _ (placed .request-place .ensures)
+    (c .before .before .run-count .ensures) (omega arith)
 
 mul-bytes : tie.Need-mul-bytes
 mul-bytes c = search needs
@@ -52,38 +66,38 @@ mul-bytes c = search needs
 add-bytes : tie.Need-add-bytes
 add-bytes c = search needs
 
-mul-bytes-2 : tie.Need-mul-bytes-2
-mul-bytes-2 c = search needs
-
-add-bytes-2 : tie.Need-add-bytes-2
-add-bytes-2 c = search needs
-
 refusal-requires-3 : tie.Need-refusal-requires-3
 refusal-requires-3 c κs = search needs
 
 returns-3 : tie.Need-returns-3
 returns-3 c =
-    let a = c .before .before .before .before .before .before .before .before .args in
-    let numbers = c .before .before .before .before .before .numbers-refusal in
-    let runs = c .before .before .before .run-count in
+    let placed = c .before .before .before .before in
+    let told = placed .before .before in
+    let a = told .before .before .before .args in
     let d = given (a .nodes) (a .heads) (now (a .requests)) (now (a .grants)) in
+    let none = placed .before .if1 .left in
     c .refusal3 .ensures
-    ∙ answer-buffer d (numbers .result) (numbers .ensures) (c .before .before .before .before .if1 .left) (a .room) (runs .result) (runs .ensures) (omega arith) (omega arith)
+    ∙ answer-buffer d _ (told .numbers-refusal .ensures) none (a .room) _ _ (placed .request-place .ensures)
+    (c .before .before .before .run-count .ensures) (omega arith) (omega arith)
 
 cast-t14 : tie.Need-cast-t14
 cast-t14 c =
-    let a = c .before .before .before .before .before .before .before .args in
-    let numbers = c .before .before .before .before .numbers-refusal in
+    let placed = c .before .before .before in
+    let told = placed .before .before in
+    let a = told .before .before .before .args in
     let d = given (a .nodes) (a .heads) (now (a .requests)) (now (a .grants)) in
-    omega (arith, few-requests d (numbers .result) (numbers .ensures) (c .before .before .before .if1 .left))
+    let none = placed .before .if1 .left in
+    omega (arith, placed .request-place .ensures, few-requests d _ (told .numbers-refusal .ensures) none)
 
 returns-4 : tie.Need-returns-4
 returns-4 c =
-    let a = c .before .before .before .before .before .before .before .args in
-    let numbers = c .before .before .before .before .numbers-refusal in
-    let runs = c .before .before .run-count in
+    let placed = c .before .before .before in
+    let told = placed .before .before in
+    let a = told .before .before .before .args in
     let d = given (a .nodes) (a .heads) (now (a .requests)) (now (a .grants)) in
-    answer-written d (numbers .result) (numbers .ensures) (c .before .before .before .if1 .left) (a .room) (runs .result) (runs .ensures) (omega arith) _ refl (omega arith)
+    let none = placed .before .if1 .left in
+    answer-written d _ (told .numbers-refusal .ensures) none (a .room) _ _ (placed .request-place .ensures)
+    (c .before .before .run-count .ensures) (omega arith) _ refl (omega arith)
 
 pub checked-spec : {M : Type 1} → statement M
 checked-spec =
@@ -92,15 +106,15 @@ checked-spec =
     numbers-refusal-requires
     refusal-requires
     returns
+    cast-request-place
+    request-place-requires
+    add-others
     run-count-requires
-    mul-if2
     sub-if2
     refusal-requires-2
     returns-2
     mul-bytes
     add-bytes
-    mul-bytes-2
-    add-bytes-2
     refusal-requires-3
     returns-3
     cast-t14

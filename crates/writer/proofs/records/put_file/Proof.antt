@@ -13,12 +13,14 @@ use Rattle.writer.proofs.records.put_file.Tie as tie
 cast-put-header : tie.Need-cast-put-header
 cast-put-header c =
     let a = c .before .before .before .before .args in
-    omega (arith, ready (given (a .nodes) (a .heads) (now (a .requests)) (now (a .grants))) (length (now (a .out))) (c .before .before .before .before .pre))
+    let d = given (a .nodes) (a .heads) (now (a .requests)) (now (a .grants)) in
+    omega (arith, ready d (length (now (a .out))) (c .before .before .before .before .pre))
 
 cast-put-header-2 : tie.Need-cast-put-header-2
 cast-put-header-2 c =
     let a = c .before .before .before .before .args in
-    omega (arith, ready (given (a .nodes) (a .heads) (now (a .requests)) (now (a .grants))) (length (now (a .out))) (c .before .before .before .before .pre))
+    let d = given (a .nodes) (a .heads) (now (a .requests)) (now (a .grants)) in
+    omega (arith, ready d (length (now (a .out))) (c .before .before .before .before .pre))
 
 put-header-requires : tie.Need-put-header-requires
 put-header-requires c κs =
@@ -33,24 +35,27 @@ put-requests-requires c κs =
     let known = ready d (length (now (a .out))) (c .before .before .before .before .before .before .before .before .pre) in
     (omega (arith, length-file d, fields-count (now (a .requests))), known .fits)
 
-mul-put-runs : tie.Need-mul-put-runs
-mul-put-runs c = search needs
-
-add-put-runs : tie.Need-add-put-runs
-add-put-runs c = search needs
-
 put-runs-requires : tie.Need-put-runs-requires
 put-runs-requires c κs =
-    let a = c .before .before .before .before .before .before .before .before .before .before .before .before .args in
+    let after-put-requests = c .before .before .before in
+    let after-put-header = after-put-requests .before .before .before .before in
+    let start = after-put-header .before .before .before .before .before in
+    let a = start .args in
     let d = given (a .nodes) (a .heads) (now (a .requests)) (now (a .grants)) in
-    omega (arith, length-file d, ready d (length (now (a .out))) (c .before .before .before .before .before .before .before .before .before .before .before .before .pre))
+    let known = ready d (length (now (a .out))) (start .pre) in
+    omega (arith, length-file d, fields-count (now (a .requests)), after-put-requests .put-requests .ensures .0)
 
 put-close-requires : tie.Need-put-close-requires
 put-close-requires c κs =
-    let a = c .before .before .before .before .before .before .before .before .before .before .before .before .before .before .before .before .args in
+    let after-put-runs = c .before .before .before in
+    let after-put-requests = after-put-runs .before .before .before .before in
+    let after-put-header = after-put-requests .before .before .before .before in
+    let start = after-put-header .before .before .before .before .before in
+    let a = start .args in
     let d = given (a .nodes) (a .heads) (now (a .requests)) (now (a .grants)) in
-    let known = ready d (length (now (a .out))) (c .before .before .before .before .before .before .before .before .before .before .before .before .before .before .before .before .pre) in
-    omega (arith, length-file d)
+    let known = ready d (length (now (a .out))) (start .pre) in
+    let placed = after-put-requests .put-requests .ensures .0 in
+    omega (arith, length-file d, fields-count (now (a .requests)), after-put-runs .put-runs .ensures .0)
 
 same-length : tie.Need-same-length
 same-length c = search needs
@@ -64,8 +69,10 @@ returns c =
     let start = after-put-header .before .before .before .before .before in
     let a = start .args in
     let d = given (a .nodes) (a .heads) (now (a .requests)) (now (a .grants)) in
-    file-stored d (now (a .out)) _ _ _ _ (after-put-runs .put-runs .result) (ready d (length (now (a .out))) (start .pre) .enough)
-    (after-put-header .put-header .ensures) (after-put-requests .put-requests .ensures) (after-put-runs .put-runs .ensures .1) (after-put-runs .put-runs .ensures .0) (after-put-close .put-close .ensures)
+    let requests = after-put-requests .put-requests .ensures in
+    let runs = after-put-runs .put-runs .ensures in
+    file-stored d (now (a .out)) _ _ _ _ _ _ (ready d (length (now (a .out))) (start .pre) .enough)
+    (after-put-header .put-header .ensures) (requests .0) (requests .1) (runs .0) (runs .1) (after-put-close .put-close .ensures)
 
 pub put-file-spec : {M : Type 1} → statement M
 put-file-spec =
@@ -75,8 +82,6 @@ put-file-spec =
     cast-put-header-2
     put-header-requires
     put-requests-requires
-    mul-put-runs
-    add-put-runs
     put-runs-requires
     put-close-requires
     same-length

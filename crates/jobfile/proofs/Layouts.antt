@@ -1,0 +1,137 @@
+-- The records that come in sections, requests and runs: how each is written, read and checked.
+--
+--   word-back, word-front   the two bytes of a word give the word, and a word gives its two bytes
+--   word-at, mark-front, pair-after   the word at a place, the mark, and the two bytes behind it, in front of what follows
+--   requestLayout n h       a request of a job with n nodes and h heads, checked with the number of requests before it
+--   runLayout h             a run of a job with h heads, checked with the run before it
+--   served-pass             written requests that are served, and at most 512, are not refused
+--   following-pass          nor are written runs that follow the rules
+use mathlib.Core.Path.{_≡_, refl, sym, ap, _∙_}
+use mathlib.Core.List.{List, [], _∷_, _++_}
+use Prim.Native.Nat.{ℕ, suc, _+_, _*_, _%_, _/_, _≤_, _<_}
+use native.Mathlib.Omega.{arith}
+use lib.ListN.{length, getD, drop, length-drop}
+use lib.Seq.{drop-drop, drop-cons}
+use borrow.Author.Tests.{ne-eqb, le-ltb, lt-leb}
+use Rattle.job.specs.declared.Request.{Request}
+use Rattle.jobfile.specs.declared.Run.{Run}
+use Rattle.jobfile.specs.Format.{requestMark, runMark, requestSize, runSize, mostRequests, word, wordBytes}
+use Rattle.jobfile.specs.Meaning.{fieldsAt, requestAt, requestRefusal, runAt, runRefusal}
+use Rattle.jobfile.specs.Written.{requestBytes, requestsBytes, runBytes, runsBytes}
+use Rattle.jobfile.specs.Admitted.{Serves, Bytes}
+use Rattle.jobfile.proofs.KindNumbers.{kind-back, kind-written, some-kind, few-kinds}
+use Rattle.jobfile.proofs.Tests.{Fit, fit-passes}
+use Rattle.jobfile.proofs.Runs.{Following, Follows}
+use Rattle.jobfile.proofs.Passed.{RequestPassed, request-passed, run-passed}
+use Rattle.jobfile.proofs.Records.{Layout, Passes, bytes-drop}
+
+-- The two bytes of a word give the word.
+pub word-back : (w : ℕ) → w % 256 + 256 * (w / 256) ≡ w
+word-back w = omega arith
+
+word-front : (t : List ℕ) → Bytes t → 2 ≤ length t → wordBytes (word t) ++ drop 2 t ≡ t
+word-front [] b l = absurd (omega arith)
+word-front (low ∷ []) b l = absurd (omega arith)
+word-front (low ∷ high ∷ t) b l =
+    let first : (low + 256 * high) % 256 ≡ low = omega (arith, b 0) in
+    let second : (low + 256 * high) / 256 ≡ high = omega (arith, b 0) in
+    λ i. first i ∷ second i ∷ t
+
+pub word-at : (n : ℕ) (t : List ℕ) → Bytes t → n + 2 ≤ length t → wordBytes (word (drop n t)) ++ drop (n + 2) t ≡ drop n t
+word-at n t b l = rw (← drop-drop) (word-front (drop n t) (bytes-drop n t b) (rw length-drop (omega arith)))
+
+-- A record begins with its mark.
+pub mark-front : (m : ℕ) (t : List ℕ) → Bytes t → 2 ≤ length t → word t ≡ m → wordBytes m ++ drop 2 t ≡ t
+mark-front m t b l e = rw (← e) (word-front t b l)
+
+-- The two fields of a byte each stand behind the mark.
+pub pair-after : (t : List ℕ) → 4 ≤ length t → getD t 2 0 ∷ getD t 3 0 ∷ drop 4 t ≡ drop 2 t
+pair-after t l = sym (drop-cons t 2 0 (omega arith) ∙ ap (λ (u : List ℕ). getD t 2 0 ∷ u) (drop-cons t 3 0 (omega arith)))
+
+pub request-back : (q : Request) (t : List ℕ) → requestAt (requestBytes q ++ t) ≡ q
+request-back q t = λ i. record { head = q .head; kind = kind-back (q .kind) i; x = word-back (q .x) i; y = word-back (q .y) i }
+
+request-passes : (nodes heads number : ℕ) (q : Request) (t : List ℕ) → Serves nodes heads q → number < mostRequests
+    → requestRefusal nodes heads number (requestBytes q ++ t) ≡ 0
+unfolding requestRefusal
+request-passes nodes heads number q t s l =
+    let u : List ℕ = requestBytes q ++ t in
+    let f : Fit nodes heads (fieldsAt u) = record {
+      head = s .head;
+      some-kind = some-kind (q .kind);
+      few-kinds = few-kinds (q .kind);
+      x = rw word-back (s .x);
+      y = rw word-back (s .y);
+    } in
+    rw (le-ltb (length u) requestSize (omega arith), lt-leb mostRequests number l) (fit-passes nodes heads (fieldsAt u) f)
+
+run-passes : (heads : ℕ) (before r : Run) (t : List ℕ) → Following heads before r → runRefusal heads before (runBytes r ++ t) ≡ 0
+unfolding runRefusal
+run-passes heads before r t f =
+    let u : List ℕ = runBytes r ++ t in
+    rw (le-ltb (length u) runSize (omega arith), lt-leb heads (r .head) (f .head), ne-eqb (r .count) 0 (λ e. omega arith), f .apart)
+
+pub request-front : (nodes heads number : ℕ) (t : List ℕ) → RequestPassed nodes heads number t → word t ≡ requestMark → Bytes t
+    → requestBytes (requestAt t) ++ drop requestSize t ≡ t
+request-front nodes heads number t p e b =
+    let l = p .whole in
+    rw (
+      kind-written (getD t 3 0) (p .fields .some-kind) (p .fields .few-kinds),
+      word-at 6 t b (omega arith),
+      word-at 4 t b (omega arith),
+      pair-after t (omega arith),
+    )
+    (mark-front requestMark t b (omega arith) e)
+
+pub run-front : (t : List ℕ) → runSize ≤ length t → word t ≡ runMark → Bytes t → runBytes (runAt t) ++ drop runSize t ≡ t
+run-front t l e b = rw (pair-after t l) (mark-front runMark t b (omega arith) e)
+
+abbrev pub requestLayout : ℕ → ℕ → Layout Request ℕ
+requestLayout nodes heads =
+    record {
+      size = requestSize;
+      mark = requestMark;
+      bytes = requestBytes;
+      at = requestAt;
+      check = requestRefusal nodes heads;
+      next = λ number t. number + 1;
+      some = omega arith;
+      marked = refl;
+      sized = λ q. refl;
+      first = λ q t. refl;
+      back = request-back;
+      whole = λ number t e. request-passed nodes heads number t e .whole;
+      front = λ number t e. request-front nodes heads number t (request-passed nodes heads number t e);
+    }
+
+abbrev pub runLayout : ℕ → Layout Run Run
+runLayout heads =
+    record {
+      size = runSize;
+      mark = runMark;
+      bytes = runBytes;
+      at = runAt;
+      check = runRefusal heads;
+      next = λ before t. runAt t;
+      some = omega arith;
+      marked = refl;
+      sized = λ r. refl;
+      first = λ r t. refl;
+      back = λ r t. refl;
+      whole = λ before t e. run-passed heads before t e .whole;
+      front = λ before t e. run-front t (run-passed heads before t e .whole);
+    }
+
+pub served-pass : (nodes heads number : ℕ) (qs : List Request) (t : List ℕ)
+    → ((q : ℕ) (none : Request) → q < length qs → Serves nodes heads (getD qs q none))
+    → number + length qs ≤ mostRequests → Passes (requestLayout nodes heads) t number qs
+served-pass nodes heads number [] t each l = tt
+served-pass nodes heads number (q ∷ qs) t each l = (
+  request-passes nodes heads number q (requestsBytes qs ++ t) (each 0 q (omega arith)) (omega arith),
+  served-pass nodes heads (number + 1) qs t (λ i none h. each (suc i) none (omega arith)) (omega arith),
+)
+
+pub following-pass : (heads : ℕ) (before : Run) (rs : List Run) (t : List ℕ) → Follows heads before rs
+    → Passes (runLayout heads) t before rs
+following-pass heads before [] t f = tt
+following-pass heads before (r ∷ rs) t f = (run-passes heads before r (runsBytes rs ++ t) (f .0), following-pass heads r rs t (f .1))
