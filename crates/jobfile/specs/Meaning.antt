@@ -93,7 +93,7 @@ runRefusal heads before t =
 abbrev pub runsRefusal : ℕ → Run → List (List ℕ) → ℕ
 runsRefusal heads = sectionRefusal (runRefusal heads) (λ before t. runAt t)
 
--- Nothing extends a full run, so it stands for "no run before the first".
+-- Nothing extends a full run, so it stands before the first.
 abbrev pub fullRun : Run
 fullRun = record { head = 0; count = mostGrants }
 

@@ -67,7 +67,7 @@ pub record Lawful (nodes heads : ℕ) (qs : List Request) (table : List Node) (r
   -- "Each request gets four 32-bit numbers": those that the history gives it.
   pub reports : length report ≡ length qs
   pub rows : (q : ℕ) → q < length qs → rowAt report q ≡ rowOf q past
-  -- "All four are 0 before its first grant."
+  -- "all four are 0 before its first grant"
   pub fresh : (q : ℕ) → q < length qs → countWhere (isOf q) past ≡ 0 → rowAt report q ≡ noRow
   -- "Grants count from 1": the number of the last one is how many there were, idle ones included.
   pub clock : grants ≡ length past
@@ -79,7 +79,7 @@ pub record Lawful (nodes heads : ℕ) (qs : List Request) (table : List Node) (r
   pub work : tally .working ≡ headsLeft qs report heads
   -- What the steps say of a swap is what its access and the word seen tell.
   pub truthful : (a : Happening) → List·Memᴰ a past → Truthful a
-  -- "For a same-set, the grant that ended its last find from y."
+  -- "for a same-set, the grant that ended its last find from y": what the report says of it
   pub anchored : (q : ℕ) → q < length qs → Anchored q (rowAt report q) past
   -- A head serves its requests in file order: of two, the later has begun only if the earlier is finished,
   pub finished : (p q : ℕ) → p < q → q < length qs → requestAt qs p .head ≡ requestAt qs q .head

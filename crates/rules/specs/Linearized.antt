@@ -1,5 +1,5 @@
 -- Demand 3: what a run leaves is linearizable. The statement, over plain lists: the requests of the job, the table, the
--- report, the entries of the line-up, and the history of the run.
+-- report, the entries of the line-up, and the history of the run. Words in quotation marks are the demand's own.
 --
 --   operationAt qs q   request q as the sequential specification (document 01: the plain book) sees it
 --   rowAt report q     the report row of request q
@@ -37,11 +37,11 @@ operationAt qs q = record { kind = requestAt qs q .kind; x = requestAt qs q .x; 
 abbrev pub rowAt : List Row → ℕ → Row
 rowAt report q = getD report q noRow
 
--- "Every request gets its reported answer (listed unfinished ones: joined)."
+-- "every request gets its reported answer (listed unfinished ones: joined)"
 abbrev pub promised : ℕ → Answer
 promised n = cond (eqb n 2) Together (cond (eqb n 3) Yes (cond (eqb n 4) No Joined))
 
--- "Every finished request, of the unfinished exactly the unions that have linked, nothing else."
+-- Every finished request is listed, "of the unfinished exactly the unions that have linked, nothing else".
 abbrev pub isListed : Row → ℕ → Bool
 isListed row link = cond (eqb (row .answer) 0) (not (eqb link 0)) true
 
@@ -53,19 +53,21 @@ pub record Playable (nodes heads : ℕ) (qs : List Request) (schedule : List ℕ
   pub granted : (h : ℕ) → List·Memᴰ h schedule → h < heads
 
 -- B are the sets at the start.
-pub record Linearized (B : Labels) (nodes : ℕ) (qs : List Request) (table : List Node) (report : List Row) (entries : List Entry) (past : List Happening) : Type 0 where
-  -- "The line-up": entries rise strictly by point.
+pub record Linearized (B : Labels) (nodes : ℕ) (qs : List Request) (table : List Node) (report : List Row) (entries : List Entry)
+    (past : List Happening) : Type 0 where
+  -- "the line-up": entries rise strictly by point.
   pub rising : Rising 0 entries
-  -- "Each entry at its point": the one that the history gives to its request.
+  -- "each entry at its point": the one that the history gives to its request.
   pub points : (e : Entry) → List·Memᴰ e entries → e .point ≡ pointOf (requestAt qs (e .request) .kind) (e .request) past
-  -- "Holds every finished request once, of the unfinished exactly the unions that have linked, nothing else."
+  -- "holds every finished request once, of the unfinished exactly the unions that have linked, nothing else"
   pub requests : (e : Entry) → List·Memᴰ e entries → e .request < length qs
   pub listed : (q : ℕ) → q < length qs → occurrences q entries ≡ cond (isListed (rowAt report q) (linkOf q past)) 1 0
-  -- "Real-time order is kept": of two listed requests, one that ended before the other's first grant stands before it.
+  -- "real-time order is kept": of two listed requests, one that ended before the other's first grant stands before it.
   pub ordered : (e f : Entry) → List·Memᴰ e entries → List·Memᴰ f entries → rowAt report (e .request) .last ≢ 0
       → rowAt report (e .request) .last < rowAt report (f .request) .first → e .point < f .point
-  -- "Replayed one at a time by the plain book, every request gets its reported answer (listed unfinished ones: joined)."
+  -- "replayed one at a time by the plain book, every request gets its reported answer (listed unfinished ones: joined)"
   pub answers : replies B (operations (operationAt qs) entries) ≡ map (λ e. promised (rowAt report (e .request) .answer)) entries
-  -- "Two places share a group in the book exactly when they do in the table."
+  -- "two places share a group in the book exactly when they do in the table"
   pub sets : (i j : ℕ) → i < nodes → j < nodes
-      → forest.Together (parent table) i j ↔ (replay B (operations (operationAt qs) entries) i ≡ replay B (operations (operationAt qs) entries) j)
+      → forest.Together (parent table) i j
+      ↔ (replay B (operations (operationAt qs) entries) i ≡ replay B (operations (operationAt qs) entries) j)

@@ -80,7 +80,7 @@ pub record Standing (j : Job) (b : Buffers) (number : ℕ) (gs lent : List ℕ) 
   -- there is room for an entry a request
   pub room : 2 * length (j .requests) ≤ length lent
 
--- "Played record by record and stored nowhere else": the requests are read from the file itself.
+-- "played record by record and stored nowhere else": the requests are read from the file itself.
 abbrev pub requestsIn : List ℕ → List Request
 requestsIn file = meaning file .job .requests
 

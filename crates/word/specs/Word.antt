@@ -43,6 +43,6 @@ same a b = cond (eqb (a .rank) (b .rank)) (eqb (a .parent) (b .parent)) false
 abbrev pub before : ℕ → ℕ → ℕ → ℕ → Bool
 before ra a rb b = cond (eqb ra rb) (ltb a b) (ltb ra rb)
 
--- The same order as one number: "a comes before b" is "the key of a is less than the key of b".
+-- The same order as one number: a comes before b when the key of a is less than the key of b.
 abbrev pub key : ℕ → ℕ → ℕ
 key r i = r * nodeLimit + i
