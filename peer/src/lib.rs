@@ -1,4 +1,4 @@
-//! A second player of job files, written from document 01 alone.
+//! A second player of job files, from document 01; it shares no code with the core.
 //!
 //! `play`, `job`, `query` and `listing` are the player; `replay` and `demand` say what a run must
 //! leave; `gen` makes jobs and damage; `player` is how any player, this one or another, is called;
