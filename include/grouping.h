@@ -84,12 +84,12 @@ enum {
     GROUPING_SPENT = 0 /* an enquiry needs more grants than its allowance */
 };
 
-/* The stack that each call needs at most, in bytes. TODO-STACK: the enquiry's. */
+/* The stack that each call needs at most, in bytes. */
 enum {
     GROUPING_STACK_PLAY = 1024,
     GROUPING_STACK_PLAY_LENT = 1024,
     GROUPING_STACK_WRITE = 512,
-    GROUPING_STACK_QUERY = 21504,
+    GROUPING_STACK_QUERY = 17408,
     GROUPING_STACK_LIST = 1536
 };
 
@@ -139,7 +139,7 @@ struct grouping_played grouping_play(const uint8_t *file, size_t file_length,
                                      uint32_t *lineup, size_t lineup_length);
 
 /* Plays a job file as grouping_play does, on a tally that its owner lends: an accepted job sets it to zeros and each
- * grant adds to it; a refusal leaves it as it was. */
+ * grant adds to it; a refusal writes nothing to it. */
 struct grouping_played grouping_play_lent(const uint8_t *file, size_t file_length,
                                           uint32_t *table, size_t table_length,
                                           uint32_t *report, size_t report_length,

@@ -39,8 +39,8 @@ pub mod stack {
     pub const PLAY_LENT: usize = 1_024;
     /// [`write`](crate::write)
     pub const WRITE: usize = 512;
-    /// [`query`](crate::query). TODO-STACK.
-    pub const QUERY: usize = 21_504;
+    /// [`query`](crate::query)
+    pub const QUERY: usize = 17_408;
     /// [`list`](crate::list)
     pub const LIST: usize = 1_536;
 }
