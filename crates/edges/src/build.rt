@@ -1,4 +1,5 @@
-// What the words of a field stand for: the bytes of a file or of a list of grants, and the numbers of a list.
+// What the words of a field stand for: the bytes of a file or of a list of grants, and the numbers of a list. Each word is
+// stored as both, and who wants one of them lends no room for the other.
 //
 //   4B         a byte; 00*32768 is that many
 //   J          a job's record, two places and two heads
@@ -13,6 +14,7 @@
 use crate::text::copies;
 use crate::text::decimal;
 use crate::text::find;
+use crate::text::first_bytes;
 use crate::text::hexadecimal;
 ghost use Prim.Native.Nat.{_≤_};
 
@@ -31,17 +33,6 @@ fn put_bytes(file: &mut [u8], start: usize, bytes: &[u8]) -> usize {
     let mut i = 0;
     while i < bytes.len() {
         at = put_byte(file, at, bytes[i]);
-        i += 1;
-    }
-    at
-}
-
-// Stores some bytes that many times, and gives the position behind them.
-fn put_copies(file: &mut [u8], start: usize, bytes: &[u8], count: u32) -> usize {
-    let mut at = start;
-    let mut i = 0;
-    while i < count {
-        at = put_bytes(file, at, bytes);
         i += 1;
     }
     at
@@ -74,45 +65,9 @@ fn balance(bytes: &[u8]) -> u32
 // Stores a close that balances the bytes before it, and gives the position behind it.
 fn put_close(file: &mut [u8], start: usize) -> usize {
     let end = put_bytes(file, start, b"\x43\x4C");
-    if file.len() < end {
-        return end;
-    }
-    let word = balance(&file[..end]);
+    let word = balance(first_bytes(file, end));
     let at = put_byte(file, end, (word % 256) as u8);
     put_byte(file, at, (word / 256) as u8)
-}
-
-// Stores the bytes of a word, and gives the position behind them.
-fn put_word(file: &mut [u8], at: usize, word: &[u8]) -> usize {
-    if word.len() == 0 {
-        return at;
-    }
-    let count = copies(word);
-    let byte = [hexadecimal(word)];
-    match word[0] {
-        b'J' => put_copies(file, at, b"\x44\x4B\x02\x00\x02\x00", count),
-        b'Q' => put_copies(file, at, b"\x52\x51\x00\x01\x00\x00\x01\x00", count),
-        b'R' => put_copies(file, at, b"\x47\x52\x00\xFF", count),
-        b'S' => put_copies(file, at, b"\x47\x52\x00\x01\x47\x52\x01\x01", count),
-        b'T' => put_copies(file, at, b"\x00\x01", count),
-        b'=' => put_close(file, at),
-        _ => put_copies(file, at, &byte, count),
-    }
-}
-
-// Stores the bytes of a field's words, and gives how many there are.
-pub fn put_words(file: &mut [u8], text: &[u8]) -> usize {
-    let mut at = 0;
-    let mut i = 0;
-    while i < text.len() {
-        let end = find(text, i, b' ');
-        at = put_word(file, at, &text[i..end]);
-        if end == text.len() {
-            return at;
-        }
-        i = end + 1;
-    }
-    at
 }
 
 // Stores a number, and gives the position behind it.
@@ -124,42 +79,112 @@ fn put_number(list: &mut [u32], at: usize, number: u32) -> usize {
     at + 1
 }
 
-// Stores the four numbers of a union of 0 and 1 for head 0 that many times, and gives the position behind them.
-fn put_unions(list: &mut [u32], start: usize, count: u32) -> usize {
+// What a word is in a list of numbers: a union of 0 and 1 for head 0, or a number.
+pub enum Meant {
+    Request,
+    Number(u32),
+}
+
+// Stores the numbers of a word, and gives the position behind them.
+fn put_meant(list: &mut [u32], at: usize, meant: Meant) -> usize {
+    match meant {
+        Meant::Request => {
+            let at = put_number(list, at, 0);
+            let at = put_number(list, at, 1);
+            let at = put_number(list, at, 0);
+            put_number(list, at, 1)
+        }
+        Meant::Number(number) => put_number(list, at, number),
+    }
+}
+
+// The positions behind the bytes and the numbers stored.
+pub struct Ends {
+    pub bytes: usize,
+    pub numbers: usize,
+}
+
+// Stores bytes and numbers that many times, and gives the positions behind them.
+fn put_copies(
+    file: &mut [u8],
+    list: &mut [u32],
+    start: Ends,
+    bytes: &[u8],
+    meant: Meant,
+    count: u32,
+) -> Ends {
     let mut at = start;
     let mut i = 0;
     while i < count {
-        at = put_number(list, at, 0);
-        at = put_number(list, at, 1);
-        at = put_number(list, at, 0);
-        at = put_number(list, at, 1);
+        at.bytes = put_bytes(file, at.bytes, bytes);
+        at.numbers = put_meant(list, at.numbers, meant);
         i += 1;
     }
     at
 }
 
-// Stores the numbers of a word, and gives the position behind them.
-fn put_word_numbers(list: &mut [u32], at: usize, word: &[u8]) -> usize {
+// Stores a word, and gives the positions behind it.
+fn put_word(file: &mut [u8], list: &mut [u32], at: Ends, word: &[u8]) -> Ends {
     if word.len() == 0 {
         return at;
     }
-    if word[0] == b'Q' {
-        return put_unions(list, at, copies(word));
+    let count = copies(word);
+    let number = Meant::Number(decimal(word));
+    let byte = [hexadecimal(word)];
+    match word[0] {
+        b'J' => put_copies(file, list, at, b"\x44\x4B\x02\x00\x02\x00", number, count),
+        b'Q' => put_copies(
+            file,
+            list,
+            at,
+            b"\x52\x51\x00\x01\x00\x00\x01\x00",
+            Meant::Request,
+            count,
+        ),
+        b'R' => put_copies(file, list, at, b"\x47\x52\x00\xFF", number, count),
+        b'S' => put_copies(
+            file,
+            list,
+            at,
+            b"\x47\x52\x00\x01\x47\x52\x01\x01",
+            number,
+            count,
+        ),
+        b'T' => put_copies(file, list, at, b"\x00\x01", number, count),
+        b'=' => Ends {
+            bytes: put_close(file, at.bytes),
+            numbers: at.numbers,
+        },
+        _ => put_copies(file, list, at, &byte, number, count),
     }
-    put_number(list, at, decimal(word))
 }
 
-// Stores the numbers of a field's words, and gives how many there are.
-pub fn put_numbers(list: &mut [u32], text: &[u8]) -> usize {
-    let mut at = 0;
+// Stores a field's words, and gives the positions behind them.
+fn put_field(file: &mut [u8], list: &mut [u32], text: &[u8]) -> Ends {
+    let mut at = Ends {
+        bytes: 0,
+        numbers: 0,
+    };
     let mut i = 0;
     while i < text.len() {
         let end = find(text, i, b' ');
-        at = put_word_numbers(list, at, &text[i..end]);
+        at = put_word(file, list, at, &text[i..end]);
         if end == text.len() {
             return at;
         }
         i = end + 1;
     }
     at
+}
+
+// Stores the bytes of a field's words, and gives how many there are.
+pub fn put_words(file: &mut [u8], text: &[u8]) -> usize {
+    let mut none = [0u32; 0];
+    put_field(file, &mut none, text).bytes
+}
+
+// Stores the numbers of a field's words, and gives how many there are.
+pub fn put_numbers(list: &mut [u32], text: &[u8]) -> usize {
+    let mut none = [0u8; 0];
+    put_field(&mut none, list, text).numbers
 }

@@ -8,16 +8,12 @@ mod score;
 mod text;
 
 use libc::STDOUT_FILENO;
-use play::Rows;
-use play::play;
 use score::Score;
 use score::print_score;
 
 // Two bytes for the mark (2), the mark (3), the whole record (2); and the file ends with its close (2).
 fn file_cuts(score: Score) -> Score {
-    play(
-        score,
-        Rows::Files,
+    score.files(
         b"
 no byte                         |                        | 2
 one byte                        | 44                     | 2
@@ -43,9 +39,7 @@ close of three bytes            | J 43 4C 00             | 2
 
 // What may follow what (3), bytes after the close (12), the balance (13).
 fn file_marks(score: Score) -> Score {
-    play(
-        score,
-        Rows::Files,
+    score.files(
         b"
 a second header               | J 44 4B 02 00 02 00 =                     | 3
 a request behind a run        | J 47 52 00 01 Q =                         | 3
@@ -65,9 +59,7 @@ byte after it, wrong balance  | 44 4B 01 00 01 00 43 4C 78 68 00          | 12
 
 // Places (4), then heads (5), before anything behind them.
 fn file_sizes(score: Score) -> Score {
-    play(
-        score,
-        Rows::Files,
+    score.files(
         b"
 4,096 places             | 44 4B 00 10 01 00 43 4C 78 58             | 0 4096 1 0 0 0
 4,097 places             | 44 4B 01 10 01 00 43 4C 77 58             | 4
@@ -87,9 +79,7 @@ heads bad, one byte left | 44 4B 01 00 00 00 43                      | 5
 
 // Head (6), kind (7), place x and place y (8), left to right, in a job of two places and two heads.
 fn file_fields(score: Score) -> Score {
-    play(
-        score,
-        Rows::Files,
+    score.files(
         b"
 last head and places | J 52 51 01 02 01 00 01 00 = | 0 2 2 1 0 0
 head 2               | J 52 51 02 01 00 00 01 00 = | 6
@@ -110,9 +100,7 @@ x and y bad          | J 52 51 00 01 02 00 02 00 = | 8
 
 // The first faulty record decides, whatever stands behind it.
 fn file_first_faults(score: Score) -> Score {
-    play(
-        score,
-        Rows::Files,
+    score.files(
         b"
 y bad, next head bad        | J 52 51 00 01 00 00 02 00 52 51 02 01 00 00 01 00 = | 8
 second request bad          | J Q 52 51 00 03 00 00 01 00 =                       | 7
@@ -129,9 +117,7 @@ run bad, then a request     | J 47 52 02 01 Q =                                 
 
 // The file that document 01 prints.
 fn file_sample(score: Score) -> Score {
-    play(
-        score,
-        Rows::Files,
+    score.files(
         b"
 document 01 | 44 4B 04 00 02 00 52 51 00 01 02 00 03 00 52 51 01 02 00 00 01 00 47 52 01 02 47 52 00 06 47 52 01 01 43 4C F1 C2 | 0 4 2 2 9 3
 ",
@@ -140,9 +126,7 @@ document 01 | 44 4B 04 00 02 00 52 51 00 01 02 00 03 00 52 51 01 02 00 00 01 00 
 
 // A head of the job and a run above 0 (10), then the run before (11), with two heads.
 fn file_runs(score: Score) -> Score {
-    play(
-        score,
-        Rows::Files,
+    score.files(
         b"
 255, same head        | J 47 52 00 FF 47 52 00 01 =             | 0 2 2 0 256 2
 254, same head        | J 47 52 00 FE 47 52 00 01 =             | 11
@@ -164,9 +148,7 @@ run 0, head bad       | J 47 52 02 00 =                         | 10
 
 // The whole record (2), then a request's count (9), then its fields.
 fn file_requests(score: Score) -> Score {
-    play(
-        score,
-        Rows::Files,
+    score.files(
         b"
 512 requests                   | J Q*512 =                                                 | 0 2 2 512 0 0
 512 requests and a run         | J Q*512 47 52 01 01 =                                     | 0 2 2 512 1 1
@@ -184,9 +166,7 @@ fn file_requests(score: Score) -> Score {
 
 // Length first (1): 32,768 bytes are admitted, though no file of 32,767 or 32,768 is whole.
 fn file_lengths(score: Score) -> Score {
-    play(
-        score,
-        Rows::Files,
+    score.files(
         b"
 32,766 bytes, 8,189 runs            | J R*8189 =                 | 0 2 2 0 2088195 8189
 32,766 bytes, 512 requests          | J Q*512 R*7165 =           | 0 2 2 512 1827075 7165
@@ -208,9 +188,7 @@ fn file_lengths(score: Score) -> Score {
 
 // Jobs whose files are stored byte by byte.
 fn job_samples(score: Score) -> Score {
-    play(
-        score,
-        Rows::Jobs,
+    score.jobs(
         b"
 smallest job             | 1 1     |                 |                            | 0 10 | 0 1 1 0 0 0     | 44 4B 01 00 01 00 43 4C 77 68
 largest sizes and fields | 4096 16 | 15 2 4095 4094  | 0F 0F 00                   | 0 26 | 0 4096 16 1 3 2 | 44 4B 00 10 10 00 52 51 0F 02 FF 0F FE 0F 47 52 0F 02 47 52 00 01 43 4C 6E 3D
@@ -221,9 +199,7 @@ document 01              | 4 2     | 0 1 2 3 1 2 0 1 | 01 01 00 00 00 00 00 00 0
 
 // The longest runs, at most 255; a rest of fewer than four numbers is no request.
 fn job_runs(score: Score) -> Score {
-    play(
-        score,
-        Rows::Jobs,
+    score.jobs(
         b"
 rest of three numbers | 2 2 | 9 9 9 |          | 0 10 | 0 2 2 0 0 0   | J =
 254 grants            | 2 2 |       | 00*254   | 0 14 | 0 2 2 0 254 1 | J 47 52 00 FE =
@@ -238,9 +214,7 @@ heads in turn         | 2 2 |       | 00 01 00 | 0 22 | 0 2 2 0 3 3   | J S 47 5
 
 // Places (4), then heads (5); a number too wide for its field is refused, not cut.
 fn job_sizes(score: Score) -> Score {
-    play(
-        score,
-        Rows::Jobs,
+    score.jobs(
         b"
 4,097 places           | 4097 1  |          |  | 4
 no place               | 0 1     |          |  | 4
@@ -256,9 +230,7 @@ heads bad, request bad | 2 17    | 17 3 2 2 |  | 5
 
 // Head (6), kind (7), place x and place y (8), request by request, then each grant (10).
 fn job_fields(score: Score) -> Score {
-    play(
-        score,
-        Rows::Jobs,
+    score.jobs(
         b"
 head 2                 | 2 2 | 2 1 0 1         |          | 6
 head 256               | 2 2 | 256 1 0 1       |          | 6
@@ -282,9 +254,7 @@ request bad, grant bad | 2 2 | 0 1 0 2         | 02       | 8
 
 // The count of requests (9), behind places and heads and before any field.
 fn job_requests(score: Score) -> Score {
-    play(
-        score,
-        Rows::Jobs,
+    score.jobs(
         b"
 512 requests                   | 2 2  | Q*512         |    | 0 4106 | 0 2 2 512 0 0 | J Q*512 =
 512 requests and three numbers | 2 2  | Q*512 0 1 0   |    | 0 4106 | 0 2 2 512 0 0 | J Q*512 =
@@ -299,9 +269,7 @@ fn job_requests(score: Score) -> Score {
 
 // The file's length (1), behind requests and grants and before the buffer.
 fn job_lengths(score: Score) -> Score {
-    play(
-        score,
-        Rows::Jobs,
+    score.jobs(
         b"
 32,766 bytes, 8,189 runs       | 2 2   |         | T*4094 00    | 0 32766 | 0 2 2 0 8189 8189    | J S*4094 47 52 00 01 =
 32,766 bytes, 512 requests     | 2 2   | Q*512   | T*3582 00    | 0 32766 | 0 2 2 512 7165 7165  | J Q*512 S*3582 47 52 00 01 =
@@ -318,9 +286,7 @@ fn job_lengths(score: Score) -> Score {
 
 // The buffer (14), last of all.
 fn job_buffers(score: Score) -> Score {
-    play(
-        score,
-        Rows::Jobs,
+    score.jobs(
         b"
 buffer of 10 bytes      | 1 1 10    |  |           | 0 10    | 0 1 1 0 0 0       | 44 4B 01 00 01 00 =
 buffer of 9 bytes       | 1 1 9     |  |           | 14

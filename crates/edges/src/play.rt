@@ -14,13 +14,14 @@ use crate::score::print_label;
 use crate::score::print_written;
 use crate::text::field;
 use crate::text::find;
+use crate::text::first_bytes;
 use reader::Checked;
 use writer::Written;
 ghost use mathlib.Core.Path.{_≡_};
 ghost use lib.ListN.{length};
 
 // What the rows of a table are.
-pub enum Rows {
+enum Rows {
     Files,
     Jobs,
 }
@@ -47,14 +48,6 @@ fn grant_room() -> [u8; 2088196]
     ensures { λ r. ⌜ 2088196 ≡ length r ⌝ }
 {
     [0; 2088196]
-}
-
-// The first bytes, or all where there are fewer.
-fn first_bytes(bytes: &[u8], count: usize) -> &[u8] {
-    if bytes.len() < count {
-        return bytes;
-    }
-    &bytes[..count]
 }
 
 // The first numbers, or all where there are fewer.
@@ -144,16 +137,18 @@ fn write_row(row: &[u8], out: &mut [u8]) -> Written {
     )
 }
 
+// The bytes from a position on, or all where there are fewer.
+fn rest_bytes(bytes: &[u8], from: usize) -> &[u8] {
+    if bytes.len() < from {
+        return bytes;
+    }
+    &bytes[from..]
+}
+
 // Whether a buffer is as it was from a position on.
 fn is_kept(out: &[u8], from: usize) -> bool {
-    let mut i = from;
-    while i < out.len() {
-        if out[i] != UNWRITTEN {
-            return false;
-        }
-        i += 1;
-    }
-    true
+    let room = file_room();
+    check::same(rest_bytes(out, from), rest_bytes(&room, from))
 }
 
 // Whether a buffer starts with the bytes of a field.
@@ -230,7 +225,7 @@ fn play_row(score: Score, rows: Rows, row: &[u8]) -> Score {
 }
 
 // Plays the rows of a table, one a line; the line before the first is empty.
-pub fn play(start: Score, rows: Rows, table: &[u8]) -> Score {
+fn play(start: Score, rows: Rows, table: &[u8]) -> Score {
     let mut score = start;
     let mut from = 0;
     while from < table.len() {
@@ -244,4 +239,16 @@ pub fn play(start: Score, rows: Rows, table: &[u8]) -> Score {
         from = end + 1;
     }
     score
+}
+
+impl Score {
+    // Plays the file rows of a table.
+    pub fn files(self, table: &[u8]) -> Score {
+        play(self, Rows::Files, table)
+    }
+
+    // Plays the job rows of a table.
+    pub fn jobs(self, table: &[u8]) -> Score {
+        play(self, Rows::Jobs, table)
+    }
 }

@@ -2,37 +2,47 @@
 ghost use Prim.Native.Nat.{_≤_};
 ghost use lib.ListN.{length};
 
-// The position of the first such character from a position on, or the text's end.
-pub fn find(text: &[u8], from: usize, character: u8) -> usize
+// The position of such a character from a position on, behind that many others, or the text's end.
+fn find_behind(text: &[u8], from: usize, character: u8, others: u32) -> usize
     requires { ⌜ from ≤ length (now text) ⌝ }
     ensures { λ r. ⌜ from ≤ r ⌝ }
     ensures { λ r. ⌜ r ≤ length (now (text .entry)) ⌝ }
 {
+    let mut left = others;
     let mut i = from;
     while i < text.len() {
         if text[i] == character {
-            return i;
+            if left == 0 {
+                return i;
+            }
+            left -= 1;
         }
         i += 1;
     }
     i
 }
 
+// The position of the first such character from a position on, or the text's end.
+pub fn find(text: &[u8], from: usize, character: u8) -> usize
+    requires { ⌜ from ≤ length (now text) ⌝ }
+    ensures { λ r. ⌜ from ≤ r ⌝ }
+    ensures { λ r. ⌜ r ≤ length (now (text .entry)) ⌝ }
+{
+    find_behind(text, from, character, 0)
+}
+
 // Where the field with a number starts; fields count from 0.
 fn field_start(row: &[u8], number: u32) -> usize
     ensures { λ r. ⌜ r ≤ length (now (row .entry)) ⌝ }
 {
-    let mut from = 0;
-    let mut i = 0;
-    while i < number {
-        let bar = find(row, from, b'|');
-        if bar == row.len() {
-            return bar;
-        }
-        from = bar + 1;
-        i += 1;
+    if number == 0 {
+        return 0;
     }
-    from
+    let bar = find_behind(row, 0, b'|', number - 1);
+    if bar == row.len() {
+        return bar;
+    }
+    bar + 1
 }
 
 // The field with a number, empty where the row has none.
@@ -91,4 +101,12 @@ pub fn copies(word: &[u8]) -> u32 {
     }
     let start = star + 1;
     decimal(&word[start..])
+}
+
+// The first bytes, or all where there are fewer.
+pub fn first_bytes(bytes: &[u8], count: usize) -> &[u8] {
+    if bytes.len() < count {
+        return bytes;
+    }
+    &bytes[..count]
 }

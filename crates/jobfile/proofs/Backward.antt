@@ -6,9 +6,9 @@
 --   admitted-job             the job of an accepted file is admitted
 use mathlib.Core.Path.{_≡_, refl, _∙_, ap}
 use mathlib.Core.List.{List, [], _++_, map}
-use Prim.Native.Nat.{ℕ, _+_, _*_, _%_}
+use Prim.Native.Nat.{ℕ, _+_}
 use native.Mathlib.Omega.{arith}
-use lib.ListN.{length, drop, length-map, drop-of-length-le}
+use lib.ListN.{drop, length-map, drop-of-length-le}
 use lib.Seq.{drop-drop}
 use Rattle.jobfile.specs.declared.Run.{Run}
 use Rattle.jobfile.specs.Format.{jobMark, requestMark, runMark, closeMark, jobSize, requestSize, runSize, closeSize, word, wordBytes}

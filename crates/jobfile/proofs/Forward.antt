@@ -6,7 +6,7 @@
 --   meaning-written          the meaning of the written file is the job
 use mathlib.Core.Path.{_≡_, _∙_, sym, ap}
 use mathlib.Core.List.{List, [], _∷_, _++_, map, append-assoc}
-use Prim.Native.Nat.{ℕ, _+_, _*_, _%_, _≤_}
+use Prim.Native.Nat.{ℕ, _+_, _%_, _≤_}
 use native.Mathlib.Omega.{arith}
 use lib.ListN.{length, drop, length-append, length-map}
 use lib.Seq.{drop-drop}
@@ -36,7 +36,8 @@ no-request (r ∷ rs) w e = omega arith
 -- All that stands before the close's mark.
 abbrev pub body : Job → List ℕ
 body j =
-    wordBytes jobMark ++ wordBytes (j .nodes) ++ wordBytes (j .heads) ++ requestsBytes (j .requests) ++ runsBytes (longestRuns (j .schedule))
+    wordBytes jobMark ++ wordBytes (j .nodes) ++ wordBytes (j .heads)
+    ++ requestsBytes (j .requests) ++ runsBytes (longestRuns (j .schedule))
 
 pub file-parts : (j : Job) (w : ℕ) → fileWith j w ≡ (body j ++ wordBytes closeMark) ++ wordBytes w
 unfolding fileWith

@@ -3,7 +3,7 @@
 --   word-back, word-front   the two bytes of a word give the word, and a word gives its two bytes
 --   word-at, mark-front, pair-after   the word at a place, the mark, and the two bytes behind it, in front of what follows
 --   requestLayout n h       a request of a job with n nodes and h heads, checked with the number of requests before it
---   runLayout h             a run of a job with h heads, checked with the run before it
+--   runLayout h             a run of a job with h heads, checked with the run before it; where only the bytes matter, n and h are 0
 --   served-pass             written requests that are served, and at most 512, are not refused
 --   following-pass          nor are written runs that follow the rules
 use mathlib.Core.Path.{_≡_, refl, sym, ap, _∙_}

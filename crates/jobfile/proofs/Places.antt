@@ -7,8 +7,8 @@
 --   runs-meant          the runs of an accepted file are the longest of its schedule
 --   granted-next, granted-end   the schedule of the runs from run i on
 --   few-grants          an admitted job has at most 2,088,195 grants
-use mathlib.Core.Path.{_≡_, refl, _∙_, sym, ap}
-use mathlib.Core.List.{List, [], _∷_, _++_}
+use mathlib.Core.Path.{_≡_, _∙_, sym, ap}
+use mathlib.Core.List.{List, [], _++_}
 use Prim.Native.Nat.{ℕ, _+_, _*_, _≤_, _<_}
 use native.Mathlib.Omega.{arith}
 use native.Mathlib.Numerals.{add-one}

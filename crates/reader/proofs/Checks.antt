@@ -9,7 +9,7 @@
 --   runs-room, close-room  where the next section starts is within the file
 use mathlib.Core.Path.{_≡_, _∙_, sym, ap}
 use mathlib.Core.List.{List}
-use Prim.Native.Nat.{ℕ, _+_, _*_, _≤_, _<_}
+use Prim.Native.Nat.{ℕ, _≤_, _<_}
 use native.Mathlib.Omega.{arith}
 use lib.ListN.{length, drop, length-drop, length-map}
 use borrow.Author.Tests.{lt-ltb, le-ltb, ne-eqb}
@@ -133,14 +133,16 @@ module _ {s : List ℕ} {q : RequestSection} {r : RunSection} {n : ℕ} (h : Clo
   file-number : fileRefusal s ≡ n
   unfolding fileRefusal
   file-number =
-      let b = h .before .before in
-      simp (length-passes s (b .short), b .header, ← request-number b, h .before .requests, ← run-number (h .before), h .runs) (sym (h .read))
+      let r = h .before in
+      let b = r .before in
+      simp (length-passes s (b .short), b .header, ← request-number b, r .requests, ← run-number r, h .runs) (sym (h .read))
 
   pub close-answers : (n ≡ 0 → ⊥) → countsOf (refused n) ≡ countsOf (meaning s)
   close-answers z = refusal-answers s n file-number z
 
   pub counts-answer : Bytes s → n ≡ 0
-      → record { number = 0; nodes = nodesIn s; heads = headsIn s; requests = q .count; grants = r .grants; runs = r .count } ≡ countsOf (meaning s)
+      → record { number = 0; nodes = nodesIn s; heads = headsIn s; requests = q .count; grants = r .grants; runs = r .count }
+      ≡ countsOf (meaning s)
   unfolding jobIn
   counts-answer b z =
       let accepts = meaning-accepted s (file-number ∙ z) in

@@ -16,7 +16,8 @@ marked : (l : List ℕ) (at : ℕ) → at + 2 ≤ length l
     → take (at + 2) (sets l at (wordBytes closeMark)) ≡ take at l ++ wordBytes closeMark
 marked l at room =
     let front = take at l ++ wordBytes closeMark in
-    let size : length front ≡ at + 2 = length-append (take at l) (wordBytes closeMark) ∙ ap (λ n. n + 2) (length-take-le at l (omega arith)) in
+    let size : length front ≡ at + 2 =
+    length-append (take at l) (wordBytes closeMark) ∙ ap (λ n. n + 2) (length-take-le at l (omega arith)) in
     ap (take (at + 2)) (sets-eq (wordBytes closeMark) l at room) ∙ take-at front (drop (at + 2) l) (at + 2) size
 
 -- The difference from zero in 16 bits.

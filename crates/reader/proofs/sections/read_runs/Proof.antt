@@ -1,6 +1,6 @@
 -- `sections::read_runs`: the runs that are left give what all of them give.
 use mathlib.Core.Path.{_∙_}
-use Prim.Native.Nat.{_+_, _*_, _-_}
+use Prim.Native.Nat.{_+_, _-_}
 use native.Mathlib.Omega.{arith}
 use lib.ListN.{length}
 use borrow.Author.Needs.{needs}
@@ -46,7 +46,9 @@ loop-less : tie.Need-loop-less Inv-loop μ-loop
 loop-less c = omega arith
 
 loop-again : tie.Need-loop-again Inv-loop μ-loop
-loop-again c = runs-next (c .before .before .before .before .before .before .loop .inv) _ (cc) (cc) (c .before .run-here .ensures) (omega arith)
+loop-again c =
+    let looped = c .before .before .before .before .before .before in
+    runs-next (looped .loop .inv) _ (cc) (cc) (c .before .run-here .ensures) (omega arith)
 
 returns-2 : tie.Need-returns-2 Inv-loop μ-loop
 returns-2 c = runs-end (c .before .before .loop .inv) (λ e. c .if1 .left (c .before .word-at .ensures ∙ e))

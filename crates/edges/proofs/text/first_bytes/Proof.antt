@@ -1,9 +1,9 @@
--- `play::first_bytes` gives no more than there is.
+-- `text::first_bytes` gives no more than there is.
 use native.Mathlib.Omega.{arith}
 use lib.ListN.{length-take}
 use borrow.Author.Needs.{needs}
-use Rattle.edges.proofs.play.first_bytes.Statement.{statement}
-use Rattle.edges.proofs.play.first_bytes.Tie as tie
+use Rattle.edges.proofs.text.first_bytes.Statement.{statement}
+use Rattle.edges.proofs.text.first_bytes.Tie as tie
 
 returns : tie.Need-returns
 returns c = search needs
