@@ -119,8 +119,10 @@ fn turn_on(
 {
     let nodes = counts.nodes as usize;
     let rows = 4 * (counts.requests as usize);
+    let none = [0u16; 1];
     turn(
         file,
+        &none[..0],
         counts.requests,
         progress,
         &mut table[..nodes],

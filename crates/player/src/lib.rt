@@ -7,6 +7,7 @@ use start::first_mask;
 use start::first_requests;
 use start::fresh_table;
 use start::resting_heads;
+use start::successors;
 use turns::play_grants;
 ghost use mathlib.Core.Path.{_≡_};
 ghost use lib.ListN.{length};
@@ -49,10 +50,12 @@ fn play_whole(
     fresh_table(table);
     clear_report(report);
     let firsts = first_requests(file, checked.requests);
+    let index = successors(file, checked.requests);
     let heads = resting_heads(firsts);
     let mask = first_mask(firsts, checked.requests);
     let end = play_grants(
         file,
+        &index,
         checked.requests,
         checked.grants,
         heads,

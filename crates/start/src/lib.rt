@@ -14,6 +14,7 @@ ghost use Rattle.mask.specs.Mask.{maskOf};
 ghost use Rattle.rules.specs.Table.{fresh};
 ghost use Rattle.rules.specs.State.{resting};
 ghost use Rattle.stepper.specs.Shown.{requestsIn, Playing};
+ghost use Rattle.stepper.specs.Index.{Indexes};
 ghost use Rattle.start.specs.Start.{firstRequests, isRequest};
 
 // Each node its own parent, rank 0.
@@ -54,6 +55,25 @@ pub fn first_requests(file: &[u8], requests: u32) -> [u16; 16]
         h += 1;
     }
     firsts
+}
+
+// For each request the next one of its head, or the number of requests: an index for the grants. It is made from the last
+// request on, with the first request of each head so far.
+pub fn successors(file: &[u8], requests: u32) -> [u16; 512]
+    requires { ⌜ Playing (now file) requests ⌝ }
+    ensures { λ r. ⌜ Indexes (requestsIn (now (file .entry))) r ⌝ }
+{
+    let mut firsts = [requests as u16; 16];
+    let mut index = [0u16; 512];
+    let mut q = requests;
+    while 0 < q {
+        q -= 1;
+        let request = reader::request_at(file, q);
+        let h = request.head as usize;
+        index[q as usize] = firsts[h];
+        firsts[h] = q as u16;
+    }
+    index
 }
 
 // The task of a head at rest before a request.

@@ -29,7 +29,7 @@ use Rattle.jobfile.specs.Meaning.{meaning}
 use Rattle.mask.proofs.Laws.{flag-of, left-least}
 use Rattle.rules.specs.Table.{seen, touched}
 use Rattle.rules.specs.Report.{charge, noRow, isFinal}
-use Rattle.rules.specs.State.{State, seek, resting, hasWork}
+use Rattle.rules.specs.State.{requestAt, State, seek, resting, hasWork}
 use Rattle.rules.specs.Step.{ready, headAt, advanced, settled, served, passed, step}
 use Rattle.rules.specs.Run.{Happening, happened}
 use Rattle.rules.specs.Run.Happening.{idle}
@@ -181,6 +181,15 @@ module _ {file : List ℕ} {requests h number : ℕ} {b : Buffers} (playing : Pl
             let w = seen (map decode (b .table)) (accessOf head) in
             omega (arith, ap (λ m. m .head .task .request) is-moved, advance-keeps (head .task) w number (head .stage), request-within, playing .count)
 
+        -- the head serves a request of its own
+        pub own-request : requestAt qs (moved .head .task .request) .head ≡ h
+        unfolding advanceOf
+        own-request =
+            let w = seen (map decode (b .table)) (accessOf head) in
+            let kept : moved .head .task .request ≡ ready qs (headAt S h) .task .request =
+            ap (λ m. m .head .task .request) is-moved ∙ advance-keeps (head .task) w number (head .stage) ∙ ap (λ k. k .task .request) to-head in
+            ap (λ q. requestAt qs q .head) kept ∙ in-service .own
+
         -- an entry of this grant has room
         entries-after : eqb (moved .event .point) 0 ≡ false → suc (length (S .entries)) ≤ length qs
         entries-after t =
@@ -259,3 +268,6 @@ module _ {file : List ℕ} {requests h number : ℕ} {b : Buffers} (r : Ready fi
 
       pub ready-moved : moved .head .task .request < requests
       ready-moved = moved-within (r .playing) (r .head) (r .standing) bit head is-head moved is-moved
+
+      pub ready-own : requestAt (requestsIn file) (moved .head .task .request) .head ≡ h
+      ready-own = own-request (r .playing) (r .head) (r .standing) bit head is-head moved is-moved

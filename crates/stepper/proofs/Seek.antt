@@ -2,28 +2,30 @@
 --
 --   Sought qs h from q   the search for head h, begun at request `from`, has come to request q and found none yet
 --
--- Main laws: sought-here, sought-on and sought-none, what the next request makes of it.
+-- Main laws: sought-here, sought-on and sought-none, what the next request makes of it; successor-indexed, what an index has.
 use mathlib.Core.Path.{_≡_, refl, sym, ap, _∙_}
 use mathlib.Core.Logic.{_≢_}
 use mathlib.Core.List.{List}
 use Prim.Native.Nat.{ℕ, suc, _+_, _≤_, _<_}
 use native.Mathlib.Omega.{arith}
-use lib.ListN.{length, drop-of-length-le}
+use lib.ListN.{length, getD, drop-of-length-le}
 use lib.Seq.{drop-cons}
 use borrow.Author.Tests.{eq-eqb, ne-eqb}
 use Rattle.job.specs.declared.Request.{Request}
 use Rattle.rules.specs.State.{noRequest, requestAt, seekIn, seek}
+use Rattle.stepper.specs.Shown.{requestsIn}
+use Rattle.stepper.specs.Index.{Successive}
 
 module _ (qs : List Request) (h q : ℕ) where
-  seek-here : q < length qs → requestAt qs q .head ≡ h → seek qs h q ≡ q
+  pub seek-here : q < length qs → requestAt qs q .head ≡ h → seek qs h q ≡ q
   unfolding seek
   seek-here l own = ap (seekIn h q) (drop-cons qs q noRequest l) ∙ rw (eq-eqb (requestAt qs q .head) h own) refl
 
-  seek-on : q < length qs → requestAt qs q .head ≢ h → seek qs h q ≡ seek qs h (suc q)
+  pub seek-on : q < length qs → requestAt qs q .head ≢ h → seek qs h q ≡ seek qs h (suc q)
   unfolding seek
   seek-on l other = ap (seekIn h q) (drop-cons qs q noRequest l) ∙ rw (ne-eqb (requestAt qs q .head) h other) refl
 
-  seek-none : length qs ≤ q → seek qs h q ≡ q
+  pub seek-none : length qs ≤ q → seek qs h q ≡ q
   unfolding seek
   seek-none l = ap (seekIn h q) (drop-of-length-le qs {i = q} l)
 
@@ -44,3 +46,11 @@ module _ {qs : List Request} {h from q : ℕ} (sought : Sought qs h from q) wher
   sought-none l =
       let all : length qs ≡ q = omega (arith, sought .within) in
       all ∙ sym (seek-none qs h q l) ∙ sought .same
+
+-- what an index of the requests has
+pub successor-indexed : {file successors : List ℕ} {requests h q : ℕ} → Successive file successors requests h q → q < length successors
+    → getD successors q 0 ≡ seek (requestsIn file) h (q + 1)
+successor-indexed {file} {h = h} {q = q} s l =
+    let next : suc q ≡ q + 1 = omega arith in
+    s .indexed .successor q l (omega (arith, s .within, s .playing .count))
+    ∙ ap (λ k. seek (requestsIn file) k (suc q)) (s .own) ∙ ap (seek (requestsIn file) h) next

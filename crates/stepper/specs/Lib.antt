@@ -1,3 +1,4 @@
--- The lent buffers, and how they show a state of the rules.
+-- The lent buffers, how they show a state of the rules, and an index of the requests.
 pub mod Buffers
 pub mod Shown
+pub mod Index

@@ -1,5 +1,5 @@
 // The head of a grant: as the grant finds it, beginning its next request or going on, and at rest after its request's end.
-use crate::requests::next_request;
+use crate::requests::successor;
 use process::Advanced;
 use process::Head;
 use process::Task;
@@ -7,6 +7,7 @@ ghost use mathlib.Core.Path.{_≡_};
 ghost use Prim.Native.Nat.{_<_};
 ghost use Rattle.rules.specs.Step.{ready, settled};
 ghost use Rattle.stepper.specs.Shown.{requestsIn, Playing};
+ghost use Rattle.stepper.specs.Index.{Successive};
 
 // The head as a grant finds it: going on, or beginning its next request.
 pub fn ready_head(file: &[u8], requests: u32, head: Head) -> Head
@@ -22,9 +23,8 @@ pub fn ready_head(file: &[u8], requests: u32, head: Head) -> Head
 }
 
 // The head after a grant: where its request is finished it rests before its next one.
-pub fn settled_head(file: &[u8], requests: u32, h: u32, moved: Advanced) -> Head
-    requires { ⌜ Playing (now file) requests ⌝ }
-    requires { ⌜ moved .head .task .request < requests ⌝ }
+pub fn settled_head(file: &[u8], successors: &[u16], requests: u32, h: u32, moved: Advanced) -> Head
+    requires { ⌜ Successive (now file) (now successors) requests h (moved .head .task .request) ⌝ }
     ensures { λ r. ⌜ r ≡ settled (requestsIn (now (file .entry))) h moved ⌝ }
 {
     let head = moved.head;
@@ -32,10 +32,10 @@ pub fn settled_head(file: &[u8], requests: u32, h: u32, moved: Advanced) -> Head
     let answer = event.answer;
     if rules::is_final(answer) {
         let task = head.task;
-        let next = next_request(file, requests, h, task.request as u32 + 1);
+        let next = successor(file, successors, requests, h, task.request);
         return Head {
             task: Task {
-                request: next as u16,
+                request: next,
                 ..task
             },
             ..head

@@ -12,7 +12,8 @@ ghost use mathlib.Core.Path.{_≡_};
 ghost use mathlib.Core.Bool.{true, cond};
 ghost use Prim.Native.Nat.{_-_, _/_, _%_, _^_, _≤_, _<_};
 ghost use lib.Dec.{eqb, ltb};
-ghost use Rattle.stepper.specs.Shown.{buffers, Ready, Grants};
+ghost use Rattle.stepper.specs.Shown.{buffers, requestsIn, Ready, Grants};
+ghost use Rattle.stepper.specs.Index.{Indexes};
 
 // What a grant adds to the tally: an idle grant, a swap that did not write, a link.
 pub struct Done {
@@ -44,6 +45,7 @@ fn work_left(mask: u32, h: u32, next: u16, requests: u32) -> u32
 // A grant that serves head h: one access, and what it leaves.
 fn serve(
     file: &[u8],
+    successors: &[u16],
     requests: u32,
     mut heads: [Head; 16],
     h: u32,
@@ -55,6 +57,7 @@ fn serve(
     mask: u32,
 ) -> Granted
     requires { ⌜ Ready (now file) requests h number (buffers heads (now table) (now report) (now linearization) entries mask) ⌝ }
+    requires { ⌜ Indexes (requestsIn (now file)) (now successors) ⌝ }
     requires { ⌜ eqb (mask / 2 ^ h % 2) 1 ≡ true ⌝ }
     ensures { λ r. ⌜ Grants (now (file .entry)) h number
         (buffers heads (now (table .entry)) (now (report .entry)) (now (linearization .entry)) entries mask)
@@ -65,7 +68,7 @@ fn serve(
     let moved = table::stepped(table, head, number);
     let event = moved.event;
     let answer = event.answer;
-    let next = settled_head(file, requests, h, moved);
+    let next = settled_head(file, successors, requests, h, moved);
     heads[at] = next;
     let task = head.task;
     charge_row(report, task.request, number, answer);
@@ -86,6 +89,7 @@ fn serve(
 // then show the state after the rules' step. The mask is tested before the heads are touched, so that an idle grant is cheap.
 pub fn grant(
     file: &[u8],
+    successors: &[u16],
     requests: u32,
     heads: [Head; 16],
     h: u32,
@@ -97,6 +101,7 @@ pub fn grant(
     mask: u32,
 ) -> Granted
     requires { ⌜ Ready (now file) requests h number (buffers heads (now table) (now report) (now linearization) entries mask) ⌝ }
+    requires { ⌜ Indexes (requestsIn (now file)) (now successors) ⌝ }
     ensures { λ r. ⌜ Grants (now (file .entry)) h number
         (buffers heads (now (table .entry)) (now (report .entry)) (now (linearization .entry)) entries mask)
         (buffers (r .heads) (now (table .exit)) (now (report .exit)) (now (linearization .exit)) (r .entries) (r .mask)) (r .done) ⌝ }
@@ -104,6 +109,7 @@ pub fn grant(
     if mask::is_set(mask, h) {
         return serve(
             file,
+            successors,
             requests,
             heads,
             h,

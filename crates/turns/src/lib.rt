@@ -7,7 +7,8 @@ ghost use mathlib.Core.Path.{_≡_};
 ghost use Prim.Native.Nat.{_<_};
 ghost use Rattle.jobfile.specs.Meaning.{meaning};
 ghost use Rattle.rules.specs.Step.{plus};
-ghost use Rattle.stepper.specs.Shown.{Playing};
+ghost use Rattle.stepper.specs.Shown.{requestsIn, Playing};
+ghost use Rattle.stepper.specs.Index.{Indexes};
 ghost use Rattle.turns.specs.Turns.{Roomy, countedOf, runsIn, openedOf, takenOf, Openable, buffersOf, Turnable, Turns, firstProgress, firstTally, Startable, endOf};
 
 // Where a play stands among the runs of the file: the next run, and the head and the grants left of the one under way.
@@ -89,6 +90,7 @@ fn taken(cursor: Cursor) -> Cursor
 // One grant: the next of the schedule.
 pub fn turn(
     file: &[u8],
+    successors: &[u16],
     requests: u32,
     progress: Progress,
     table: &mut [u32],
@@ -96,6 +98,7 @@ pub fn turn(
     linearization: &mut [u32],
 ) -> Progress
     requires { ⌜ Turnable (now file) requests progress (now table) (now report) (now linearization) ⌝ }
+    requires { ⌜ Indexes (requestsIn (now file)) (now successors) ⌝ }
     ensures { λ r. ⌜ Turns (now (file .entry)) progress r
         (buffersOf progress (now (table .entry)) (now (report .entry)) (now (linearization .entry)))
         (buffersOf r (now (table .exit)) (now (report .exit)) (now (linearization .exit))) ⌝ }
@@ -105,6 +108,7 @@ pub fn turn(
     let heads = progress.heads;
     let granted = grant(
         file,
+        successors,
         requests,
         heads,
         cursor.head,
@@ -164,6 +168,7 @@ pub fn first_tally(mask: u32) -> Tally
 // Plays all grants of an accepted file, from buffers that show the start.
 pub fn play_grants(
     file: &[u8],
+    successors: &[u16],
     requests: u32,
     grants: u32,
     heads: [Head; 16],
@@ -173,13 +178,22 @@ pub fn play_grants(
     linearization: &mut [u32],
 ) -> Ended
     requires { ⌜ Startable (now file) requests grants heads mask (now table) (now report) (now linearization) ⌝ }
+    requires { ⌜ Indexes (requestsIn (now file)) (now successors) ⌝ }
     ensures { λ r. ⌜ record { table = now (table .exit); report = now (report .exit); linearization = now (linearization .exit); ended = r }
         ≡ endOf (meaning (now (file .entry)) .job) (now (linearization .entry)) ⌝ }
 {
     let mut progress = first_progress(heads, mask);
     let mut tally = first_tally(mask);
     while progress.number < grants {
-        progress = turn(file, requests, progress, table, report, linearization);
+        progress = turn(
+            file,
+            successors,
+            requests,
+            progress,
+            table,
+            report,
+            linearization,
+        );
         let done = progress.done;
         tally = counted(tally, done, progress.mask);
     }

@@ -3,6 +3,7 @@ use mathlib.Core.Path.{sym}
 use Prim.Native.Nat.{_*_}
 use lib.Seq.{length-take-le}
 use Rattle.lent.proofs.Along.{turned-on}
+use native.Mathlib.Omega.{arith}
 use borrow.Author.Needs.{needs}
 use Rattle.lent.proofs.turn_on.Statement.{statement}
 use Rattle.lent.proofs.turn_on.Tie as tie
@@ -16,20 +17,36 @@ cast-rows c = search needs
 mul-rows : tie.Need-mul-rows
 mul-rows c = search needs
 
-slice-relend-prefix-turn : tie.Need-slice-relend-prefix-turn
-slice-relend-prefix-turn c = let k = c .before .before .before .before .before .before in k .pre .nodes
+array-share-prefix-none : tie.Need-array-share-prefix-none
+array-share-prefix-none c = search needs
 
 slice-aggregate-turn : tie.Need-slice-aggregate-turn
-slice-aggregate-turn c = let k = c .before .before .before .before .before .before .before in sym (length-take-le (k .args .counts .nodes) (k .args .table .now) (k .pre .nodes))
+slice-aggregate-turn c = search needs
 
-slice-relend-prefix-turn-2 : tie.Need-slice-relend-prefix-turn-2
-slice-relend-prefix-turn-2 c = let k = c .before .before .before .before .before .before .before in k .pre .rows
+slice-relend-prefix-turn : tie.Need-slice-relend-prefix-turn
+slice-relend-prefix-turn c =
+    let k = c .before .before .before .before .before .before .before in
+    k .pre .nodes
 
 slice-aggregate-turn-2 : tie.Need-slice-aggregate-turn-2
-slice-aggregate-turn-2 c = let k = c .before .before .before .before .before .before .before .before in sym (length-take-le (4 * k .args .counts .requests) (k .args .report .now) (k .pre .rows))
+slice-aggregate-turn-2 c =
+    let k = c .before .before .before .before .before .before .before .before in
+    sym (length-take-le (k .args .counts .nodes) (k .args .table .now) (k .pre .nodes))
+
+slice-relend-prefix-turn-2 : tie.Need-slice-relend-prefix-turn-2
+slice-relend-prefix-turn-2 c =
+    let k = c .before .before .before .before .before .before .before .before in
+    k .pre .rows
+
+slice-aggregate-turn-3 : tie.Need-slice-aggregate-turn-3
+slice-aggregate-turn-3 c =
+    let k = c .before .before .before .before .before .before .before .before .before in
+    sym (length-take-le (4 * k .args .counts .requests) (k .args .report .now) (k .pre .rows))
 
 turn-requires : tie.Need-turn-requires
-turn-requires c κs = c .before .before .before .before .before .before .before .before .before .pre .turnable
+turn-requires c κs =
+    let k = c .before .before .before .before .before .before .before .before .before .before in
+    (k .pre .turnable, record { successor = λ q l. absurd (omega arith) })
 
 same-length : tie.Need-same-length
 same-length c = search needs
@@ -43,9 +60,9 @@ same-length-3 c = search needs
 returns : tie.Need-returns
 returns c =
     let turned = c .before .before .before .before .before .before in
-    let k = c .before .before .before .before .before .before .before .before .before .before .before .before .before .before .before .before in
+    let k = c .before .before .before .before .before .before .before .before .before .before .before .before .before .before .before .before .before in
     λ lent standing. turned-on (k .args .table .now) (k .args .report .now) _ _ (k .pre)
-    (turned .turn .kept .1 .1 .1 .0) (turned .turn .kept .1 .1 .1 .1 .0) (turned .turn .ensures lent standing)
+    (turned .turn .kept .1 .1 .1 .1 .0) (turned .turn .kept .1 .1 .1 .1 .1 .0) (turned .turn .ensures lent standing)
 
 pub turn-on-spec : {M : Type 1} → statement M
 turn-on-spec =
@@ -54,10 +71,12 @@ turn-on-spec =
     cast-nodes
     cast-rows
     mul-rows
-    slice-relend-prefix-turn
+    array-share-prefix-none
     slice-aggregate-turn
-    slice-relend-prefix-turn-2
+    slice-relend-prefix-turn
     slice-aggregate-turn-2
+    slice-relend-prefix-turn-2
+    slice-aggregate-turn-3
     turn-requires
     same-length
     same-length-2

@@ -7,10 +7,13 @@ use Rattle.stepper.proofs.grant.Statement.{statement}
 use Rattle.stepper.proofs.grant.Tie as tie
 
 is-set-requires : tie.Need-is-set-requires
-is-set-requires c κs = omega (arith, c .before .before .before .before .pre .head)
+is-set-requires c κs = omega (arith, c .before .before .before .before .before .pre .0 .head)
 
 serve-requires : tie.Need-serve-requires
-serve-requires c κs = (c .before .before .before .before .before .before .before .before .before .pre, sym (c .before .before .before .before .is-set .ensures) ∙ c .before .before .before .if1 .taken)
+serve-requires c κs =
+    let tested = c .before .before .before .before in
+    let start = tested .before .before .before .before .before .before in
+    (start .pre .0, (start .pre .1, sym (tested .is-set .ensures) ∙ c .before .before .before .if1 .taken))
 
 same-length : tie.Need-same-length
 same-length c = search needs
@@ -26,7 +29,7 @@ returns c = let served = c .before .before .before .before .before .before in λ
 
 returns-2 : tie.Need-returns-2
 returns-2 c =
-    let p = c .before .before .before .before .before .before .pre in
+    let p = c .before .before .before .before .before .before .before .pre .0 in
     let t = sym (c .before .is-set .ensures) ∙ c .if1 .left in
     λ gs lent standing.
     record { buffers = idle-shown (p .playing) (p .head) standing t; done = idle-done (p .playing) (p .head) standing t }

@@ -1,5 +1,5 @@
 -- `stepper::serve`: each part asks what the state shown grants it, and the parts together make the rules' step.
-use Rattle.stepper.proofs.Needs.{ready-next, ready-mask, ready-small, ready-raisable, ready-touchable, ready-room, ready-used, ready-insertable, ready-moved, serve-shown, serve-done}
+use Rattle.stepper.proofs.Needs.{ready-next, ready-mask, ready-small, ready-raisable, ready-touchable, ready-room, ready-used, ready-insertable, ready-moved, ready-own, serve-shown, serve-done}
 use mathlib.Core.Path.{refl}
 use native.Mathlib.Omega.{arith}
 use borrow.Author.Needs.{needs}
@@ -14,35 +14,42 @@ array-copy-out-ready-head c = search needs
 
 ready-head-requires : tie.Need-ready-head-requires
 ready-head-requires c κs =
-    let start = c .before .before .before .before .before in
-    (start .pre .0 .playing, ready-next (start .pre .0) (start .pre .1))
+    let start = c .before .before .before .before .before .before in
+    (start .pre .0 .playing, ready-next (start .pre .0) (start .pre .1 .1))
 
 stepped-requires : tie.Need-stepped-requires
 stepped-requires c κs =
     let found = c .before in
-    let start = found .before .before .before .before .before .before in
-    (ready-touchable (start .pre .0) (start .pre .1) (found .ready-head .result) (found .ready-head .ensures), ready-raisable (start .pre .0) (start .pre .1) (found .ready-head .result) (found .ready-head .ensures))
+    let start = found .before .before .before .before .before .before .before in
+    (ready-touchable (start .pre .0) (start .pre .1 .1) (found .ready-head .result) (found .ready-head .ensures), ready-raisable (start .pre .0) (start .pre .1 .1) (found .ready-head .result) (found .ready-head .ensures))
 
 settled-head-requires : tie.Need-settled-head-requires
 settled-head-requires c κs =
     let stepped = c .before .before .before in
     let found = stepped .before .before in
-    let start = found .before .before .before .before .before .before in
-    (start .pre .0 .playing, ready-moved (start .pre .0) (start .pre .1) (found .ready-head .result) (found .ready-head .ensures) (stepped .stepped .result) (stepped .stepped .ensures .0))
+    let start = found .before .before .before .before .before .before .before in
+    record {
+      playing = start .pre .0 .playing;
+      indexed = start .pre .1 .0;
+      within = ready-moved (start .pre .0) (start .pre .1 .1) (found .ready-head .result) (found .ready-head .ensures) (stepped .stepped .result) (stepped .stepped .ensures .0);
+      own = ready-own (start .pre .0) (start .pre .1 .1) (found .ready-head .result) (found .ready-head .ensures) (stepped .stepped .result) (stepped .stepped .ensures .0);
+    }
 
 mul-heads : tie.Need-mul-heads
-mul-heads c = search needs
+mul-heads c =
+    let start = c .before .before .before .before .before .before .before .before .before .before .before .before .before in
+    omega (arith, start .pre .0 .head)
 
 array-set-from-heads : tie.Need-array-set-from-heads
 array-set-from-heads c =
-    let start = c .before .before .before .before .before .before .before .before .before .before .before .before in
+    let start = c .before .before .before .before .before .before .before .before .before .before .before .before .before in
     omega (arith, start .pre .0 .head)
 
 charge-row-requires : tie.Need-charge-row-requires
 charge-row-requires c κs =
     let found = c .before .before .before .before .before .before .before .before in
-    let start = found .before .before .before .before .before .before in
-    (ready-room (start .pre .0) (start .pre .1) (found .ready-head .result) (found .ready-head .ensures), ready-used (start .pre .0) (start .pre .1) (found .ready-head .result) (found .ready-head .ensures) (omega (arith, start .fits .number)))
+    let start = found .before .before .before .before .before .before .before in
+    (ready-room (start .pre .0) (start .pre .1 .1) (found .ready-head .result) (found .ready-head .ensures), ready-used (start .pre .0) (start .pre .1 .1) (found .ready-head .result) (found .ready-head .ensures) (omega (arith, start .fits .number)))
 
 cast-enter : tie.Need-cast-enter
 cast-enter c = search needs
@@ -51,13 +58,13 @@ enter-requires : tie.Need-enter-requires
 enter-requires c κs =
     let stepped = c .before .before .before .before .before .before .before .before .before .before .before in
     let found = stepped .before .before in
-    let start = found .before .before .before .before .before .before in
-    (ready-insertable (start .pre .0) (start .pre .1) (found .ready-head .result) (found .ready-head .ensures) (stepped .stepped .result) (stepped .stepped .ensures .0), ready-small (start .pre .0) (start .pre .1))
+    let start = found .before .before .before .before .before .before .before in
+    (ready-insertable (start .pre .0) (start .pre .1 .1) (found .ready-head .result) (found .ready-head .ensures) (stepped .stepped .result) (stepped .stepped .ensures .0), ready-small (start .pre .0) (start .pre .1 .1))
 
 work-left-requires : tie.Need-work-left-requires
 work-left-requires c κs =
-    let start = c .before .before .before .before .before .before .before .before .before .before .before .before .before .before .before .before .before .before .before .before .before .before in
-    (omega (arith, start .pre .0 .head), ready-mask (start .pre .0) (start .pre .1))
+    let start = c .before .before .before .before .before .before .before .before .before .before .before .before .before .before .before .before .before .before .before .before .before .before .before in
+    (omega (arith, start .pre .0 .head), ready-mask (start .pre .0) (start .pre .1 .1))
 
 same-length : tie.Need-same-length
 same-length c = search needs
@@ -76,13 +83,13 @@ returns c =
     let settled = charged .before .before .before in
     let stepped = settled .before .before .before .before in
     let found = stepped .before .before in
-    let start = found .before .before .before .before .before .before in
+    let start = found .before .before .before .before .before .before .before in
     let ready = start .pre .0 in
-    let shown = serve-shown (ready .playing) (ready .head) standing (start .pre .1) (found .ready-head .result) (found .ready-head .ensures) (stepped .stepped .result) (stepped .stepped .ensures .0)
+    let shown = serve-shown (ready .playing) (ready .head) standing (start .pre .1 .1) (found .ready-head .result) (found .ready-head .ensures) (stepped .stepped .result) (stepped .stepped .ensures .0)
     _ _ _ (entered .enter .result) (c .work-left .result) (settled .settled-head .result)
     (stepped .stepped .ensures .1) (charged .charge-row .ensures) (entered .enter .ensures .1) (entered .enter .ensures .0)
     (settled .settled-head .ensures) (c .work-left .ensures) in
-    let done = serve-done (ready .playing) (ready .head) standing (start .pre .1) (found .ready-head .result) (found .ready-head .ensures) (stepped .stepped .result) (stepped .stepped .ensures .0) _ refl in
+    let done = serve-done (ready .playing) (ready .head) standing (start .pre .1 .1) (found .ready-head .result) (found .ready-head .ensures) (stepped .stepped .result) (stepped .stepped .ensures .0) _ refl in
     record { buffers = shown; done = done }
 
 pub serve-spec : {M : Type 1} → statement M

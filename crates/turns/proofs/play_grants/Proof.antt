@@ -11,10 +11,10 @@ use Rattle.turns.proofs.play_grants.Statement.{statement}
 use Rattle.turns.proofs.play_grants.Tie as tie
 
 abbrev Inv-loop : tie.InvT-loop
-Inv-loop file requests grants mask table₀ report₀ linearization₀ progress₀ tally₀ table report linearization progress tally = Going file requests linearization₀ progress tally table report linearization
+Inv-loop file successors requests grants mask table₀ report₀ linearization₀ progress₀ tally₀ table report linearization progress tally = Going file requests linearization₀ progress tally table report linearization
 
 abbrev μ-loop : tie.MeasureT-loop
-μ-loop file requests grants mask table₀ report₀ linearization₀ progress₀ tally₀ table report linearization progress tally = grants - progress .number
+μ-loop file successors requests grants mask table₀ report₀ linearization₀ progress₀ tally₀ table report linearization progress tally = grants - progress .number
 
 first-progress-requires : tie.Need-first-progress-requires Inv-loop μ-loop
 first-progress-requires c κs = search needs
@@ -23,14 +23,14 @@ first-tally-requires : tie.Need-first-tally-requires Inv-loop μ-loop
 first-tally-requires c κs = search needs
 
 loop-holds : tie.Need-loop-holds Inv-loop μ-loop
-loop-holds c = going-start (c .before .before .before .before .before .before .pre) _ _ (c .before .first-progress .ensures) (c .first-tally .ensures)
+loop-holds c = going-start (c .before .before .before .before .before .before .before .pre .0) _ _ (c .before .first-progress .ensures) (c .first-tally .ensures)
 
 turn-requires : tie.Need-turn-requires Inv-loop μ-loop
 turn-requires c κs =
     let tested = c .before .before .before in
     let looped = tested .before .before in
-    let start = looped .before .before .before .before .before .before .before in
-    going-turnable (looped .loop .inv) (omega (arith, tested .if1 .taken, start .pre .grants))
+    let start = looped .before .before .before .before .before .before .before .before in
+    (going-turnable (looped .loop .inv) (omega (arith, tested .if1 .taken, start .pre .0 .grants)), start .pre .1)
 
 counted-requires : tie.Need-counted-requires Inv-loop μ-loop
 counted-requires c κs =
@@ -50,28 +50,28 @@ loop-again c =
     let turned = c .before .before .before .before .before .before .before .before in
     let tested = turned .before .before .before .before in
     let looped = tested .before .before in
-    let start = looped .before .before .before .before .before .before .before in
+    let start = looped .before .before .before .before .before .before .before .before in
     let g = looped .loop .inv in
-    going-next g (omega (arith, tested .if1 .taken, start .pre .grants)) (turned .turn .result) (c .counted .result) _ _ _
+    going-next g (omega (arith, tested .if1 .taken, start .pre .0 .grants)) (turned .turn .result) (c .counted .result) _ _ _
     (turned .turn .ensures _ (g .standing)) (c .counted .ensures)
 
 same-length : tie.Need-same-length Inv-loop μ-loop
 same-length c =
     let looped = c .before .before in
-    let start = looped .before .before .before .before .before .before .before in
-    let g = looped .loop .inv in standing-table (g .playing) (g .standing) ∙ sym (standing-table (g .playing) (start .pre .standing))
+    let start = looped .before .before .before .before .before .before .before .before in
+    let g = looped .loop .inv in standing-table (g .playing) (g .standing) ∙ sym (standing-table (g .playing) (start .pre .0 .standing))
 
 same-length-2 : tie.Need-same-length-2 Inv-loop μ-loop
 same-length-2 c =
     let looped = c .before .before in
-    let start = looped .before .before .before .before .before .before .before in
-    let g = looped .loop .inv in standing-report (g .playing) (g .standing) ∙ sym (standing-report (g .playing) (start .pre .standing))
+    let start = looped .before .before .before .before .before .before .before .before in
+    let g = looped .loop .inv in standing-report (g .playing) (g .standing) ∙ sym (standing-report (g .playing) (start .pre .0 .standing))
 
 same-length-3 : tie.Need-same-length-3 Inv-loop μ-loop
 same-length-3 c = let g = c .before .before .loop .inv in standing-linearization (g .playing) (g .standing)
 
 returns : tie.Need-returns Inv-loop μ-loop
-returns c = let g = c .before .before .loop .inv in going-end g (omega (arith, c .if1 .left, c .before .before .before .before .before .before .before .before .before .pre .grants)) _ refl
+returns c = let g = c .before .before .loop .inv in going-end g (omega (arith, c .if1 .left, c .before .before .before .before .before .before .before .before .before .before .pre .0 .grants)) _ refl
 
 pub play-grants-spec : {M : Type 1} → statement M
 play-grants-spec =

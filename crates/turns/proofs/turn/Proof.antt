@@ -7,22 +7,22 @@ use Rattle.turns.proofs.turn.Statement.{statement}
 use Rattle.turns.proofs.turn.Tie as tie
 
 open-run-requires : tie.Need-open-run-requires
-open-run-requires c κs = let p = c .before .before .before .before .pre in (p .playing, turn-openable p)
+open-run-requires c κs = let p = c .before .before .before .before .before .pre .0 in (p .playing, turn-openable p)
 
 add-number : tie.Need-add-number
-add-number c = omega (arith, turn-number (c .before .before .before .before .before .before .pre))
+add-number c = omega (arith, turn-number (c .before .before .before .before .before .before .before .pre .0))
 
 grant-requires : tie.Need-grant-requires
 grant-requires c κs =
     let opened = c .before .before .before .before .before in
-    let start = opened .before .before .before .before .before in
-    turn-ready (start .pre) (opened .open-run .result) (opened .open-run .ensures)
+    let start = opened .before .before .before .before .before .before in
+    (turn-ready (start .pre .0) (opened .open-run .result) (opened .open-run .ensures), start .pre .1)
 
 taken-requires : tie.Need-taken-requires
 taken-requires c κs =
     let opened = c .before .before .before .before .before .before .before .before .before .before .before .before .before .before in
-    let start = opened .before .before .before .before .before in
-    turn-left (start .pre) (opened .open-run .result) (opened .open-run .ensures)
+    let start = opened .before .before .before .before .before .before in
+    turn-left (start .pre .0) (opened .open-run .result) (opened .open-run .ensures)
 
 same-length : tie.Need-same-length
 same-length c = search needs
@@ -37,9 +37,9 @@ returns : tie.Need-returns
 returns c =
     let granted = c .before .before .before .before .before .before .before .before .before in
     let opened = granted .before .before .before .before .before .before in
-    let start = opened .before .before .before .before .before in
+    let start = opened .before .before .before .before .before .before in
     λ lent standing. let g = granted .grant .ensures _ lent standing in
-    turn-turned (start .pre) (opened .open-run .result) (opened .open-run .ensures) _ _ lent refl (c .taken .ensures) (g .buffers) (g .done)
+    turn-turned (start .pre .0) (opened .open-run .result) (opened .open-run .ensures) _ _ lent refl (c .taken .ensures) (g .buffers) (g .done)
 
 pub turn-spec : {M : Type 1} → statement M
 turn-spec =

@@ -1,0 +1,122 @@
+-- `start::successors`: the successors of the requests from q on are found, and each head's first request from q on.
+use mathlib.Core.Path.{sym, ap}
+use Prim.Native.Nat.{_-_}
+use native.Mathlib.Omega.{arith}
+use borrow.Author.Needs.{needs}
+use Rattle.rules.specs.State.{noRequest}
+use Rattle.stepper.specs.Shown.{requestsIn}
+use Rattle.start.proofs.Index.{Indexed, indexed-none, indexed-on, indexed-all, few-requests, few-heads}
+use Rattle.start.proofs.successors.Statement.{statement}
+use Rattle.start.proofs.successors.Tie as tie
+
+abbrev Inv-loop : tie.InvT-loop
+Inv-loop file requests firsts₀ index₀ q₀ firsts index q = Indexed (requestsIn file) firsts index q
+
+abbrev μ-loop : tie.MeasureT-loop
+μ-loop file requests firsts₀ index₀ q₀ firsts index q = q
+
+cast-firsts : tie.Need-cast-firsts Inv-loop μ-loop
+cast-firsts c = omega (arith, few-requests (c .before .pre))
+
+loop-holds : tie.Need-loop-holds Inv-loop μ-loop
+loop-holds c = indexed-none _ _ (c .before .pre .count)
+
+sub-q : tie.Need-sub-q Inv-loop μ-loop
+sub-q c = search needs
+
+request-at-requires : tie.Need-request-at-requires Inv-loop μ-loop
+request-at-requires c κs =
+    let start = c .before .before .before in
+    (start .pre .accepted, omega (arith, c .before .loop .inv .within, start .pre .count))
+
+cast-h : tie.Need-cast-h Inv-loop μ-loop
+cast-h c = search needs
+
+mul-index : tie.Need-mul-index Inv-loop μ-loop
+mul-index c =
+    let tested = c .before .before in
+    let l = tested .before .loop in
+    let start = tested .before .before .before in
+    omega (arith, few-heads (start .pre) (l .q - 1) (omega (arith, l .inv .within, start .pre .count)) (c .before .request-at .result) (c .before .request-at .ensures))
+
+array-read-index : tie.Need-array-read-index Inv-loop μ-loop
+array-read-index c =
+    let tested = c .before .before in
+    let l = tested .before .loop in
+    let start = tested .before .before .before in
+    omega (arith, few-heads (start .pre) (l .q - 1) (omega (arith, l .inv .within, start .pre .count)) (c .before .request-at .result) (c .before .request-at .ensures))
+
+cast-index : tie.Need-cast-index Inv-loop μ-loop
+cast-index c = search needs
+
+mul-index-2 : tie.Need-mul-index-2 Inv-loop μ-loop
+mul-index-2 c =
+    let tested = c .before .before in
+    let l = tested .before .loop in
+    let start = tested .before .before .before in
+    omega (arith, l .inv .within, few-requests (start .pre), start .pre .count)
+
+array-write-index : tie.Need-array-write-index Inv-loop μ-loop
+array-write-index c =
+    let tested = c .before .before in
+    let l = tested .before .loop in
+    let start = tested .before .before .before in
+    omega (arith, l .inv .within, few-requests (start .pre), start .pre .count)
+
+cast-firsts-2 : tie.Need-cast-firsts-2 Inv-loop μ-loop
+cast-firsts-2 c =
+    let tested = c .before .before in
+    let l = tested .before .loop in
+    let start = tested .before .before .before in
+    omega (arith, l .inv .within, few-requests (start .pre), start .pre .count)
+
+mul-firsts : tie.Need-mul-firsts Inv-loop μ-loop
+mul-firsts c =
+    let tested = c .before .before in
+    let l = tested .before .loop in
+    let start = tested .before .before .before in
+    omega (arith, few-heads (start .pre) (l .q - 1) (omega (arith, l .inv .within, start .pre .count)) (c .before .request-at .result) (c .before .request-at .ensures))
+
+array-write-firsts : tie.Need-array-write-firsts Inv-loop μ-loop
+array-write-firsts c =
+    let tested = c .before .before in
+    let l = tested .before .loop in
+    let start = tested .before .before .before in
+    omega (arith, few-heads (start .pre) (l .q - 1) (omega (arith, l .inv .within, start .pre .count)) (c .before .request-at .result) (c .before .request-at .ensures))
+
+loop-less : tie.Need-loop-less Inv-loop μ-loop
+loop-less c = search needs
+
+loop-again : tie.Need-loop-again Inv-loop μ-loop
+loop-again c =
+    let tested = c .before .before in
+    let l = tested .before .loop in
+    let start = tested .before .before .before in
+    indexed-on (l .inv) (l .q - 1) (c .before .request-at .result .head) (omega arith)
+    (ap (λ k. k .head) (sym (c .before .request-at .ensures noRequest))) (few-heads (start .pre) (l .q - 1) (omega (arith, l .inv .within, start .pre .count)) (c .before .request-at .result) (c .before .request-at .ensures)) (omega (arith, l .inv .within, few-requests (start .pre), start .pre .count))
+
+returns : tie.Need-returns Inv-loop μ-loop
+returns c = indexed-all (omega arith) (c .before .loop .inv)
+
+pub successors-spec : {M : Type 1} → statement M
+successors-spec =
+    tie.close
+    (tie.spec
+    Inv-loop
+    μ-loop
+    cast-firsts
+    loop-holds
+    sub-q
+    request-at-requires
+    cast-h
+    mul-index
+    array-read-index
+    cast-index
+    mul-index-2
+    array-write-index
+    cast-firsts-2
+    mul-firsts
+    array-write-firsts
+    loop-less
+    loop-again
+    returns)
