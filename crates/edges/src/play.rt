@@ -195,25 +195,24 @@ fn room_in(row: &[u8]) -> usize {
     wide(sizes[2])
 }
 
-// Plays a job row in a buffer: the writer gets its first part.
-fn play_within(score: Score, row: &[u8], out: &mut [u8]) -> Score {
-    print_label(score, field(row, 0));
-    let room = room_in(row);
+// Writes the job of a row into the first part of a buffer; a part that it does not have gets an answer that no row expects.
+fn write_within(row: &[u8], out: &mut [u8], room: usize) -> Written {
     if out.len() < room {
-        return judge(score, false);
+        return written_in(b"");
     }
-    let answer = write_row(row, &mut out[..room]);
-    print_written(answer);
-    if !read_again(row, answer, out) {
-        return judge(score, false);
-    }
-    judge(score, is_left(row, answer, out))
+    write_row(row, &mut out[..room])
 }
 
-// Plays a job row.
+// Plays a job row: the writer gets the first part of a buffer.
 fn play_job(score: Score, row: &[u8]) -> Score {
+    print_label(score, field(row, 0));
     let mut out = file_room();
-    play_within(score, row, &mut out)
+    let answer = write_within(row, &mut out, room_in(row));
+    print_written(answer);
+    if !read_again(row, answer, &out) {
+        return judge(score, false);
+    }
+    judge(score, is_left(row, answer, &out))
 }
 
 // Plays a row.
