@@ -125,7 +125,13 @@ abbrev pub raise : Task → ℕ → Node → Advanced
 raise k r w =
     record {
       head = record { stage = Resting; task = k };
-      event = record { failed = not (same w (record { rank = r; parent = k .y })); found = false; linked = false; answer = Joined; point = 0 };
+      event = record {
+        failed = not (same w (record { rank = r; parent = k .y }));
+        found = false;
+        linked = false;
+        answer = Joined;
+        point = 0;
+      };
     }
 
 -- ---- every stage

@@ -69,7 +69,9 @@ enum-known-stage-5 : tie.Need-enum-known-stage-5
 enum-known-stage-5 c = search needs
 
 add-t38 : tie.Need-add-t38
-add-t38 c = omega (arith, rw (c .before .before .stage5 .given .1) at (c .before .before .before .before .before .before .pre .1))
+add-t38 c =
+    let start = c .before .before .before .before .before .before in
+    omega (arith, rw (c .before .before .stage5 .given .1) at (start .pre .1))
 
 swap-requires-2 : tie.Need-swap-requires-2
 swap-requires-2 c κs =
@@ -81,9 +83,10 @@ raising-requires c κs = search needs
 
 returns : tie.Need-returns
 returns c =
+    let case = c .before .enum-told .given .1 in
     let start = c .before .before .before .before .before in
-    let able = head-able (now (start .args .table)) (start .args .head) (c .before .enum-told .given .1) (start .pre .0) in
-    moves (now (start .args .table)) (start .args .head) (c .before .enum-told .given .1) _ _ _ _ (sees-idle _ (able .worded)) (c .going .ensures)
+    let able = head-able (now (start .args .table)) (start .args .head) case (start .pre .0) in
+    moves (now (start .args .table)) (start .args .head) case _ _ _ _ (sees-idle _ (able .worded)) (c .going .ensures)
 
 same-length : tie.Need-same-length
 same-length c = search needs

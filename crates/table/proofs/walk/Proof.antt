@@ -16,9 +16,10 @@ enum-told c = search needs
 load-requires : tie.Need-load-requires
 load-requires c κs =
     let found = c .before .before .before in
+    let node = found .node-at in
     let a = found .before .before .args in
     let case = c .before .enum-told .given .1 in
-    find-able (now (a .table)) (a .task) (a .errand) (found .node-at .result) (found .node-at .ensures) case (found .before .before .pre)
+    find-able (now (a .table)) (a .task) (a .errand) (node .result) (node .ensures) case (found .before .before .pre)
 
 ended-requires : tie.Need-ended-requires
 ended-requires c κs = search needs
@@ -29,11 +30,12 @@ same-length c = search needs
 returns : tie.Need-returns
 returns c =
     let found = c .before .before .before .before .before .before .before in
+    let node = found .node-at in
     let a = found .before .before .args in
     let case = c .before .before .before .before .before .enum-told .given .1 in
     let loaded = c .before .before .before .load in
-    let able = find-able (now (a .table)) (a .task) (a .errand) (found .node-at .result) (found .node-at .ensures) case (found .before .before .pre) in
-    walks (now (a .table)) (a .task) (a .errand) (found .node-at .result) (found .node-at .ensures) case _ (a .number) _ _
+    let able = find-able (now (a .table)) (a .task) (a .errand) (node .result) (node .ensures) case (found .before .before .pre) in
+    walks (now (a .table)) (a .task) (a .errand) (node .result) (node .ensures) case _ (a .number) _ _
     (sees-load (now (a .table)) (able .worded) _ (able .node) (loaded .result) (loaded .ensures))
     (simp (eq-eqb _ _ (c .before .if1 .taken), c .ended .ensures))
 
@@ -46,9 +48,10 @@ enum-known-step c = search needs
 load-requires-2 : tie.Need-load-requires-2
 load-requires-2 c κs =
     let found = c .before .before .before .before in
+    let node = found .node-at in
     let a = found .before .before .args in
     let case = c .before .before .step .given .1 in
-    find-able (now (a .table)) (a .task) (a .errand) (found .node-at .result) (found .node-at .ensures) case (found .before .before .pre)
+    find-able (now (a .table)) (a .task) (a .errand) (node .result) (node .ensures) case (found .before .before .pre)
 
 going-requires-2 : tie.Need-going-requires-2
 going-requires-2 c κs = search needs
@@ -59,9 +62,10 @@ enum-known-step-2 c = search needs
 swap-requires : tie.Need-swap-requires
 swap-requires c κs =
     let found = c .before .before .before .before in
+    let node = found .node-at in
     let a = found .before .before .args in
     let case = c .before .before .step2 .given .1 in
-    find-able (now (a .table)) (a .task) (a .errand) (found .node-at .result) (found .node-at .ensures) case (found .before .before .pre)
+    find-able (now (a .table)) (a .task) (a .errand) (node .result) (node .ensures) case (found .before .before .pre)
 
 is-same-requires : tie.Need-is-same-requires
 is-same-requires c κs = search needs
@@ -75,10 +79,11 @@ same-length-2 c = search needs
 returns-2 : tie.Need-returns-2
 returns-2 c =
     let found = c .before .before .before .before .before .before .before .before .before .before in
+    let node = found .node-at in
     let a = found .before .before .args in
     let case = c .before .before .before .before .before .before .before .before .step2 .given .1 in
     let swapped = c .before .before .before .before .before .swap in
-    walks (now (a .table)) (a .task) (a .errand) (found .node-at .result) (found .node-at .ensures) case _ (a .number) _ _ (swapped .ensures)
+    walks (now (a .table)) (a .task) (a .errand) (node .result) (node .ensures) case _ (a .number) _ _ (swapped .ensures)
     (simp (← c .before .before .is-same .ensures, c .before .if2 .taken, c .going3 .ensures))
 
 retrying-requires : tie.Need-retrying-requires
@@ -90,9 +95,10 @@ enum-known-step-3 c = search needs
 load-requires-3 : tie.Need-load-requires-3
 load-requires-3 c κs =
     let found = c .before .before .before .before in
+    let node = found .node-at in
     let a = found .before .before .args in
     let case = c .before .before .step3 .given .1 in
-    find-able (now (a .table)) (a .task) (a .errand) (found .node-at .result) (found .node-at .ensures) case (found .before .before .pre)
+    find-able (now (a .table)) (a .task) (a .errand) (node .result) (node .ensures) case (found .before .before .pre)
 
 moved-to-requires : tie.Need-moved-to-requires
 moved-to-requires c κs = search needs
@@ -106,11 +112,12 @@ same-length-3 c = search needs
 returns-3 : tie.Need-returns-3
 returns-3 c =
     let found = c .before .before .before .before .before .before .before in
+    let node = found .node-at in
     let a = found .before .before .args in
     let case = c .before .before .before .before .before .enum-told .given .1 in
     let loaded = c .before .before .before .load in
-    let able = find-able (now (a .table)) (a .task) (a .errand) (found .node-at .result) (found .node-at .ensures) case (found .before .before .pre) in
-    walks (now (a .table)) (a .task) (a .errand) (found .node-at .result) (found .node-at .ensures) case _ (a .number) _ _
+    let able = find-able (now (a .table)) (a .task) (a .errand) (node .result) (node .ensures) case (found .before .before .pre) in
+    walks (now (a .table)) (a .task) (a .errand) (node .result) (node .ensures) case _ (a .number) _ _
     (sees-load (now (a .table)) (able .worded) _ (able .node) (loaded .result) (loaded .ensures))
     (simp (ne-eqb _ _ (c .before .if1 .left), c .going .ensures))
 
@@ -120,11 +127,12 @@ same-length-4 c = search needs
 returns-4 : tie.Need-returns-4
 returns-4 c =
     let found = c .before .before .before .before .before .before in
+    let node = found .node-at in
     let a = found .before .before .args in
     let case = c .before .before .before .before .step .given .1 in
     let loaded = c .before .load2 in
-    let able = find-able (now (a .table)) (a .task) (a .errand) (found .node-at .result) (found .node-at .ensures) case (found .before .before .pre) in
-    walks (now (a .table)) (a .task) (a .errand) (found .node-at .result) (found .node-at .ensures) case _ (a .number) _ _
+    let able = find-able (now (a .table)) (a .task) (a .errand) (node .result) (node .ensures) case (found .before .before .pre) in
+    walks (now (a .table)) (a .task) (a .errand) (node .result) (node .ensures) case _ (a .number) _ _
     (sees-load (now (a .table)) (able .worded) _ (able .node) (loaded .result) (loaded .ensures))
     (c .going2 .ensures)
 
@@ -134,10 +142,11 @@ same-length-5 c = search needs
 returns-5 : tie.Need-returns-5
 returns-5 c =
     let found = c .before .before .before .before .before .before .before .before .before .before in
+    let node = found .node-at in
     let a = found .before .before .args in
     let case = c .before .before .before .before .before .before .before .before .step2 .given .1 in
     let swapped = c .before .before .before .before .before .swap in
-    walks (now (a .table)) (a .task) (a .errand) (found .node-at .result) (found .node-at .ensures) case _ (a .number) _ _ (swapped .ensures)
+    walks (now (a .table)) (a .task) (a .errand) (node .result) (node .ensures) case _ (a .number) _ _ (swapped .ensures)
     (simp (← c .before .before .is-same .ensures, c .before .if2 .left, c .retrying .ensures))
 
 same-length-6 : tie.Need-same-length-6
@@ -146,11 +155,12 @@ same-length-6 c = search needs
 returns-6 : tie.Need-returns-6
 returns-6 c =
     let found = c .before .before .before .before .before .before .before in
+    let node = found .node-at in
     let a = found .before .before .args in
     let case = c .before .before .before .before .before .step3 .given .1 in
     let loaded = c .before .before .load3 in
-    let able = find-able (now (a .table)) (a .task) (a .errand) (found .node-at .result) (found .node-at .ensures) case (found .before .before .pre) in
-    walks (now (a .table)) (a .task) (a .errand) (found .node-at .result) (found .node-at .ensures) case _ (a .number) _ _
+    let able = find-able (now (a .table)) (a .task) (a .errand) (node .result) (node .ensures) case (found .before .before .pre) in
+    walks (now (a .table)) (a .task) (a .errand) (node .result) (node .ensures) case _ (a .number) _ _
     (sees-load (now (a .table)) (able .worded) _ (able .node) (loaded .result) (loaded .ensures))
     (simp (c .before .moved-to .ensures, c .going4 .ensures))
 
