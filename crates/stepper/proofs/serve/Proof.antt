@@ -59,8 +59,10 @@ charge-row-requires c κs =
     let head = found .ready-head in
     let start = found .before .before .before .before .before .before .before in
     let ready = start .pre .0 in
-    let bit = start .pre .1 .1 in
-    (ready-room ready bit (head .result) (head .ensures), ready-used ready bit (head .result) (head .ensures) (omega (arith, start .fits .number)))
+    let bit = start .pre .1 .1 in (
+      ready-room ready bit (head .result) (head .ensures),
+      ready-used ready bit (head .result) (head .ensures) (omega (arith, start .fits .number)),
+    )
 
 cast-enter : tie.Need-cast-enter
 cast-enter c = search needs
@@ -78,8 +80,8 @@ enter-requires c κs =
 
 work-left-requires : tie.Need-work-left-requires
 work-left-requires c κs =
-    let found = c .before .before .before .before .before .before .before .before .before .before .before .before .before .before .before .before in
-    let start = found .before .before .before .before .before .before .before in
+    let stepped = c .before .before .before .before .before .before .before .before .before .before .before .before .before .before in
+    let start = stepped .before .before .before .before .before .before .before .before .before in
     (omega (arith, start .pre .0 .head), ready-mask (start .pre .0) (start .pre .1 .1))
 
 same-length : tie.Need-same-length
@@ -108,7 +110,8 @@ returns c =
     _ _ _ (entered .enter .result) (c .work-left .result) (settled .settled-head .result)
     (moved .ensures .1) (charged .charge-row .ensures) (entered .enter .ensures .1) (entered .enter .ensures .0)
     (settled .settled-head .ensures) (c .work-left .ensures) in
-    let done = serve-done (ready .playing) (ready .head) standing bit (head .result) (head .ensures) (moved .result) (moved .ensures .0) _ refl in
+    let done =
+    serve-done (ready .playing) (ready .head) standing bit (head .result) (head .ensures) (moved .result) (moved .ensures .0) _ refl in
     record { buffers = shown; done = done }
 
 pub serve-spec : {M : Type 1} → statement M

@@ -94,7 +94,8 @@ same-length c = search needs
 returns-2 : tie.Need-returns-2
 returns-2 c =
     let start = c .before .before .before .before .before .before .before .before .before in
-    moves-find (now (start .args .table)) (start .args .head) _ _ (c .before .before .before .before .before .stage .given .1) _ _ _ (c .before .before .walk .ensures)
+    let case = c .before .before .before .before .before .stage .given .1 in
+    moves-find (now (start .args .table)) (start .args .head) _ _ case _ _ _ (c .before .before .walk .ensures)
 
 same-length-2 : tie.Need-same-length-2
 same-length-2 c = search needs
