@@ -21,8 +21,6 @@ use Rattle.job.specs.declared.Answer.the-variants.{Unfinished, Joined, Together
 use Rattle.word.specs.declared.Node.{Node}
 use Rattle.word.specs.Word.{same, before}
 use Rattle.process.specs.declared.Step.the-variants.{ReadNode}
-use Rattle.process.specs.declared.Walked.{Walked}
-use Rattle.process.specs.declared.Walked.the-variants.{On, Failed, Up, Ended}
 use Rattle.process.specs.declared.Errand.{Errand}
 use Rattle.process.specs.declared.Stage.{Stage}
 use Rattle.process.specs.declared.Stage.the-variants.{Resting, Find, RereadX, ReadRankX, ReadRankY, Link, Raise}
@@ -31,7 +29,8 @@ use Rattle.process.specs.declared.Head.{Head}
 use Rattle.process.specs.declared.Event.{Event}
 use Rattle.process.specs.declared.Advanced.{Advanced}
 use Rattle.process.specs.Process.{kindOf, servesX, nextErrand, nodeAt, movedTo, restart}
-use Rattle.process.specs.Find.{walked}
+use Rattle.process.specs.Find.{Walked, walked}
+use Rattle.process.specs.Find.Walked.{On, Failed, Up, Ended}
 
 -- Most grants end no find, write no link and give no answer.
 abbrev pub quiet : Event
@@ -126,7 +125,13 @@ abbrev pub raise : Task → ℕ → Node → Advanced
 raise k r w =
     record {
       head = record { stage = Resting; task = k };
-      event = record { failed = not (same w (record { rank = r; parent = k .y })); found = false; linked = false; answer = Joined; point = 0 };
+      event = record {
+        failed = not (same w (record { rank = r; parent = k .y }));
+        found = false;
+        linked = false;
+        answer = Joined;
+        point = 0;
+      };
     }
 
 -- ---- every stage

@@ -2,6 +2,7 @@
 -- the side that it is made for.
 --
 --   findAccess x s   the access that a find on node x makes at step s
+--   Walked           where a word may lead a find
 --   walked x w s     where the word w, seen by that access, leads the find
 use mathlib.Core.Bool.{cond}
 use Prim.Native.Nat.{ℕ}
@@ -10,8 +11,6 @@ use Rattle.word.specs.declared.Node.{Node}
 use Rattle.word.specs.Word.{same}
 use Rattle.process.specs.declared.Step.{Step}
 use Rattle.process.specs.declared.Step.the-variants.{ReadNode, ReadParent, Halve, ReadAgain}
-use Rattle.process.specs.declared.Walked.{Walked}
-use Rattle.process.specs.declared.Walked.the-variants.{On, Failed, Up, Ended}
 use Rattle.process.specs.declared.Access.{Access}
 use Rattle.process.specs.declared.Access.the-variants.{Load, Cas}
 
@@ -26,7 +25,13 @@ findAccess x (Halve r t u) = Cas x (record { rank = r; parent = t }) (record { r
 -- read t's word again
 findAccess x (ReadAgain t) = Load t
 
--- Where the word seen leads the find.
+-- A word seen leads a find on to its next step, on after a swap that failed, up to another node, or to its end.
+pub data Walked : Type 0 where
+  On : Step → Walked
+  Failed : Step → Walked
+  Up : ℕ → Walked
+  Ended : Walked
+
 abbrev pub walked : ℕ → Node → Step → Walked
 -- if x is a root, the find ends with x; else t is its parent
 walked x w ReadNode = cond (eqb (w .parent) x) Ended (On (ReadParent (w .rank) (w .parent)))

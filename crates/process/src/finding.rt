@@ -6,13 +6,12 @@ use crate::Head;
 use crate::Stage;
 use crate::Step;
 use crate::Task;
-use crate::Walked;
 use job::Answer;
 use job::Kind;
 use word::Node;
 ghost use mathlib.Core.Path.{_≡_};
 ghost use Rattle.process.specs.Process.{kindOf, servesX, nextErrand, nodeAt, movedTo};
-ghost use Rattle.process.specs.Advance.{continue, retry, together, apart, compared, ended, followed, reread};
+ghost use Rattle.process.specs.Advance.{continue, retry, together, apart, compared, ended, reread};
 
 // The head at its next stage, with nothing more to record.
 pub fn going(task: Task, stage: Stage) -> Advanced
@@ -93,7 +92,7 @@ pub fn node_at(task: Task, errand: Errand) -> u16
 }
 
 // The task with another node for the find.
-fn moved_to(task: Task, errand: Errand, node: u16) -> Task
+pub fn moved_to(task: Task, errand: Errand, node: u16) -> Task
     ensures { λ r. ⌜ r ≡ movedTo task errand node ⌝ }
 {
     if serves_x(errand) {
@@ -157,28 +156,13 @@ fn compared(task: Task, kind: Kind, now: u32) -> Advanced
 }
 
 // A find ended with its node: the find from y follows the find from x.
-fn ended(task: Task, errand: Errand, now: u32) -> Advanced
+pub fn ended(task: Task, errand: Errand, now: u32) -> Advanced
     ensures { λ r. ⌜ r ≡ ended task errand now ⌝ }
 {
     if serves_x(errand) {
         return going(task, Stage::Find(next_errand(errand), Step::ReadNode));
     }
     compared(task, kind_of(errand), now)
-}
-
-// The head after its find has made a step.
-pub fn followed(task: Task, errand: Errand, now: u32, walked: Walked) -> Advanced
-    ensures { λ r. ⌜ r ≡ followed task errand now walked ⌝ }
-{
-    match walked {
-        Walked::On(step) => going(task, Stage::Find(errand, step)),
-        Walked::Failed(step) => retrying(task, Stage::Find(errand, step)),
-        Walked::Up(node) => going(
-            moved_to(task, errand, node),
-            Stage::Find(errand, Step::ReadNode),
-        ),
-        Walked::Ended => ended(task, errand, now),
-    }
 }
 
 // x was read again: still a root, the answer is no, at the point where the find from y ended; else the same-set tries again.

@@ -1,7 +1,6 @@
 // One process: the record of a head, a find by halving as a machine of its own, and what a request makes of its finds.
 pub mod finding;
 pub mod joining;
-pub mod walking;
 
 use job::Answer;
 use job::Kind;
@@ -17,14 +16,6 @@ pub enum Step {
     ReadParent(u8, u16),
     Halve(u8, u16, u16),
     ReadAgain(u16),
-}
-
-// Where a word seen leads a find: on to its next step, on after a swap that failed, up to another node, or to its end.
-pub enum Walked {
-    On(Step),
-    Failed(Step),
-    Up(u16),
-    Ended,
 }
 
 // What a find is made for: a union or a same-set, and the first or the second of its nodes.

@@ -17,8 +17,8 @@ use Rattle.job.specs.declared.Request.{Request}
 use Rattle.word.specs.declared.Node.{Node}
 use Rattle.process.specs.declared.Step.{Step}
 use Rattle.process.specs.declared.Step.the-variants.{ReadNode}
-use Rattle.process.specs.declared.Walked.{Walked}
-use Rattle.process.specs.declared.Walked.the-variants.{On, Failed, Up, Ended}
+use Rattle.process.specs.Find.{Walked}
+use Rattle.process.specs.Find.Walked.{On, Failed, Up, Ended}
 use Rattle.process.specs.declared.Errand.{Errand}
 use Rattle.process.specs.declared.Errand.the-variants.{UnionX, UnionY, SameX, SameY}
 use Rattle.process.specs.declared.Stage.{Stage}

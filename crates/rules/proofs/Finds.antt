@@ -24,8 +24,8 @@ use Rattle.word.specs.declared.Node.{Node}
 use Rattle.word.specs.Word.{key, same}
 use Rattle.process.specs.declared.Step.{Step}
 use Rattle.process.specs.declared.Step.the-variants.{ReadNode, ReadParent, Halve, ReadAgain}
-use Rattle.process.specs.declared.Walked.{Walked}
-use Rattle.process.specs.declared.Walked.the-variants.{On, Failed, Up, Ended}
+use Rattle.process.specs.Find.{Walked}
+use Rattle.process.specs.Find.Walked.{On, Failed, Up, Ended}
 use Rattle.process.specs.Find.{findAccess, walked}
 use Rattle.forest.proofs.Forest.{WellFormed, Labelled}
 use Rattle.forest.proofs.Writes.{Changed}

@@ -13,8 +13,8 @@ use Rattle.job.specs.declared.Kind.{Kind}
 use Rattle.job.specs.declared.Request.{Request}
 use Rattle.word.specs.declared.Node.{Node}
 use Rattle.word.specs.Word.{same, before}
-use Rattle.process.specs.declared.Walked.{Walked}
-use Rattle.process.specs.declared.Walked.the-variants.{On, Failed, Up, Ended}
+use Rattle.process.specs.Find.{Walked}
+use Rattle.process.specs.Find.Walked.{On, Failed, Up, Ended}
 use Rattle.process.specs.declared.Errand.{Errand}
 use Rattle.process.specs.declared.Stage.{Stage}
 use Rattle.process.specs.declared.Stage.the-variants.{Resting, Find, RereadX, ReadRankX, ReadRankY, Link, Raise}

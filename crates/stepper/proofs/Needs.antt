@@ -44,11 +44,12 @@ use Rattle.rules.proofs.Theorem.{invariant-linearized}
 use Rattle.stepper.specs.declared.Done.{Done}
 use Rattle.table.specs.Touch.{Touchable}
 use Rattle.stepper.specs.Buffers.{rowIn, stored}
-use Rattle.stepper.specs.Shown.{Buffers, shown, doneOf, stateAfter, historyAfter, requestsIn, Playing, Standing, Ready}
+use Rattle.stepper.specs.Shown.{Buffers, buffers, shown, doneOf, stateAfter, historyAfter, requestsIn, Playing, Standing, Ready}
 use Rattle.stepper.proofs.Lists.{length-rows}
 use Rattle.stepper.proofs.Room.{entries-few}
 use Rattle.stepper.proofs.Reached.{Reached, playing-admitted, playing-inside, reached}
-use Rattle.stepper.proofs.Served.{step-served, happened-served, head-shown, head-touchable, head-raisable, row-here, moved-here, served-shown}
+use Rattle.stepper.proofs.Served.{step-served, happened-served, head-shown, head-touchable, head-raisable}
+use Rattle.stepper.proofs.Served.{row-here, moved-here, served-shown}
 
 -- what the step of a head without work left is
 step-idle : (qs : List Request) (S : State) (h : ℕ) → hasWork qs (headAt S h) ≡ false → step qs S h ≡ passed S
@@ -167,7 +168,8 @@ module _ {file : List ℕ} {requests h number : ℕ} {b : Buffers} (playing : Pl
 
       pub charge-used : number < 4294967296 → rowIn (b .report) (4 * head .task .request) .used < 4294967295
       charge-used small =
-          let row : rowIn (b .report) (4 * head .task .request) .used ≡ getD (S .report) (ready qs (headAt S h) .task .request) noRow .used =
+          let served = ready qs (headAt S h) .task .request in
+          let row : rowIn (b .report) (4 * head .task .request) .used ≡ getD (S .report) served noRow .used =
           ap (λ k. rowIn (b .report) (4 * k .task .request) .used) to-head ∙ ap (λ r. r .used) (row-here here h present in-service) in
           omega (arith, row, used-bound (here .invariant) (ready qs (headAt S h) .task .request) (in-service .within), here .next)
 
@@ -179,7 +181,8 @@ module _ {file : List ℕ} {requests h number : ℕ} {b : Buffers} (playing : Pl
         unfolding advanceOf
         moved-within =
             let w = seen (map decode (b .table)) (accessOf head) in
-            omega (arith, ap (λ m. m .head .task .request) is-moved, advance-keeps (head .task) w number (head .stage), request-within, playing .count)
+            let kept = advance-keeps (head .task) w number (head .stage) in
+            omega (arith, ap (λ m. m .head .task .request) is-moved, kept, request-within, playing .count)
 
         -- the head serves a request of its own
         pub own-request : requestAt qs (moved .head .task .request) .head ≡ h
@@ -187,7 +190,8 @@ module _ {file : List ℕ} {requests h number : ℕ} {b : Buffers} (playing : Pl
         own-request =
             let w = seen (map decode (b .table)) (accessOf head) in
             let kept : moved .head .task .request ≡ ready qs (headAt S h) .task .request =
-            ap (λ m. m .head .task .request) is-moved ∙ advance-keeps (head .task) w number (head .stage) ∙ ap (λ k. k .task .request) to-head in
+            ap (λ m. m .head .task .request) is-moved ∙ advance-keeps (head .task) w number (head .stage)
+            ∙ ap (λ k. k .task .request) to-head in
             ap (λ q. requestAt qs q .head) kept ∙ in-service .own
 
         -- an entry of this grant has room
@@ -196,7 +200,9 @@ module _ {file : List ℕ} {requests h number : ℕ} {b : Buffers} (playing : Pl
             let S′ = served qs S h (ready qs (headAt S h)) in
             let point : eqb (advanced S (ready qs (headAt S h)) .event .point) 0 ≡ false =
             ap (λ m. eqb (m .event .point) 0) (sym (to-moved ∙ moved-here here h present in-service)) ∙ t in
-            let more : length (S′ .entries) ≡ suc (length (S .entries)) = rw point (length-insert (advanced S (ready qs (headAt S h)) .event .point) (ready qs (headAt S h) .task .request) (S .entries)) in
+            let entry = advanced S (ready qs (headAt S h)) .event .point in
+            let more : length (S′ .entries) ≡ suc (length (S .entries)) =
+            rw point (length-insert entry (ready qs (headAt S h) .task .request) (S .entries)) in
             omega (
               arith,
               more,
@@ -211,26 +217,37 @@ module _ {file : List ℕ} {requests h number : ℕ} {b : Buffers} (playing : Pl
             (omega (arith, length-drop (2 * length (S .entries)) lent, here .room, entries-after (ne-eqb (moved .event .point) 0 d)))
             (replayed-rising (here .invariant .entries)))
 
+        -- the report and the linearization after a grant of that head
+        abbrev charged-report : Head → List ℕ
+        charged-report k =
+            stored (b .report) (4 * k .task .request) (charge (rowIn (b .report) (4 * k .task .request)) number (moved .event .answer))
+
+        abbrev entered-linearization : Head → List ℕ
+        entered-linearization k =
+            cond (eqb (moved .event .point) 0) (b .linearization)
+            (inserted (b .linearization) (b .entries) (moved .event .point) (k .task .request))
+
         module _ (table′ report′ linearization′ : List ℕ) (entries′ mask′ : ℕ) (next : Head)
             (is-table : table′ ≡ map encode (touched (map decode (b .table)) (accessOf head)))
-            (is-report : report′ ≡ stored (b .report) (4 * head .task .request) (charge (rowIn (b .report) (4 * head .task .request)) number (moved .event .answer)))
-            (is-linearization : linearization′ ≡ cond (eqb (moved .event .point) 0) (b .linearization) (inserted (b .linearization) (b .entries) (moved .event .point) (head .task .request)))
+            (is-report : report′ ≡ charged-report head)
+            (is-linearization : linearization′ ≡ entered-linearization head)
             (is-entries : entries′ ≡ cond (eqb (moved .event .point) 0) (b .entries) (b .entries + 1))
             (is-next : next ≡ settled qs h moved)
             (is-mask : mask′ ≡ cond (ltb (next .task .request) requests) (b .mask) (b .mask - 2 ^ h)) where
           pub serve-shown :
-              record { heads = set (b .heads) h next; table = table′; report = report′; linearization = linearization′; entries = entries′; mask = mask′ }
+              buffers (set (b .heads) h next) table′ report′ linearization′ entries′ mask′
               ≡ shown qs (step qs S h) lent
           serve-shown =
               served-shown here h present in-service moved table′ report′ linearization′ entries′ mask′ next to-moved
               (is-table ∙ ap (λ k. map encode (touched (map decode (b .table)) (accessOf k))) to-head)
-              (is-report ∙ ap (λ k. stored (b .report) (4 * k .task .request) (charge (rowIn (b .report) (4 * k .task .request)) number (moved .event .answer))) to-head)
-              (is-linearization ∙ ap (λ k. cond (eqb (moved .event .point) 0) (b .linearization) (inserted (b .linearization) (b .entries) (moved .event .point) (k .task .request))) to-head)
+              (is-report ∙ ap charged-report to-head)
+              (is-linearization ∙ ap entered-linearization to-head)
               is-entries is-next
               (is-mask ∙ ap (λ k. cond (ltb (next .task .request) k) (b .mask) (b .mask - 2 ^ h)) (playing .count))
               work
 
-        pub serve-done : (done : Done) → done ≡ record { idle = false; failed = moved .event .failed; linked = moved .event .linked } → done ≡ doneOf (happened qs S h)
+        pub serve-done : (done : Done) → done ≡ record { idle = false; failed = moved .event .failed; linked = moved .event .linked }
+            → done ≡ doneOf (happened qs S h)
         serve-done done is =
             is
             ∙ ap (λ m. record { idle = false; failed = m .event .failed; linked = m .event .linked })
@@ -239,7 +256,8 @@ module _ {file : List ℕ} {requests h number : ℕ} {b : Buffers} (playing : Pl
 
 -- ---- what the parts of a ready grant ask
 
-module _ {file : List ℕ} {requests h number : ℕ} {b : Buffers} (r : Ready file requests h number b) (bit : eqb (b .mask / 2 ^ h % 2) 1 ≡ true) where
+module _ {file : List ℕ} {requests h number : ℕ} {b : Buffers} (r : Ready file requests h number b)
+    (bit : eqb (b .mask / 2 ^ h % 2) 1 ≡ true) where
   pub ready-next : getD (b .heads) h (resting 0) .task .request < requests
   ready-next = next-within (r .playing) (r .head) (r .standing) bit
 

@@ -1,27 +1,28 @@
 // The shared table of words: one grant of a head on it, the one access and where it leads together.
 use process::Advanced;
+use process::Errand;
 use process::Head;
 use process::Stage;
 use process::Step;
-use process::Walked;
-use process::finding::followed;
+use process::Task;
+use process::finding::ended;
 use process::finding::going;
+use process::finding::moved_to;
 use process::finding::node_at;
 use process::finding::reread;
+use process::finding::retrying;
 use process::joining::linking;
 use process::joining::raising;
 use process::joining::ranked;
-use process::walking::halved;
-use process::walking::read_node;
 use word::Node;
 ghost use mathlib.Core.Path.{_≡_};
 ghost use mathlib.Core.List.{map};
 ghost use Rattle.word.specs.Word.{decode, encode};
 ghost use Rattle.process.specs.declared.Access.the-variants.{Load, Cas};
-ghost use Rattle.process.specs.Process.{Raisable};
+ghost use Rattle.process.specs.Process.{Raisable, nodeAt};
 ghost use Rattle.process.specs.Find.{findAccess, walked};
 ghost use Rattle.process.specs.Access.{accessOf};
-ghost use Rattle.process.specs.Advance.{advanceOf};
+ghost use Rattle.process.specs.Advance.{followed, advanceOf};
 ghost use Rattle.rules.specs.Table.{seen, touched};
 ghost use Rattle.table.specs.Touch.{Touchable};
 
@@ -47,30 +48,44 @@ fn swap(table: &mut [u32], node: u16, expected: Node, new: Node) -> Node
     found
 }
 
-// One step of a find on a node: its access, and where that leads.
-pub fn walk(table: &mut [u32], node: u16, step: Step) -> Walked
-    requires { ⌜ Touchable (map decode (now table)) (findAccess node step) ⌝ }
-    ensures leads { λ r. ⌜ r ≡ walked node (seen (map decode (now (table .entry))) (findAccess node step)) step ⌝ }
-    ensures leaves { λ _. ⌜ now (table .exit) ≡ map encode (touched (map decode (now (table .entry))) (findAccess node step)) ⌝ }
+// One step of a find on its errand: the one access, and where that leads.
+fn walk(table: &mut [u32], task: Task, errand: Errand, step: Step, number: u32) -> Advanced
+    requires { ⌜ Touchable (map decode (now table)) (findAccess (nodeAt task errand) step) ⌝ }
+    ensures leads { λ r. ⌜ r ≡ followed task errand number
+        (walked (nodeAt task errand) (seen (map decode (now (table .entry))) (findAccess (nodeAt task errand) step)) step) ⌝ }
+    ensures leaves { λ _. ⌜ now (table .exit)
+        ≡ map encode (touched (map decode (now (table .entry))) (findAccess (nodeAt task errand) step)) ⌝ }
 {
+    let node = node_at(task, errand);
     match step {
-        Step::ReadNode => read_node(node, load(table, node)),
+        Step::ReadNode => {
+            let seen = load(table, node);
+            if seen.parent == node {
+                return ended(task, errand, number);
+            }
+            going(
+                task,
+                Stage::Find(errand, Step::ReadParent(seen.rank, seen.parent)),
+            )
+        }
         Step::ReadParent(rank, t) => {
             let seen = load(table, t);
-            Walked::On(Step::Halve(rank, t, seen.parent))
+            going(task, Stage::Find(errand, Step::Halve(rank, t, seen.parent)))
         }
         Step::Halve(rank, t, u) => {
-            let seen = swap(
-                table,
-                node,
-                Node { rank, parent: t },
-                Node { rank, parent: u },
-            );
-            halved(node, seen, rank, t, u)
+            let expected = Node { rank, parent: t };
+            let seen = swap(table, node, expected, Node { rank, parent: u });
+            if word::is_same(seen, expected) {
+                return going(task, Stage::Find(errand, Step::ReadAgain(t)));
+            }
+            retrying(task, Stage::Find(errand, Step::ReadAgain(t)))
         }
         Step::ReadAgain(t) => {
             let seen = load(table, t);
-            Walked::Up(seen.parent)
+            going(
+                moved_to(task, errand, seen.parent),
+                Stage::Find(errand, Step::ReadNode),
+            )
         }
     }
 }
@@ -89,10 +104,7 @@ pub fn stepped(table: &mut [u32], head: Head, number: u32) -> Advanced
     let y = task.y;
     match stage {
         Stage::Resting => going(task, Stage::Resting),
-        Stage::Find(errand, step) => {
-            let walked = walk(table, node_at(task, errand), step);
-            followed(task, errand, number, walked)
-        }
+        Stage::Find(errand, step) => walk(table, task, errand, step, number),
         Stage::RereadX(point) => reread(task, point, load(table, x)),
         Stage::ReadRankX => {
             let seen = load(table, x);

@@ -34,66 +34,64 @@ cast-h c = search needs
 
 mul-index : tie.Need-mul-index Inv-loop μ-loop
 mul-index c =
-    let tested = c .before .before in
-    let l = tested .before .loop in
-    let start = tested .before .before .before in
-    omega (arith, few-heads (start .pre) (l .q - 1) (omega (arith, l .inv .within, start .pre .count)) (c .before .request-at .result) (c .before .request-at .ensures))
+    let read = c .before .request-at in
+    let l = c .before .before .before .loop in
+    let start = c .before .before .before .before .before in
+    omega (arith, few-heads (start .pre) (l .q - 1) (omega (arith, l .inv .within, start .pre .count)) (read .result) (read .ensures))
 
 array-read-index : tie.Need-array-read-index Inv-loop μ-loop
 array-read-index c =
-    let tested = c .before .before in
-    let l = tested .before .loop in
-    let start = tested .before .before .before in
-    omega (arith, few-heads (start .pre) (l .q - 1) (omega (arith, l .inv .within, start .pre .count)) (c .before .request-at .result) (c .before .request-at .ensures))
+    let read = c .before .request-at in
+    let l = c .before .before .before .loop in
+    let start = c .before .before .before .before .before in
+    omega (arith, few-heads (start .pre) (l .q - 1) (omega (arith, l .inv .within, start .pre .count)) (read .result) (read .ensures))
 
 cast-index : tie.Need-cast-index Inv-loop μ-loop
 cast-index c = search needs
 
 mul-index-2 : tie.Need-mul-index-2 Inv-loop μ-loop
 mul-index-2 c =
-    let tested = c .before .before in
-    let l = tested .before .loop in
-    let start = tested .before .before .before in
+    let l = c .before .before .before .loop in
+    let start = c .before .before .before .before .before in
     omega (arith, l .inv .within, few-requests (start .pre), start .pre .count)
 
 array-write-index : tie.Need-array-write-index Inv-loop μ-loop
 array-write-index c =
-    let tested = c .before .before in
-    let l = tested .before .loop in
-    let start = tested .before .before .before in
+    let l = c .before .before .before .loop in
+    let start = c .before .before .before .before .before in
     omega (arith, l .inv .within, few-requests (start .pre), start .pre .count)
 
 cast-firsts-2 : tie.Need-cast-firsts-2 Inv-loop μ-loop
 cast-firsts-2 c =
-    let tested = c .before .before in
-    let l = tested .before .loop in
-    let start = tested .before .before .before in
+    let l = c .before .before .before .loop in
+    let start = c .before .before .before .before .before in
     omega (arith, l .inv .within, few-requests (start .pre), start .pre .count)
 
 mul-firsts : tie.Need-mul-firsts Inv-loop μ-loop
 mul-firsts c =
-    let tested = c .before .before in
-    let l = tested .before .loop in
-    let start = tested .before .before .before in
-    omega (arith, few-heads (start .pre) (l .q - 1) (omega (arith, l .inv .within, start .pre .count)) (c .before .request-at .result) (c .before .request-at .ensures))
+    let read = c .before .request-at in
+    let l = c .before .before .before .loop in
+    let start = c .before .before .before .before .before in
+    omega (arith, few-heads (start .pre) (l .q - 1) (omega (arith, l .inv .within, start .pre .count)) (read .result) (read .ensures))
 
 array-write-firsts : tie.Need-array-write-firsts Inv-loop μ-loop
 array-write-firsts c =
-    let tested = c .before .before in
-    let l = tested .before .loop in
-    let start = tested .before .before .before in
-    omega (arith, few-heads (start .pre) (l .q - 1) (omega (arith, l .inv .within, start .pre .count)) (c .before .request-at .result) (c .before .request-at .ensures))
+    let read = c .before .request-at in
+    let l = c .before .before .before .loop in
+    let start = c .before .before .before .before .before in
+    omega (arith, few-heads (start .pre) (l .q - 1) (omega (arith, l .inv .within, start .pre .count)) (read .result) (read .ensures))
 
 loop-less : tie.Need-loop-less Inv-loop μ-loop
 loop-less c = search needs
 
 loop-again : tie.Need-loop-again Inv-loop μ-loop
 loop-again c =
-    let tested = c .before .before in
-    let l = tested .before .loop in
-    let start = tested .before .before .before in
-    indexed-on (l .inv) (l .q - 1) (c .before .request-at .result .head) (omega arith)
-    (ap (λ k. k .head) (sym (c .before .request-at .ensures noRequest))) (few-heads (start .pre) (l .q - 1) (omega (arith, l .inv .within, start .pre .count)) (c .before .request-at .result) (c .before .request-at .ensures)) (omega (arith, l .inv .within, few-requests (start .pre), start .pre .count))
+    let read = c .before .request-at in
+    let l = c .before .before .before .loop in
+    let start = c .before .before .before .before .before in
+    let few = few-heads (start .pre) (l .q - 1) (omega (arith, l .inv .within, start .pre .count)) (read .result) (read .ensures) in
+    indexed-on (l .inv) (l .q - 1) (read .result .head) (omega arith) (ap (λ k. k .head) (sym (read .ensures noRequest))) few
+    (omega (arith, l .inv .within, few-requests (start .pre), start .pre .count))
 
 returns : tie.Need-returns Inv-loop μ-loop
 returns c = indexed-all (omega arith) (c .before .loop .inv)

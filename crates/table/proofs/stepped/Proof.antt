@@ -1,5 +1,5 @@
 -- `table::stepped`: one case a stage, each by what its access sees and leaves.
-use Rattle.table.proofs.Leads.{head-able, moves, errand-able, moves-find}
+use Rattle.table.proofs.Leads.{head-able, moves, moves-find}
 use Rattle.table.proofs.Accesses.{sees-idle, sees-load}
 use native.Mathlib.Omega.{arith}
 use denote.Ref.{now}
@@ -16,16 +16,10 @@ going-requires c κs = search needs
 enum-known-stage : tie.Need-enum-known-stage
 enum-known-stage c = search needs
 
-node-at-requires : tie.Need-node-at-requires
-node-at-requires c κs = search needs
-
 walk-requires : tie.Need-walk-requires
 walk-requires c κs =
-    let start = c .before .before .before .before .before .before .before in
-    errand-able (now (start .args .table)) (start .args .head) (c .before .before .before .stage .given .1) _ (c .node-at .ensures) (start .pre .0)
-
-followed-requires : tie.Need-followed-requires
-followed-requires c κs = search needs
+    let start = c .before .before .before .before .before .before in
+    head-able (now (start .args .table)) (start .args .head) (c .before .before .stage .given .1) (start .pre .0)
 
 enum-known-stage-2 : tie.Need-enum-known-stage-2
 enum-known-stage-2 c = search needs
@@ -74,8 +68,10 @@ linking-requires c κs = search needs
 enum-known-stage-5 : tie.Need-enum-known-stage-5
 enum-known-stage-5 c = search needs
 
-add-t40 : tie.Need-add-t40
-add-t40 c = omega (arith, rw (c .before .before .stage5 .given .1) at (c .before .before .before .before .before .before .pre .1))
+add-t38 : tie.Need-add-t38
+add-t38 c =
+    let start = c .before .before .before .before .before .before in
+    omega (arith, rw (c .before .before .stage5 .given .1) at (start .pre .1))
 
 swap-requires-2 : tie.Need-swap-requires-2
 swap-requires-2 c κs =
@@ -87,17 +83,19 @@ raising-requires c κs = search needs
 
 returns : tie.Need-returns
 returns c =
+    let case = c .before .enum-told .given .1 in
     let start = c .before .before .before .before .before in
-    let able = head-able (now (start .args .table)) (start .args .head) (c .before .enum-told .given .1) (start .pre .0) in
-    moves (now (start .args .table)) (start .args .head) (c .before .enum-told .given .1) _ _ _ _ (sees-idle _ (able .worded)) (c .going .ensures)
+    let able = head-able (now (start .args .table)) (start .args .head) case (start .pre .0) in
+    moves (now (start .args .table)) (start .args .head) case _ _ _ _ (sees-idle _ (able .worded)) (c .going .ensures)
 
 same-length : tie.Need-same-length
 same-length c = search needs
 
 returns-2 : tie.Need-returns-2
 returns-2 c =
-    let start = c .before .before .before .before .before .before .before .before .before .before .before in
-    moves-find (now (start .args .table)) (start .args .head) (c .before .before .before .before .before .before .before .stage .given .1) _ (c .before .before .before .before .node-at .ensures) _ _ _ _ (c .before .before .before .walk .ensures) (c .followed .ensures)
+    let start = c .before .before .before .before .before .before .before .before .before in
+    let case = c .before .before .before .before .before .stage .given .1 in
+    moves-find (now (start .args .table)) (start .args .head) _ _ case _ _ _ (c .before .before .walk .ensures)
 
 same-length-2 : tie.Need-same-length-2
 same-length-2 c = search needs
@@ -162,9 +160,7 @@ stepped-spec =
     enum-told
     going-requires
     enum-known-stage
-    node-at-requires
     walk-requires
-    followed-requires
     enum-known-stage-2
     load-requires
     reread-requires
@@ -178,7 +174,7 @@ stepped-spec =
     swap-requires
     linking-requires
     enum-known-stage-5
-    add-t40
+    add-t38
     swap-requires-2
     raising-requires
     returns

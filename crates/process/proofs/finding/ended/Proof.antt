@@ -13,7 +13,9 @@ going-requires : tie.Need-going-requires
 going-requires c κs = search needs
 
 returns : tie.Need-returns
-returns c = simp (← c .before .before .before .serves-x .ensures, c .before .before .if1 .taken, c .before .next-errand .ensures, c .going .ensures)
+returns c =
+    let tested = c .before .before in
+    simp (← tested .before .serves-x .ensures, tested .if1 .taken, c .before .next-errand .ensures, c .going .ensures)
 
 kind-of-requires : tie.Need-kind-of-requires
 kind-of-requires c κs = search needs
@@ -22,7 +24,9 @@ compared-requires : tie.Need-compared-requires
 compared-requires c κs = search needs
 
 returns-2 : tie.Need-returns-2
-returns-2 c = simp (← c .before .before .before .serves-x .ensures, c .before .before .if1 .left, c .before .kind-of .ensures, c .compared .ensures)
+returns-2 c =
+    let tested = c .before .before in
+    simp (← tested .before .serves-x .ensures, tested .if1 .left, c .before .kind-of .ensures, c .compared .ensures)
 
 pub ended-spec : {M : Type 1} → statement M
 ended-spec =
