@@ -23,8 +23,6 @@ use Rattle.job.specs.Job.{kindNumber}
 use Rattle.word.specs.declared.Node.{Node}
 use Rattle.process.specs.declared.Step.{Step}
 use Rattle.process.specs.declared.Step.the-variants.{ReadNode}
-use Rattle.process.specs.declared.Walked.{Walked}
-use Rattle.process.specs.declared.Walked.the-variants.{On, Failed, Up, Ended}
 use Rattle.process.specs.declared.Errand.{Errand}
 use Rattle.process.specs.declared.Stage.{Stage}
 use Rattle.process.specs.declared.Stage.the-variants.{Resting, Find, RereadX, ReadRankX, ReadRankY, Link, Raise}
@@ -32,7 +30,8 @@ use Rattle.process.specs.declared.Task.{Task}
 use Rattle.process.specs.declared.Head.{Head}
 use Rattle.process.specs.declared.Advanced.{Advanced}
 use Rattle.process.specs.Process.{traitsOf, isResting, kindOf, servesX, nextErrand, nodeAt, movedTo, restart, begin}
-use Rattle.process.specs.Find.{findAccess, walked}
+use Rattle.process.specs.Find.{findAccess, Walked, walked}
+use Rattle.process.specs.Find.Walked.{On, Failed, Up, Ended}
 use Rattle.process.specs.Access.{accessAt, accessOf}
 use Rattle.process.specs.Advance.{continue, compared, followed, reread, advanceAt, advanceOf}
 use Rattle.forest.proofs.Forest.{Labelled}
