@@ -5,7 +5,7 @@ use listing::Listed;
 use query::Queried;
 use writer::Written;
 ghost use mathlib.Core.Path.{_≡_};
-ghost use Rattle.player.specs.Player.{playedOf};
+ghost use Rattle.player.specs.Player.{left, playedOf};
 ghost use Rattle.player.specs.Demand.{LinearizedHere};
 ghost use Rattle.writer.specs.Write.{given, writes};
 ghost use Rattle.query.specs.Query.{queried};
@@ -20,8 +20,10 @@ pub extern "C" fn grouping_play(
     report: &mut [u32],
     linearization: &mut [u32],
 ) -> Played
-    ensures exact { λ r. ⌜ record { table = now (table .exit); report = now (report .exit); linearization = now (linearization .exit); result = r } ≡ playedOf (now (file .entry)) (now (table .entry)) (now (report .entry)) (now (linearization .entry)) ⌝ }
-    ensures linearized { λ r. ⌜ (r .number ≡ 0 → LinearizedHere (now (file .entry)) r (now (table .exit)) (now (report .exit)) (now (linearization .exit))) ⌝ }
+    ensures exact { λ r. ⌜ left (now (table .exit)) (now (report .exit)) (now (linearization .exit)) r
+        ≡ playedOf (now (file .entry)) (now (table .entry)) (now (report .entry)) (now (linearization .entry)) ⌝ }
+    ensures linearized { λ r. ⌜ (r .number ≡ 0
+        → LinearizedHere (now (file .entry)) r (now (table .exit)) (now (report .exit)) (now (linearization .exit))) ⌝ }
 {
     player::play(file, table, report, linearization)
 }

@@ -23,13 +23,12 @@ use Rattle.jobfile.specs.Admitted.{Bytes}
 use Rattle.reader.specs.declared.Checked.{Checked}
 use Rattle.reader.specs.Reader.{countsOf}
 use Rattle.job.specs.Job.{Job}
-use Rattle.rules.specs.State.{State, headsFrom}
+use Rattle.rules.specs.State.{headsFrom}
 use Rattle.rules.specs.Table.{fresh}
-use Rattle.rules.specs.Run.{Happening}
 use Rattle.rules.proofs.Table.{length-fresh}
 use Rattle.mask.specs.Mask.{maskOf}
 use Rattle.start.specs.Start.{workFlag}
-use Rattle.stepper.specs.Shown.{requestsIn, Standing}
+use Rattle.stepper.specs.Shown.{requestsIn}
 use Rattle.turns.specs.declared.Progress.{Progress}
 use Rattle.turns.specs.Turns.{Roomy, countedOf, buffersOf, Turned, firstProgress, firstTally}
 use Rattle.turns.proofs.Runs.{grants-few}
@@ -43,21 +42,26 @@ use Rattle.player.proofs.Parts.{whole-left, cut-left, whole-startable}
 use Rattle.player.proofs.Demand.{linearized-here}
 use Rattle.jobfile.proofs.RoundTrip.{admitted-meaning}
 use Rattle.lent.specs.declared.Plan.{Plan}
-use Rattle.lent.specs.Lent.{refusedPlan, acceptedPlan, cutLaidOf, Prepared, preparedOf, openedOf, TurnableOn, TurnedOn, closedOf, tallyLeft}
+use Rattle.lent.specs.Lent.{refusedPlan, acceptedPlan, cutLaidOf, Prepared, preparedOf, openedOf, TurnableOn, TurnedOn, TurnsOn}
+use Rattle.lent.specs.Lent.{closedOf, tallyLeft}
 
 -- ---- one turn on the lent buffers
 
-pub turned-on : {file : List ℕ} {counts : Checked} {p p′ : Progress} {linearization linearization′ : List ℕ} {S : State} {lent : List ℕ} (table report part rows : List ℕ)
-    → TurnableOn file counts p table report linearization → length part ≡ length (take (counts .nodes) table) → length rows ≡ length (take (4 * counts .requests) report)
-    → Turned file p p′ (buffersOf p′ part rows linearization′) S lent
-    → TurnedOn file counts p p′ table report (part ++ drop (counts .nodes) table) (rows ++ drop (4 * counts .requests) report) linearization′ S lent
-turned-on {file} {counts} {p} {p′} {linearization} {linearization′} {S} {lent} table report part rows t is-part is-rows turned =
+pub turned-on : {file : List ℕ} {counts : Checked} {p p′ : Progress} {linearization linearization′ lent : List ℕ}
+    (table report part rows : List ℕ)
+    → TurnableOn file counts p table report linearization
+    → length part ≡ length (take (counts .nodes) table) → length rows ≡ length (take (4 * counts .requests) report)
+    → Turned file p p′ (buffersOf p′ part rows linearization′) lent
+    → TurnedOn file counts p p′ (buffersOf p table report linearization)
+    (buffersOf p′ (part ++ drop (counts .nodes) table) (rows ++ drop (4 * counts .requests) report) linearization′) lent
+turned-on {file} {counts} {p} {p′} {linearization} {linearization′} {lent} table report part rows t is-part is-rows turned =
     let n = counts .nodes in
     let m = 4 * counts .requests in
     let long-part = is-part ∙ length-take-le n table (t .nodes) in
     let long-rows = is-rows ∙ length-take-le m report (t .rows) in
     record {
-      turned = subst₂ (λ a b. Turned file p p′ (buffersOf p′ a b linearization′) S lent) (sym (take-at part (drop n table) n long-part)) (sym (take-at rows (drop m report) m long-rows)) turned;
+      turned = subst₂ (λ a b. Turned file p p′ (buffersOf p′ a b linearization′) lent)
+          (sym (take-at part (drop n table) n long-part)) (sym (take-at rows (drop m report) m long-rows)) turned;
       table-rest = drop-at part (drop n table) n long-part;
       report-rest = drop-at rows (drop m report) m long-rows;
     }
@@ -135,12 +139,12 @@ module _ (E : Entry) (counts : Checked) where
 
     module _ (p′ : Progress) (table′ report′ linearization′ : List ℕ) (tally′ : Tally)
         (table-long : length table′ ≡ length (a .table)) (report-long : length report′ ≡ length (a .report)) (linearization-long : length linearization′ ≡ length (a .linearization))
-        (turned : (S : State) (past : List Happening) (lent : List ℕ)
-        → Standing (requestsIn file) (length (take n (a .table))) 16 (buffersOf (a .progress) (take n (a .table)) (take m (a .report)) (a .linearization)) (a .progress .number + 1) S past lent
-        → TurnedOn file counts (a .progress) p′ (a .table) (a .report) table′ report′ linearization′ S lent)
+        (turned : TurnsOn file counts (a .progress) p′ (buffersOf (a .progress) (a .table) (a .report) (a .linearization))
+        (buffersOf p′ table′ report′ linearization′))
         (added : tally′ ≡ countedOf (a .tally) (p′ .done) (p′ .mask)) where
-      pub turned-here : TurnedOn file counts (a .progress) p′ (a .table) (a .report) table′ report′ linearization′ (lending .going .state) linearization₀
-      turned-here = turned (lending .going .state) (lending .going .past) linearization₀ (lending .going .standing)
+      pub turned-here : TurnedOn file counts (a .progress) p′ (buffersOf (a .progress) (a .table) (a .report) (a .linearization))
+          (buffersOf p′ table′ report′ linearization′) linearization₀
+      turned-here = turned linearization₀ (lending .going .standing)
 
       pub along-number : p′ .number ≡ a .progress .number + 1
       along-number = turned-here .turned .number

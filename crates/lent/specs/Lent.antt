@@ -6,7 +6,9 @@
 --   laidOf, cutLaidOf      the start, on buffers of the job's lengths and on longer ones
 --   preparedOf             the buffers and the plan, for any file and any buffers
 --   openedOf t plan        the tally t when a play starts
+--   partOf c b             the parts of the buffers b that a job of these counts needs
 --   TurnableOn, TurnedOn   what a turn on the lent buffers asks and what it leaves
+--   TurnsOn                what it leaves of buffers whose parts show the grants so far
 --   closedOf c p t         the answer
 --   tallyLeft              what the owner's tally holds at the end
 use mathlib.Core.Path.{_≡_}
@@ -24,11 +26,11 @@ use Rattle.mask.specs.Mask.{maskOf}
 use Rattle.reader.specs.declared.Checked.{Checked}
 use Rattle.reader.specs.Reader.{countsOf}
 use Rattle.rules.specs.Table.{fresh}
-use Rattle.rules.specs.State.{State, resting, headsFrom, tallyOf}
-use Rattle.stepper.specs.Shown.{requestsIn}
+use Rattle.rules.specs.State.{resting, headsFrom, tallyOf}
+use Rattle.stepper.specs.Shown.{Buffers, buffers, requestsIn}
 use Rattle.start.specs.Start.{workFlag}
 use Rattle.turns.specs.declared.Progress.{Progress}
-use Rattle.turns.specs.Turns.{buffersOf, Turnable, Turned, firstProgress, firstTally, runOf}
+use Rattle.turns.specs.Turns.{StandingAt, Turnable, Turned, firstProgress, firstTally, runOf}
 use Rattle.player.specs.Player.{refusedWith, playRefusal}
 use Rattle.lent.specs.declared.Plan.{Plan}
 
@@ -95,16 +97,23 @@ openedOf tally plan = cond (eqb (plan .counts .number) 0) (firstTally (plan .pro
 
 -- ---- one grant, on the parts of the lent buffers that the job needs
 
+abbrev pub partOf : Checked → Buffers → Buffers
+partOf counts b =
+    buffers (b .heads) (take (counts .nodes) (b .table)) (take (4 * counts .requests) (b .report)) (b .linearization) (b .entries) (b .mask)
+
 pub record TurnableOn (file : List ℕ) (counts : Checked) (p : Progress) (table report linearization : List ℕ) : Type 0 where
   pub nodes : counts .nodes ≤ length table
   pub rows : 4 * counts .requests ≤ length report
   pub turnable : Turnable file (counts .requests) p (take (counts .nodes) table) (take (4 * counts .requests) report) linearization
 
 -- The turn is made on the parts, and what is past them stays.
-pub record TurnedOn (file : List ℕ) (counts : Checked) (p p′ : Progress) (table report table′ report′ linearization′ : List ℕ) (S : State) (lent : List ℕ) : Type 0 where
-  pub turned : Turned file p p′ (buffersOf p′ (take (counts .nodes) table′) (take (4 * counts .requests) report′) linearization′) S lent
-  pub table-rest : drop (counts .nodes) table′ ≡ drop (counts .nodes) table
-  pub report-rest : drop (4 * counts .requests) report′ ≡ drop (4 * counts .requests) report
+pub record TurnedOn (file : List ℕ) (counts : Checked) (p p′ : Progress) (b b′ : Buffers) (lent : List ℕ) : Type 0 where
+  pub turned : Turned file p p′ (partOf counts b′) lent
+  pub table-rest : drop (counts .nodes) (b′ .table) ≡ drop (counts .nodes) (b .table)
+  pub report-rest : drop (4 * counts .requests) (b′ .report) ≡ drop (4 * counts .requests) (b .report)
+
+abbrev pub TurnsOn : List ℕ → Checked → Progress → Progress → Buffers → Buffers → Type 0
+TurnsOn file counts p p′ b b′ = (lent : List ℕ) → StandingAt file p (partOf counts b) lent → TurnedOn file counts p p′ b b′ lent
 
 -- ---- the end
 

@@ -16,19 +16,15 @@ use turns::first_progress;
 use turns::first_tally;
 use turns::turn;
 ghost use mathlib.Core.Path.{_≡_};
-ghost use mathlib.Core.List.{List};
-ghost use Prim.Native.Nat.{ℕ, _+_, _*_};
-ghost use lib.ListN.{length, take};
+ghost use lib.ListN.{length};
 ghost use Rattle.jobfile.specs.Meaning.{meaning};
 ghost use Rattle.jobfile.specs.Admitted.{Bytes};
-ghost use Rattle.rules.specs.State.{State};
-ghost use Rattle.rules.specs.Run.{Happening};
-ghost use Rattle.stepper.specs.Shown.{requestsIn, Standing};
 ghost use Rattle.turns.specs.Turns.{Roomy, countedOf, buffersOf};
-ghost use Rattle.player.specs.Player.{Checks, playedOf};
+ghost use Rattle.player.specs.Player.{left, Checks, playedOf};
 ghost use Rattle.player.specs.Player.{Roomy as RoomyFor};
 ghost use Rattle.player.specs.Demand.{LinearizedHere};
-ghost use Rattle.lent.specs.Lent.{planOf, refusedPlan, laidOf, cutLaidOf, preparedOf, openedOf, TurnableOn, TurnedOn, closedOf, tallyLeft};
+ghost use Rattle.lent.specs.Lent.{planOf, refusedPlan, laidOf, cutLaidOf, preparedOf, openedOf};
+ghost use Rattle.lent.specs.Lent.{TurnableOn, TurnsOn, closedOf, tallyLeft};
 
 // What is known before the first grant: the counts of the job or a refusal's number, and what the play carries.
 pub struct Plan {
@@ -59,7 +55,8 @@ fn turned_down(number: u32) -> Plan
 fn lay_out(file: &[u8], counts: Checked, table: &mut [u32], report: &mut [u32]) -> Plan
     requires { ⌜ Checks (now file) counts ⌝ }
     requires { ⌜ length (now table) ≡ meaning (now file) .job .nodes ⌝ }
-    ensures { λ r. ⌜ record { table = now (table .exit); report = now (report .exit); plan = r } ≡ laidOf (now (file .entry)) (length (now (report .entry))) ⌝ }
+    ensures { λ r. ⌜ record { table = now (table .exit); report = now (report .exit); plan = r }
+        ≡ laidOf (now (file .entry)) (length (now (report .entry))) ⌝ }
 {
     fresh_table(table);
     clear_report(report);
@@ -78,7 +75,8 @@ fn lay_out_cut(
     room: usize,
 ) -> Plan
     requires { ⌜ RoomyFor (now file) counts (length (now table)) (length (now report)) room ⌝ }
-    ensures { λ r. ⌜ record { table = now (table .exit); report = now (report .exit); plan = r } ≡ cutLaidOf (now (file .entry)) (now (table .entry)) (now (report .entry)) ⌝ }
+    ensures { λ r. ⌜ record { table = now (table .exit); report = now (report .exit); plan = r }
+        ≡ cutLaidOf (now (file .entry)) (now (table .entry)) (now (report .entry)) ⌝ }
 {
     let nodes = counts.nodes as usize;
     let rows = 4 * (counts.requests as usize);
@@ -87,7 +85,9 @@ fn lay_out_cut(
 
 // Checks the file and the lent buffers, and lays out the start where nothing is refused.
 fn prepare(file: &[u8], table: &mut [u32], report: &mut [u32], linearization: &mut [u32]) -> Plan
-    ensures { λ r. ⌜ (record { table = now (table .exit); report = now (report .exit); linearization = now (linearization .exit); plan = r } ≡ preparedOf (now (file .entry)) (now (table .entry)) (now (report .entry)) (now (linearization .entry))) × Bytes (now (file .entry)) ⌝ }
+    ensures { λ r. ⌜ (record { table = now (table .exit); report = now (report .exit); linearization = now (linearization .exit); plan = r }
+        ≡ preparedOf (now (file .entry)) (now (table .entry)) (now (report .entry)) (now (linearization .entry)))
+        × Bytes (now (file .entry)) ⌝ }
 {
     let counts = admission(file, table.len(), report.len(), linearization.len());
     if counts.number != 0 {
@@ -118,7 +118,9 @@ fn turn_on(
     linearization: &mut [u32],
 ) -> Progress
     requires { ⌜ TurnableOn (now file) counts progress (now table) (now report) (now linearization) ⌝ }
-    ensures { λ r. ⌜ ((S : State) (past : List Happening) (lent : List ℕ) → Standing (requestsIn (now (file .entry))) (length (take (counts .nodes) (now (table .entry)))) 16 (buffersOf progress (take (counts .nodes) (now (table .entry))) (take (4 * counts .requests) (now (report .entry))) (now (linearization .entry))) (progress .number + 1) S past lent → TurnedOn (now (file .entry)) counts progress r (now (table .entry)) (now (report .entry)) (now (table .exit)) (now (report .exit)) (now (linearization .exit)) S lent) ⌝ }
+    ensures { λ r. ⌜ TurnsOn (now (file .entry)) counts progress r
+        (buffersOf progress (now (table .entry)) (now (report .entry)) (now (linearization .entry)))
+        (buffersOf r (now (table .exit)) (now (report .exit)) (now (linearization .exit))) ⌝ }
 {
     let nodes = counts.nodes as usize;
     let rows = 4 * (counts.requests as usize);
@@ -177,9 +179,12 @@ pub extern "C" fn grouping_play_lent(
     linearization: &mut [u32],
     tally: &mut Tally,
 ) -> Played
-    ensures exact { λ r. ⌜ record { table = now (table .exit); report = now (report .exit); linearization = now (linearization .exit); result = r } ≡ playedOf (now (file .entry)) (now (table .entry)) (now (report .entry)) (now (linearization .entry)) ⌝ }
-    ensures counted { λ r. ⌜ now (tally .exit) ≡ tallyLeft (now (file .entry)) (now (table .entry)) (now (report .entry)) (now (linearization .entry)) (now (tally .entry)) ⌝ }
-    ensures linearized { λ r. ⌜ (r .number ≡ 0 → LinearizedHere (now (file .entry)) r (now (table .exit)) (now (report .exit)) (now (linearization .exit))) ⌝ }
+    ensures exact { λ r. ⌜ left (now (table .exit)) (now (report .exit)) (now (linearization .exit)) r
+        ≡ playedOf (now (file .entry)) (now (table .entry)) (now (report .entry)) (now (linearization .entry)) ⌝ }
+    ensures counted { λ r. ⌜ now (tally .exit)
+        ≡ tallyLeft (now (file .entry)) (now (table .entry)) (now (report .entry)) (now (linearization .entry)) (now (tally .entry)) ⌝ }
+    ensures linearized { λ r. ⌜ (r .number ≡ 0
+        → LinearizedHere (now (file .entry)) r (now (table .exit)) (now (report .exit)) (now (linearization .exit))) ⌝ }
 {
     let plan = prepare(file, table, report, linearization);
     *tally = opened(*tally, plan);

@@ -1,9 +1,9 @@
 -- From the parts of a play to what it leaves: the start, and the cut buffers.
-use mathlib.Core.Path.{_≡_, sym, ap, _∙_, subst₂}
+use mathlib.Core.Path.{_≡_, sym, ap, _∙_, subst}
 use mathlib.Core.List.{List, [], _++_, map}
 use Prim.Native.Nat.{ℕ, _*_, _≤_}
 use native.Mathlib.Omega.{arith}
-use lib.ListN.{length, take, drop, replicate, length-map}
+use lib.ListN.{length, take, drop, replicate}
 use lib.Seq.{length-take-le}
 use Rattle.job.specs.Job.{Job}
 use Rattle.word.specs.Word.{encode}
@@ -15,12 +15,11 @@ use Rattle.mask.specs.Mask.{maskOf}
 use Rattle.reader.specs.declared.Checked.{Checked}
 use Rattle.rules.specs.Table.{fresh}
 use Rattle.rules.specs.State.{headsFrom}
-use Rattle.rules.proofs.Table.{length-fresh}
-use Rattle.stepper.specs.Shown.{Buffers, requestsIn, Playing, Standing}
+use Rattle.stepper.specs.Shown.{buffers, requestsIn, Playing, Standing}
 use Rattle.start.specs.Start.{workFlag}
 use Rattle.start.proofs.Start.{start-standing}
 use Rattle.turns.specs.declared.Ended.{Ended}
-use Rattle.turns.specs.Turns.{startOf, endOf, Startable}
+use Rattle.turns.specs.Turns.{endOf, Startable}
 use Rattle.player.specs.Player.{Left, wholeOf, cutOf, Checks, Whole, Roomy}
 
 -- ---- the start
@@ -42,25 +41,14 @@ module _ {file : List ℕ} {checked : Checked} {n rows : ℕ} (lent : List ℕ) 
   whole-startable heads mask table report is-heads is-mask is-table is-report =
       record {
         playing = checks-playing (w .checks) bytes;
-        nodes = length-table;
         grants = ap (λ k. k .grants) (w .checks .counts);
-        standing = subst₂ (λ k b. Standing (requestsIn file) k 16 b 1 (startOf (meaning file .job)) [] lent) (sym length-table) (sym shows)
-            (start-standing (meaning file .job .nodes) (requestsIn file) lent (omega (arith, whole-nodes, w .nodes)) (w .room));
+        standing = subst (λ b. Standing (meaning file .job) b 1 [] lent) (sym shows) (start-standing (meaning file .job) lent (w .room));
       }
     where
-      length-table : length table ≡ meaning file .job .nodes
-      length-table = ap length is-table ∙ length-map (fresh n) encode ∙ length-fresh 0 n ∙ w .nodes
-
-      shows :
-          _≡_ {A = Buffers} (record { heads = heads; table = table; report = report; linearization = lent; entries = 0; mask = mask })
-          (record {
-            heads = headsFrom (requestsIn file) 0 16;
-            table = map encode (fresh (meaning file .job .nodes));
-            report = replicate (4 * length (requestsIn file)) 0;
-            linearization = lent;
-            entries = 0;
-            mask = maskOf (map (workFlag (length (requestsIn file))) (headsFrom (requestsIn file) 0 16));
-          })
+      shows : buffers heads table report lent 0 mask
+          ≡ buffers (headsFrom (requestsIn file) 0 16) (map encode (fresh (meaning file .job .nodes)))
+          (replicate (4 * length (requestsIn file)) 0) lent 0
+          (maskOf (map (workFlag (length (requestsIn file))) (headsFrom (requestsIn file) 0 16)))
       shows = λ i. record {
         heads = is-heads i;
         table = (is-table ∙ ap (λ k. map encode (fresh k)) (w .nodes)) i;

@@ -13,9 +13,9 @@ use Rattle.linearization.specs.Partition.{apart}
 use Rattle.linearization.specs.Entry.{entriesOf}
 use Rattle.jobfile.specs.Meaning.{meaning}
 use Rattle.rules.specs.declared.Row.{Row}
-use Rattle.rules.specs.Run.{Happening, history}
+use Rattle.rules.specs.Run.{Happening}
 use Rattle.rules.specs.Linearized.{Linearized}
-use Rattle.turns.specs.Turns.{startOf}
+use Rattle.stepper.specs.Shown.{historyAfter}
 
 abbrev pub rowsOf : List ℕ → List Row
 rowsOf [] = []
@@ -25,7 +25,7 @@ rowsOf (a ∷ f ∷ l ∷ []) = []
 rowsOf (a ∷ f ∷ l ∷ u ∷ numbers) = record { answer = a; first = f; last = l; used = u } ∷ rowsOf numbers
 
 abbrev pub historyOf : Job → List Happening
-historyOf j = history (j .requests) (startOf j) [] (j .schedule)
+historyOf j = historyAfter j (j .schedule)
 
 abbrev pub LinearizedHere : List ℕ → Played → List ℕ → List ℕ → List ℕ → Type 0
 LinearizedHere file played table report linearization =

@@ -5,7 +5,8 @@
 --   lentRefusal j t r l the refusal of lent buffers of these lengths, 0 for none
 --   playRefusal         the refusal of a play
 --   admissionOf         what is known before anything is written
---   Left, playedOf      the buffers and the answer
+--   Left, left ..       the buffers and the answer, and the same by its parts
+--   playedOf            what a play leaves
 use mathlib.Core.Path.{_≡_}
 use mathlib.Core.Bool.{cond}
 use mathlib.Core.List.{List, _++_, map}
@@ -72,6 +73,9 @@ pub record Left : Type 0 where
   pub linearization : List ℕ
   pub result : Played
 
+abbrev pub left : List ℕ → List ℕ → List ℕ → Played → Left
+left table report linearization result = record { table = table; report = report; linearization = linearization; result = result }
+
 -- "Numbers past the table's places, the report's requests and the line-up's entries remain as lent."
 abbrev pub leftAt : Job → State → List ℕ → List ℕ → List ℕ → Left
 leftAt j S table report linearization =
@@ -90,12 +94,7 @@ unfoldable pub playedOf : List ℕ → List ℕ → List ℕ → List ℕ → Le
 playedOf file table report linearization =
     cond (eqb (playRefusal file (length table) (length report) (length linearization)) 0)
     (cutOf (meaning file .job) table report linearization)
-    (record {
-      table = table;
-      report = report;
-      linearization = linearization;
-      result = refusedWith (playRefusal file (length table) (length report) (length linearization));
-    })
+    (left table report linearization (refusedWith (playRefusal file (length table) (length report) (length linearization))))
 
 -- ---- for the inner functions
 

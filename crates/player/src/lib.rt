@@ -11,7 +11,7 @@ use turns::play_grants;
 ghost use mathlib.Core.Path.{_≡_};
 ghost use lib.ListN.{length};
 ghost use Rattle.jobfile.specs.Meaning.{meaning};
-ghost use Rattle.player.specs.Player.{refusedWith, Whole, wholeOf, Roomy, cutOf, admissionOf, playedOf};
+ghost use Rattle.player.specs.Player.{refusedWith, left, Whole, wholeOf, Roomy, cutOf, admissionOf, playedOf};
 ghost use Rattle.player.specs.Demand.{LinearizedHere};
 
 // A refusal: its number, and zero for every count.
@@ -43,7 +43,8 @@ fn play_whole(
     linearization: &mut [u32],
 ) -> Played
     requires { ⌜ Whole (now file) checked (length (now table)) (length (now report)) (length (now linearization)) ⌝ }
-    ensures { λ r. ⌜ record { table = now (table .exit); report = now (report .exit); linearization = now (linearization .exit); result = r } ≡ wholeOf (meaning (now (file .entry)) .job) (now (linearization .entry)) ⌝ }
+    ensures { λ r. ⌜ left (now (table .exit)) (now (report .exit)) (now (linearization .exit)) r
+        ≡ wholeOf (meaning (now (file .entry)) .job) (now (linearization .entry)) ⌝ }
 {
     fresh_table(table);
     clear_report(report);
@@ -81,7 +82,8 @@ fn play_cut(
     linearization: &mut [u32],
 ) -> Played
     requires { ⌜ Roomy (now file) checked (length (now table)) (length (now report)) (length (now linearization)) ⌝ }
-    ensures { λ r. ⌜ record { table = now (table .exit); report = now (report .exit); linearization = now (linearization .exit); result = r } ≡ cutOf (meaning (now (file .entry)) .job) (now (table .entry)) (now (report .entry)) (now (linearization .entry)) ⌝ }
+    ensures { λ r. ⌜ left (now (table .exit)) (now (report .exit)) (now (linearization .exit)) r
+        ≡ cutOf (meaning (now (file .entry)) .job) (now (table .entry)) (now (report .entry)) (now (linearization .entry)) ⌝ }
 {
     let nodes = checked.nodes as usize;
     let rows = 4 * (checked.requests as usize);
@@ -117,8 +119,10 @@ pub fn admission(file: &[u8], table: usize, report: usize, linearization: usize)
 
 // Plays a job file: any bytes, on any lent buffers.
 pub fn play(file: &[u8], table: &mut [u32], report: &mut [u32], linearization: &mut [u32]) -> Played
-    ensures exact { λ r. ⌜ record { table = now (table .exit); report = now (report .exit); linearization = now (linearization .exit); result = r } ≡ playedOf (now (file .entry)) (now (table .entry)) (now (report .entry)) (now (linearization .entry)) ⌝ }
-    ensures linearized { λ r. ⌜ (r .number ≡ 0 → LinearizedHere (now (file .entry)) r (now (table .exit)) (now (report .exit)) (now (linearization .exit))) ⌝ }
+    ensures exact { λ r. ⌜ left (now (table .exit)) (now (report .exit)) (now (linearization .exit)) r
+        ≡ playedOf (now (file .entry)) (now (table .entry)) (now (report .entry)) (now (linearization .entry)) ⌝ }
+    ensures linearized { λ r. ⌜ (r .number ≡ 0
+        → LinearizedHere (now (file .entry)) r (now (table .exit)) (now (report .exit)) (now (linearization .exit))) ⌝ }
 {
     let checked = admission(file, table.len(), report.len(), linearization.len());
     if checked.number != 0 {

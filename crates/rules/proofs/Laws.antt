@@ -116,7 +116,7 @@ start-counted qs m t = record { idle = refl; failed = refl; links = refl }
 start-truthful : AllTruthful []
 start-truthful a m = absurd (elim m [ ])
 
-run-heads : (qs : List Request) (S : State) (gs : List ℕ) → length (run qs S gs .heads) ≡ length (S .heads)
+pub run-heads : (qs : List Request) (S : State) (gs : List ℕ) → length (run qs S gs .heads) ≡ length (S .heads)
 run-heads qs S [] = refl
 run-heads qs S (h ∷ gs) = run-heads qs (step qs S h) gs ∙ step-heads qs S h
 

@@ -7,26 +7,23 @@
 -- Main laws: fresh-word and first-request, each place of the table and of the first requests; first-heads and
 -- first-flags, the heads and their flags; start-rows, the report's zeros are rows; start-standing, the buffers show the
 -- start.
-use mathlib.Core.Path.{_≡_, refl, sym, ap, ap₂, _∙_, subst}
+use mathlib.Core.Path.{_≡_, refl, sym, ap, ap₂, _∙_}
 use mathlib.Core.List.{List, [], _∷_, map}
 use Prim.Native.Nat.{ℕ, zero, suc, _+_, _*_, _≤_, _<_}
 use native.Mathlib.Omega.{arith}
 use lib.ListN.{length, getD, replicate, length-map}
 use Rattle.job.specs.declared.Request.{Request}
+use Rattle.job.specs.Job.{Job}
 use Rattle.word.specs.declared.Node.{Node}
-use Rattle.word.specs.Word.{encode, nodeLimit}
+use Rattle.word.specs.Word.{encode}
 use Rattle.process.specs.declared.Head.{Head}
-use Rattle.linearization.specs.Partition.{apart}
 use Rattle.mask.specs.Mask.{maskOf}
-use Rattle.forest.proofs.Roots.{start-roots}
 use Rattle.rules.specs.Table.{noNode, at, freshFrom, fresh}
 use Rattle.rules.specs.Report.{noRow}
-use Rattle.rules.specs.State.{seek, resting, headsFrom, start}
-use Rattle.rules.proofs.Table.{length-fresh, fresh-start}
-use Rattle.rules.proofs.Invariant.{Invariant}
-use Rattle.rules.proofs.Theorem.{length-heads, start-invariant, fresh-startable}
+use Rattle.rules.specs.State.{seek, resting, headsFrom}
+use Rattle.rules.proofs.Table.{length-fresh}
 use Rattle.stepper.specs.Buffers.{flatRows}
-use Rattle.stepper.specs.Shown.{Standing}
+use Rattle.stepper.specs.Shown.{buffers, Standing}
 use Rattle.mask.proofs.Lists.{getD-mapped}
 use Rattle.start.specs.Start.{firstRequests, isRequest, workFlag}
 
@@ -101,33 +98,16 @@ start-rows (suc k) =
 
 -- ---- all of it
 
-fresh-invariant : (n : ℕ) (qs : List Request) → n ≤ nodeLimit → Invariant qs n apart n (start qs 16 (fresh n)) []
-fresh-invariant n qs few =
-    subst (λ k. Invariant qs n apart k (start qs 16 (fresh n)) []) (start-roots (fresh-start n few)) (start-invariant qs 16 (fresh-startable n few))
-
-pub start-standing : (n : ℕ) (qs : List Request) (lent : List ℕ) → n ≤ nodeLimit → 2 * length qs ≤ length lent
-    → Standing qs n 16
-    (record {
-      heads = headsFrom qs 0 16;
-      table = map encode (fresh n);
-      report = replicate (4 * length qs) 0;
-      linearization = lent;
-      entries = 0;
-      mask = maskOf (map (workFlag (length qs)) (headsFrom qs 0 16));
-    })
-    1 (start qs 16 (fresh n)) [] lent
-start-standing n qs lent few room =
+pub start-standing : (j : Job) (lent : List ℕ) → 2 * length (j .requests) ≤ length lent
+    → Standing j
+    (buffers (headsFrom (j .requests) 0 16) (map encode (fresh (j .nodes))) (replicate (4 * length (j .requests)) 0) lent 0
+    (maskOf (map (workFlag (length (j .requests))) (headsFrom (j .requests) 0 16))))
+    1 [] lent
+start-standing j lent room =
     record {
-      invariant = fresh-invariant n qs few;
-      heads = length-heads qs 0 16;
-      shows = λ i. record {
-        heads = headsFrom qs 0 16;
-        table = map encode (fresh n);
-        report = sym (start-rows (length qs)) i;
-        linearization = lent;
-        entries = 0;
-        mask = maskOf (map (workFlag (length qs)) (headsFrom qs 0 16));
-      };
+      shows = ap (λ rows. buffers (headsFrom (j .requests) 0 16) (map encode (fresh (j .nodes))) rows lent 0
+          (maskOf (map (workFlag (length (j .requests))) (headsFrom (j .requests) 0 16)))) (sym (start-rows (length (j .requests))));
       next = refl;
+      granted = λ h m. absurd (elim m [ ]);
       room = room;
     }

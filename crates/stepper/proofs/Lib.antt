@@ -4,5 +4,6 @@ pub mod Shown
 pub mod Raisable
 pub mod Room
 pub mod Seek
+pub mod Reached
 pub mod Served
 pub mod Needs

@@ -25,20 +25,18 @@ use Rattle.linearization.proofs.Tests.{split}
 use Rattle.linearization.proofs.Entries.{length-insert}
 use Rattle.linearization.proofs.Replay.{replayed-rising}
 use Rattle.linearization.proofs.Numbers.{insertable-shown}
+use Rattle.jobfile.specs.Format.{mostHeads}
 use Rattle.jobfile.specs.Meaning.{meaning}
-use Rattle.jobfile.specs.Admitted.{Admitted}
-use Rattle.jobfile.proofs.RoundTrip.{admitted-meaning}
 use Rattle.mask.proofs.Laws.{flag-of, left-least}
 use Rattle.rules.specs.Table.{seen, touched}
 use Rattle.rules.specs.Report.{charge, noRow, isFinal}
-use Rattle.rules.specs.State.{State, noRequest, requestAt, seek, resting, hasWork}
+use Rattle.rules.specs.State.{State, seek, resting, hasWork}
 use Rattle.rules.specs.Step.{ready, headAt, advanced, settled, served, passed, step}
 use Rattle.rules.specs.Run.{Happening, happened}
 use Rattle.rules.specs.Run.Happening.{idle}
 use Rattle.rules.specs.History.{countWhere, isOf, rowOf, linkOf}
 use Rattle.rules.specs.Linearized.{isListed, rowAt}
 use Rattle.rules.proofs.Requests.{seek-bound}
-use Rattle.rules.proofs.Stages.{Inside}
 use Rattle.rules.proofs.Steps.{advance-keeps}
 use Rattle.rules.proofs.Invariant.{Invariant}
 use Rattle.rules.proofs.Serving.{Serving}
@@ -47,9 +45,10 @@ use Rattle.rules.proofs.Theorem.{invariant-linearized}
 use Rattle.stepper.specs.declared.Done.{Done}
 use Rattle.table.specs.Touch.{Touchable}
 use Rattle.stepper.specs.Buffers.{rowIn, stored}
-use Rattle.stepper.specs.Shown.{Buffers, shown, doneOf, requestsIn, Playing, Standing, Ready}
+use Rattle.stepper.specs.Shown.{Buffers, shown, doneOf, stateAfter, historyAfter, requestsIn, Playing, Standing, Ready}
 use Rattle.stepper.proofs.Lists.{length-rows}
 use Rattle.stepper.proofs.Room.{entries-few}
+use Rattle.stepper.proofs.Reached.{Reached, playing-admitted, playing-inside, reached}
 use Rattle.stepper.proofs.Served.{step-served, happened-served, head-shown, head-touchable, head-raisable, row-here, moved-here, served-shown}
 
 -- what the step of a head without work left is
@@ -83,18 +82,10 @@ module _ {qs : List Request} {n : ℕ} {S : State} {past : List Happening} (inv 
 
 -- ---- what an accepted file says
 
-module _ {file : List ℕ} {requests : ℕ} (playing : Playing file requests) where
-  pub playing-admitted : Admitted (meaning file .job)
-  playing-admitted = admitted-meaning file (playing .bytes) (playing .accepted)
-
-  pub next-small : (h from : ℕ) → from ≤ requests → seek (requestsIn file) h from < 65536
-  next-small h from l =
-      omega (arith, seek-bound (requestsIn file) h from (omega (arith, playing .count)), playing-admitted .few-requests)
-
-  pub playing-inside : {n : ℕ} → n ≡ meaning file .job .nodes → (q : ℕ) → q < length (requestsIn file) → Inside n (requestAt (requestsIn file) q)
-  playing-inside e q l =
-      let s = playing-admitted .each-request q noRequest l in
-      record { x = omega (arith, s .x); y = omega (arith, s .y) }
+pub next-small : {file : List ℕ} {requests : ℕ} → Playing file requests → (h from : ℕ) → from ≤ requests
+    → seek (requestsIn file) h from < 65536
+next-small {file} playing h from l =
+    omega (arith, seek-bound (requestsIn file) h from (omega (arith, playing .count)), playing-admitted playing .few-requests)
 
 -- the head that has finished its request
 pub settled-final : (qs : List Request) (h : ℕ) (moved : Advanced) (next : ℕ) → isFinal (moved .event .answer) ≡ true → next ≡ seek qs h (moved .head .request + 1)
@@ -106,19 +97,28 @@ settled-final qs h moved next t e =
 
 -- ---- a served grant
 
-module _ {file : List ℕ} {requests h number : ℕ} {b : Buffers} (playing : Playing file requests) (nodes : length (b .table) ≡ meaning file .job .nodes)
-    (present : h < 16) {S : State} {past : List Happening} {lent : List ℕ}
-    (standing : Standing (requestsIn file) (length (b .table)) 16 b number S past lent) where
+module _ {file : List ℕ} {requests h number : ℕ} {b : Buffers} (playing : Playing file requests) (present : h < mostHeads)
+    {gs lent : List ℕ} (standing : Standing (meaning file .job) b number gs lent) where
   abbrev qs : List Request
   qs = requestsIn file
 
+  abbrev S : State
+  S = stateAfter (meaning file .job) gs
+
+  abbrev past : List Happening
+  past = historyAfter (meaning file .job) gs
+
+  here : Reached qs (meaning file .job .nodes) b number S past lent
+  here = reached playing standing
+
   -- the mask tells whether the head has work left
   pub work-shown : eqb (b .mask / 2 ^ h % 2) 1 ≡ hasWork qs (headAt S h)
-  work-shown = ap (λ c. eqb (c .mask / 2 ^ h % 2) 1) (standing .shows) ∙ flag-of (hasWork qs) (resting 0) (S .heads) h (omega (arith, standing .heads))
+  work-shown =
+      ap (λ c. eqb (c .mask / 2 ^ h % 2) 1) (here .shows) ∙ flag-of (hasWork qs) (resting 0) (S .heads) h (omega (arith, here .heads))
 
   -- an idle grant leaves the buffers
   pub idle-shown : eqb (b .mask / 2 ^ h % 2) 1 ≡ false → b ≡ shown qs (step qs S h) lent
-  idle-shown bit = standing .shows ∙ ap (λ T. shown qs T lent) (sym (step-idle qs S h (sym work-shown ∙ bit)))
+  idle-shown bit = here .shows ∙ ap (λ T. shown qs T lent) (sym (step-idle qs S h (sym work-shown ∙ bit)))
 
   pub idle-done : eqb (b .mask / 2 ^ h % 2) 1 ≡ false → record { idle = true; failed = false; linked = false } ≡ doneOf (happened qs S h)
   idle-done bit = ap doneOf (sym (happened-idle qs S h (sym work-shown ∙ bit)))
@@ -127,40 +127,51 @@ module _ {file : List ℕ} {requests h number : ℕ} {b : Buffers} (playing : Pl
     work : hasWork qs (headAt S h) ≡ true
     work = sym work-shown ∙ bit
 
-    in-service : Serving qs (length (b .table)) apart S past h (ready qs (headAt S h))
-    in-service = serving-ready (playing-inside playing nodes) (standing .invariant) h (omega (arith, standing .heads)) (ltb-true (headAt S h .request) (length qs) work)
+    in-service : Serving qs (meaning file .job .nodes) apart S past h (ready qs (headAt S h))
+    in-service =
+        serving-ready (playing-inside playing) (here .invariant) h (omega (arith, here .heads))
+        (ltb-true (headAt S h .request) (length qs) work)
 
     pub next-within : getD (b .heads) h (resting 0) .request < requests
     next-within =
-        omega (arith, ap (λ c. getD (c .heads) h (resting 0) .request) (standing .shows), ltb-true (headAt S h .request) (length qs) work, playing .count)
+        omega (
+          arith,
+          ap (λ c. getD (c .heads) h (resting 0) .request) (here .shows),
+          ltb-true (headAt S h .request) (length qs) work,
+          playing .count,
+        )
 
     pub mask-least : 2 ^ h ≤ b .mask
-    mask-least = omega (arith, ap (λ c. c .mask) (standing .shows), left-least (hasWork qs) (resting 0) (S .heads) h (omega (arith, standing .heads)) work)
+    mask-least =
+        omega (arith, ap (λ c. c .mask) (here .shows), left-least (hasWork qs) (resting 0) (S .heads) h (omega (arith, here .heads)) work)
 
     pub entries-small : b .entries < 4294967295
-    entries-small = omega (arith, ap (λ c. c .entries) (standing .shows), invariant-few (standing .invariant), playing-admitted playing .few-requests)
+    entries-small =
+        omega (arith, ap (λ c. c .entries) (here .shows), invariant-few (here .invariant), playing-admitted playing .few-requests)
 
     module _ (head : Head) (is-head : head ≡ ready qs (getD (b .heads) h (resting 0))) where
       to-head : head ≡ ready qs (headAt S h)
-      to-head = is-head ∙ head-shown standing h present in-service
+      to-head = is-head ∙ head-shown here h present in-service
 
       pub raisable : Raisable (head .stage)
-      raisable = subst (λ k. Raisable (k .stage)) (sym to-head) (head-raisable standing h present in-service)
+      raisable = subst (λ k. Raisable (k .stage)) (sym to-head) (head-raisable here h present in-service)
 
       pub touchable-here : (a : Access) → a ≡ accessOf head → Touchable (map decode (b .table)) a
-      touchable-here a e = subst (Touchable (map decode (b .table))) (sym (e ∙ ap accessOf to-head)) (head-touchable standing h present in-service)
+      touchable-here a e =
+          subst (Touchable (map decode (b .table))) (sym (e ∙ ap accessOf to-head)) (head-touchable here h present in-service)
 
       pub request-within : head .request < length qs
       request-within = omega (arith, ap (λ k. k .request) to-head, in-service .within)
 
       pub charge-room : 4 * head .request + 4 ≤ length (b .report)
-      charge-room = omega (arith, ap (λ c. length (c .report)) (standing .shows), length-rows (S .report), standing .invariant .reports, request-within)
+      charge-room =
+          omega (arith, ap (λ c. length (c .report)) (here .shows), length-rows (S .report), here .invariant .reports, request-within)
 
       pub charge-used : number < 4294967296 → rowIn (b .report) (4 * head .request) .used < 4294967295
       charge-used small =
           let row : rowIn (b .report) (4 * head .request) .used ≡ getD (S .report) (ready qs (headAt S h) .request) noRow .used =
-          ap (λ k. rowIn (b .report) (4 * k .request) .used) to-head ∙ ap (λ r. r .used) (row-here standing h present in-service) in
-          omega (arith, row, used-bound (standing .invariant) (ready qs (headAt S h) .request) (in-service .within), standing .next)
+          ap (λ k. rowIn (b .report) (4 * k .request) .used) to-head ∙ ap (λ r. r .used) (row-here here h present in-service) in
+          omega (arith, row, used-bound (here .invariant) (ready qs (headAt S h) .request) (in-service .within), here .next)
 
       module _ (a : Access) (is-access : a ≡ accessOf head) (w : Node) (is-seen : w ≡ seen (map decode (b .table)) a)
           (moved : Advanced) (is-moved : moved ≡ advanceOf head w number) where
@@ -179,21 +190,21 @@ module _ {file : List ℕ} {requests h number : ℕ} {b : Buffers} (playing : Pl
         entries-after t =
             let S′ = served qs S h (ready qs (headAt S h)) in
             let point : eqb (advanced S (ready qs (headAt S h)) .event .point) 0 ≡ false =
-            ap (λ m. eqb (m .event .point) 0) (sym (to-moved ∙ moved-here standing h present in-service)) ∙ t in
+            ap (λ m. eqb (m .event .point) 0) (sym (to-moved ∙ moved-here here h present in-service)) ∙ t in
             let more : length (S′ .entries) ≡ suc (length (S .entries)) = rw point (length-insert (advanced S (ready qs (headAt S h)) .event .point) (ready qs (headAt S h) .request) (S .entries)) in
             omega (
               arith,
               more,
               ap (λ T. length (T .entries)) (step-served qs S h work),
-              invariant-few (step-invariant (playing-inside playing nodes) (standing .invariant) h (omega (arith, standing .heads))),
+              invariant-few (step-invariant (playing-inside playing) (here .invariant) h (omega (arith, here .heads))),
             )
 
         pub insertable : moved .event .point ≢ 0 → Insertable (b .linearization) (b .entries)
         insertable d =
-            subst (λ c. Insertable (c .linearization) (c .entries)) (sym (standing .shows))
+            subst (λ c. Insertable (c .linearization) (c .entries)) (sym (here .shows))
             (insertable-shown (S .entries) (drop (2 * length (S .entries)) lent)
-            (omega (arith, length-drop (2 * length (S .entries)) lent, standing .room, entries-after (ne-eqb (moved .event .point) 0 d)))
-            (replayed-rising (standing .invariant .entries)))
+            (omega (arith, length-drop (2 * length (S .entries)) lent, here .room, entries-after (ne-eqb (moved .event .point) 0 d)))
+            (replayed-rising (here .invariant .entries)))
 
         module _ (table′ report′ linearization′ : List ℕ) (entries′ mask′ : ℕ) (next : Head)
             (is-table : table′ ≡ map encode (touched (map decode (b .table)) a))
@@ -206,7 +217,7 @@ module _ {file : List ℕ} {requests h number : ℕ} {b : Buffers} (playing : Pl
               record { heads = set (b .heads) h next; table = table′; report = report′; linearization = linearization′; entries = entries′; mask = mask′ }
               ≡ shown qs (step qs S h) lent
           serve-shown =
-              served-shown standing h present in-service moved table′ report′ linearization′ entries′ mask′ next to-moved
+              served-shown here h present in-service moved table′ report′ linearization′ entries′ mask′ next to-moved
               (is-table ∙ ap (λ v. map encode (touched (map decode (b .table)) v)) (is-access ∙ ap accessOf to-head))
               (is-report ∙ ap (λ k. stored (b .report) (4 * k .request) (charge (rowIn (b .report) (4 * k .request)) number (moved .event .answer))) to-head)
               (is-linearization ∙ ap (λ k. cond (eqb (moved .event .point) 0) (b .linearization) (inserted (b .linearization) (b .entries) (moved .event .point) (k .request))) to-head)
@@ -216,38 +227,40 @@ module _ {file : List ℕ} {requests h number : ℕ} {b : Buffers} (playing : Pl
 
         pub serve-done : (done : Done) → done ≡ record { idle = false; failed = moved .event .failed; linked = moved .event .linked } → done ≡ doneOf (happened qs S h)
         serve-done done is =
-            is ∙ ap (λ m. record { idle = false; failed = m .event .failed; linked = m .event .linked }) (to-moved ∙ moved-here standing h present in-service)
+            is
+            ∙ ap (λ m. record { idle = false; failed = m .event .failed; linked = m .event .linked })
+            (to-moved ∙ moved-here here h present in-service)
             ∙ ap doneOf (sym (happened-served qs S h work))
 
 -- ---- what the parts of a ready grant ask
 
 module _ {file : List ℕ} {requests h number : ℕ} {b : Buffers} (r : Ready file requests h number b) (bit : eqb (b .mask / 2 ^ h % 2) 1 ≡ true) where
   pub ready-next : getD (b .heads) h (resting 0) .request < requests
-  ready-next = next-within (r .playing) (r .nodes) (r .head) (r .standing) bit
+  ready-next = next-within (r .playing) (r .head) (r .standing) bit
 
   pub ready-mask : 2 ^ h ≤ b .mask
-  ready-mask = mask-least (r .playing) (r .nodes) (r .head) (r .standing) bit
+  ready-mask = mask-least (r .playing) (r .head) (r .standing) bit
 
   pub ready-small : b .entries < 4294967295
-  ready-small = entries-small (r .playing) (r .nodes) (r .head) (r .standing) bit
+  ready-small = entries-small (r .playing) (r .head) (r .standing) bit
 
   module _ (head : Head) (is-head : head ≡ ready (requestsIn file) (getD (b .heads) h (resting 0))) where
     pub ready-raisable : Raisable (head .stage)
-    ready-raisable = raisable (r .playing) (r .nodes) (r .head) (r .standing) bit head is-head
+    ready-raisable = raisable (r .playing) (r .head) (r .standing) bit head is-head
 
     pub ready-touchable : (a : Access) → a ≡ accessOf head → Touchable (map decode (b .table)) a
-    ready-touchable = touchable-here (r .playing) (r .nodes) (r .head) (r .standing) bit head is-head
+    ready-touchable = touchable-here (r .playing) (r .head) (r .standing) bit head is-head
 
     pub ready-room : 4 * head .request + 4 ≤ length (b .report)
-    ready-room = charge-room (r .playing) (r .nodes) (r .head) (r .standing) bit head is-head
+    ready-room = charge-room (r .playing) (r .head) (r .standing) bit head is-head
 
     pub ready-used : number < 4294967296 → rowIn (b .report) (4 * head .request) .used < 4294967295
-    ready-used = charge-used (r .playing) (r .nodes) (r .head) (r .standing) bit head is-head
+    ready-used = charge-used (r .playing) (r .head) (r .standing) bit head is-head
 
     module _ (a : Access) (is-access : a ≡ accessOf head) (w : Node) (is-seen : w ≡ seen (map decode (b .table)) a)
         (moved : Advanced) (is-moved : moved ≡ advanceOf head w number) where
       pub ready-insertable : moved .event .point ≢ 0 → Insertable (b .linearization) (b .entries)
-      ready-insertable = insertable (r .playing) (r .nodes) (r .head) (r .standing) bit head is-head a is-access w is-seen moved is-moved
+      ready-insertable = insertable (r .playing) (r .head) (r .standing) bit head is-head a is-access w is-seen moved is-moved
 
       pub ready-moved : moved .head .request < requests
-      ready-moved = moved-within (r .playing) (r .nodes) (r .head) (r .standing) bit head is-head a is-access w is-seen moved is-moved
+      ready-moved = moved-within (r .playing) (r .head) (r .standing) bit head is-head a is-access w is-seen moved is-moved

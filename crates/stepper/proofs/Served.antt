@@ -32,10 +32,11 @@ use Rattle.table.specs.Touch.{Within, Worded, Touchable}
 use Rattle.table.proofs.Words.{decode-words}
 use Rattle.table.proofs.Within.{access-within}
 use Rattle.stepper.specs.Buffers.{rowIn, stored, flatRows}
-use Rattle.stepper.specs.Shown.{Buffers, shown, Standing}
+use Rattle.stepper.specs.Shown.{Buffers, shown}
 use Rattle.stepper.proofs.Lists.{row-shown, stored-shown}
 use Rattle.stepper.proofs.Shown.{entered-shown, count-shown}
 use Rattle.stepper.proofs.Raisable.{stage-raisable}
+use Rattle.stepper.proofs.Reached.{Reached}
 
 -- What the step of a head with work left is.
 pub step-served : (qs : List Request) (S : State) (h : ℕ) → hasWork qs (headAt S h) ≡ true → step qs S h ≡ served qs S h (ready qs (headAt S h))
@@ -56,38 +57,42 @@ invariant-worded {n = n} inv =
     }
 
 module _ {qs : List Request} {n : ℕ} {b : Buffers} {number : ℕ} {S : State} {past : List Happening} {lent : List ℕ}
-    (standing : Standing qs n 16 b number S past lent) (h : ℕ) (present : h < 16) (in-service : Serving qs n apart S past h (ready qs (headAt S h))) where
+    (here : Reached qs n b number S past lent) (h : ℕ) (present : h < 16)
+    (in-service : Serving qs n apart S past h (ready qs (headAt S h))) where
   abbrev head : Head
   head = ready qs (headAt S h)
 
   access-here : Within (length (S .table)) (accessOf head)
   unfolding accessOf
   access-here =
-      subst (λ k. Within k (accessOf head)) (sym (standing .invariant .nodes))
+      subst (λ k. Within k (accessOf head)) (sym (here .invariant .nodes))
       (access-within n (parent (S .table)) (rank (S .table)) (labels qs apart S) (ApartAt qs apart (S .entries) (head .request)) (S .now) _ head (head .stage) (in-service .knows))
 
   -- the head is as the rules have it
   pub head-shown : ready qs (getD (b .heads) h (resting 0)) ≡ head
-  head-shown = ap (λ c. ready qs (getD (c .heads) h (resting 0))) (standing .shows)
+  head-shown = ap (λ c. ready qs (getD (c .heads) h (resting 0))) (here .shows)
 
   -- the words are those of the rules' nodes
   nodes-shown : map decode (b .table) ≡ S .table
-  nodes-shown = ap (λ c. map decode (c .table)) (standing .shows) ∙ decode-words (S .table) (invariant-worded (standing .invariant))
+  nodes-shown = ap (λ c. map decode (c .table)) (here .shows) ∙ decode-words (S .table) (invariant-worded (here .invariant))
 
   pub head-touchable : Touchable (map decode (b .table)) (accessOf head)
   head-touchable =
-      subst (λ t. Touchable t (accessOf head)) (sym nodes-shown) (record { node = access-here; worded = invariant-worded (standing .invariant) })
+      subst (λ t. Touchable t (accessOf head)) (sym nodes-shown)
+      (record { node = access-here; worded = invariant-worded (here .invariant) })
 
   pub head-raisable : Raisable (head .stage)
   head-raisable =
       stage-raisable n (parent (S .table)) (rank (S .table)) (labels qs apart S) (ApartAt qs apart (S .entries) (head .request)) (S .now) _ head
-      (standing .invariant .sound .formed .limit) (head .stage) (in-service .knows)
+      (here .invariant .sound .formed .limit) (head .stage) (in-service .knows)
 
   pub moved-here : advanceOf head (seen (map decode (b .table)) (accessOf head)) number ≡ advanced S head
-  moved-here = ap₂ (λ t g. advanceOf head (seen t (accessOf head)) g) nodes-shown (standing .next)
+  moved-here = ap₂ (λ t g. advanceOf head (seen t (accessOf head)) g) nodes-shown (here .next)
 
   pub row-here : rowIn (b .report) (4 * head .request) ≡ getD (S .report) (head .request) noRow
-  row-here = ap (λ c. rowIn (c .report) (4 * head .request)) (standing .shows) ∙ row-shown (S .report) (head .request) (omega (arith, in-service .within, standing .invariant .reports))
+  row-here =
+      ap (λ c. rowIn (c .report) (4 * head .request)) (here .shows)
+      ∙ row-shown (S .report) (head .request) (omega (arith, in-service .within, here .invariant .reports))
 
   -- what each part of the grant left
   module _ (moved : Advanced) (table′ report′ linearization′ : List ℕ) (entries′ mask′ : ℕ) (next : Head)
@@ -109,36 +114,40 @@ module _ {qs : List Request} {n : ℕ} {b : Buffers} {number : ℕ} {S : State} 
 
     report-shown : report′ ≡ flatRows (set (S .report) (head .request) (charge (getD (S .report) (head .request) noRow) (suc (S .now)) (advanced S head .event .answer)))
     report-shown =
-        let row : charge (rowIn (b .report) (4 * head .request)) number (moved .event .answer) ≡ charge (getD (S .report) (head .request) noRow) (suc (S .now)) (advanced S head .event .answer) =
-        ap₂ (λ r g. charge r g (moved .event .answer)) row-here (standing .next) ∙ ap (λ m. charge (getD (S .report) (head .request) noRow) (suc (S .now)) (m .event .answer)) to-advanced in
-        is-report ∙ ap₂ (λ c r. stored (c .report) (4 * head .request) r) (standing .shows) row
-        ∙ stored-shown (S .report) (head .request) (charge (getD (S .report) (head .request) noRow) (suc (S .now)) (advanced S head .event .answer)) (omega (arith, in-service .within, standing .invariant .reports))
+        let old = getD (S .report) (head .request) noRow in
+        let new = charge old (suc (S .now)) (advanced S head .event .answer) in
+        let row : charge (rowIn (b .report) (4 * head .request)) number (moved .event .answer) ≡ new =
+        ap₂ (λ r g. charge r g (moved .event .answer)) row-here (here .next)
+        ∙ ap (λ m. charge old (suc (S .now)) (m .event .answer)) to-advanced in
+        is-report ∙ ap₂ (λ c r. stored (c .report) (4 * head .request) r) (here .shows) row
+        ∙ stored-shown (S .report) (head .request) new (omega (arith, in-service .within, here .invariant .reports))
 
     linearization-shown : linearization′ ≡ flat (entered (S .entries) (head .request) (advanced S head .event)) ++ drop (2 * length (entered (S .entries) (head .request) (advanced S head .event))) lent
     linearization-shown =
         is-linearization
-        ∙ ap₂ (λ m c. cond (eqb (m .event .point) 0) (c .linearization) (inserted (c .linearization) (c .entries) (m .event .point) (head .request))) to-advanced (standing .shows)
+        ∙ ap₂ (λ m c. cond (eqb (m .event .point) 0) (c .linearization)
+        (inserted (c .linearization) (c .entries) (m .event .point) (head .request))) to-advanced (here .shows)
         ∙ entered-shown (S .entries) (head .request) (advanced S head .event) lent
 
     entries-shown : entries′ ≡ length (entered (S .entries) (head .request) (advanced S head .event))
     entries-shown =
-        is-entries ∙ ap₂ (λ m c. cond (eqb (m .event .point) 0) (c .entries) (c .entries + 1)) to-advanced (standing .shows)
+        is-entries ∙ ap₂ (λ m c. cond (eqb (m .event .point) 0) (c .entries) (c .entries + 1)) to-advanced (here .shows)
         ∙ count-shown (S .entries) (head .request) (advanced S head .event)
 
     -- the head had work left: its bit stays, or is cleared
     mask-shown : hasWork qs (headAt S h) ≡ true → mask′ ≡ maskOf (map (hasWork qs) (set (S .heads) h (settled qs h (advanced S head))))
     mask-shown work =
-        is-mask ∙ ap₂ (λ k c. cond (ltb (k .request) (length qs)) (c .mask) (c .mask - 2 ^ h)) to-next (standing .shows)
+        is-mask ∙ ap₂ (λ k c. cond (ltb (k .request) (length qs)) (c .mask) (c .mask - 2 ^ h)) to-next (here .shows)
         ∙ split (hasWork qs (settled qs h (advanced S head)))
         (λ t. rw t (sym (mask-kept (hasWork qs) (resting 0) (S .heads) h (settled qs h (advanced S head)) (t ∙ sym work))))
-        (λ t. rw t (mask-left (hasWork qs) (resting 0) (S .heads) h (omega (arith, standing .heads)) work (settled qs h (advanced S head)) t))
+        (λ t. rw t (mask-left (hasWork qs) (resting 0) (S .heads) h (omega (arith, here .heads)) work (settled qs h (advanced S head)) t))
 
     pub served-shown : hasWork qs (headAt S h) ≡ true
         → record { heads = set (b .heads) h next; table = table′; report = report′; linearization = linearization′; entries = entries′; mask = mask′ }
         ≡ shown qs (step qs S h) lent
     served-shown work =
         (λ i. record {
-          heads = set (standing .shows i .heads) h (to-next i);
+          heads = set (here .shows i .heads) h (to-next i);
           table = table-shown i;
           report = report-shown i;
           linearization = linearization-shown i;

@@ -5,28 +5,32 @@
 --   shown qs S lent   what the buffers hold in state S; numbers past the entries are as lent
 --   Done, doneOf a    what a grant adds to the tally
 --   requestsIn file   the requests of a file
+--   startOf j         the rules' start of the job j
+--   stateAfter j gs   the rules' state of the job j after the grants gs
+--   historyAfter j gs what those grants were, the newest first
 --   Playing           an accepted file, with the number of its requests
---   Standing          the buffers show a state that a run has reached
---   Ready             they do, for the next grant to head h
---   Stepped, Grants   what a grant makes of the buffers: from one state, and from every state that they show
+--   Standing          the buffers show the state after the grants gs, and the next grant is the one of that number
+--   Ready             they do, for a grant to head h
+--   Stepped, Grants   what a grant makes of the buffers: after the grants gs, and after any grants whose state they show
 use mathlib.Core.Path.{_≡_}
 use mathlib.Core.Bool.{true, false}
-use mathlib.Core.List.{List, _++_, map}
+use mathlib.Core.List.{List, [], _++_, map, List·Memᴰ}
 use Prim.Native.Nat.{ℕ, suc, _*_, _≤_, _<_}
 use lib.ListN.{length, drop}
 use Rattle.job.specs.declared.Request.{Request}
+use Rattle.job.specs.Job.{Job}
 use Rattle.word.specs.Word.{encode}
 use Rattle.process.specs.declared.Head.{Head}
-use Rattle.linearization.specs.Partition.{apart}
 use Rattle.linearization.specs.Entry.{flat}
+use Rattle.jobfile.specs.Format.{mostHeads}
 use Rattle.jobfile.specs.Meaning.{meaning}
 use Rattle.jobfile.specs.Admitted.{Bytes}
 use Rattle.mask.specs.Mask.{maskOf}
-use Rattle.rules.specs.State.{State, hasWork}
+use Rattle.rules.specs.Table.{fresh}
+use Rattle.rules.specs.State.{State, start, hasWork}
 use Rattle.rules.specs.Step.{step}
-use Rattle.rules.specs.Run.{Happening, happened}
+use Rattle.rules.specs.Run.{Happening, run, happened, history}
 use Rattle.rules.specs.Run.Happening.{idle, serving}
-use Rattle.rules.proofs.Invariant.{Invariant}
 use Rattle.stepper.specs.declared.Done.{Done}
 use Rattle.stepper.specs.Buffers.{flatRows}
 
@@ -57,14 +61,24 @@ abbrev pub doneOf : Happening → Done
 doneOf idle = record { idle = true; failed = false; linked = false }
 doneOf (serving q act) = record { idle = false; failed = act .event .failed; linked = act .event .linked }
 
--- The buffers b show the state S, reached with the history `past`, and the next grant is the one of that number.
-pub record Standing (qs : List Request) (n count : ℕ) (b : Buffers) (number : ℕ) (S : State) (past : List Happening) (lent : List ℕ) : Type 0 where
-  pub invariant : Invariant qs n apart n S past
-  pub heads : length (S .heads) ≡ count
-  pub shows : b ≡ shown qs S lent
-  pub next : number ≡ suc (S .now)
+-- Every job is played with sixteen heads; those that it does not have get no request and no grant.
+abbrev pub startOf : Job → State
+startOf j = start (j .requests) mostHeads (fresh (j .nodes))
+
+abbrev pub stateAfter : Job → List ℕ → State
+stateAfter j gs = run (j .requests) (startOf j) gs
+
+abbrev pub historyAfter : Job → List ℕ → List Happening
+historyAfter j gs = history (j .requests) (startOf j) [] gs
+
+-- The buffers b show the state of the job j after the grants gs, and the next grant is the one of that number.
+pub record Standing (j : Job) (b : Buffers) (number : ℕ) (gs lent : List ℕ) : Type 0 where
+  pub shows : b ≡ shown (j .requests) (stateAfter j gs) lent
+  pub next : number ≡ suc (length gs)
+  -- every grant so far was for a head
+  pub granted : (h : ℕ) → List·Memᴰ h gs → h < mostHeads
   -- there is room for an entry a request
-  pub room : 2 * length qs ≤ length lent
+  pub room : 2 * length (j .requests) ≤ length lent
 
 -- "Played record by record and stored nowhere else": the requests are read from the file itself.
 abbrev pub requestsIn : List ℕ → List Request
@@ -77,19 +91,16 @@ pub record Playing (file : List ℕ) (requests : ℕ) : Type 0 where
 
 pub record Ready (file : List ℕ) (requests h number : ℕ) (b : Buffers) : Type 0 where
   pub playing : Playing file requests
-  pub nodes : length (b .table) ≡ meaning file .job .nodes
-  pub head : h < 16
-  pub state : State
-  pub past : List Happening
+  pub head : h < mostHeads
+  pub grants : List ℕ
   pub lent : List ℕ
-  pub standing : Standing (requestsIn file) (length (b .table)) 16 b number state past lent
+  pub standing : Standing (meaning file .job) b number grants lent
 
--- From the state S a grant to head h leaves buffers that show the rules' step, and it was what the rules say.
-pub record Stepped (file : List ℕ) (h : ℕ) (b′ : Buffers) (was : Done) (S : State) (lent : List ℕ) : Type 0 where
-  pub buffers : b′ ≡ shown (requestsIn file) (step (requestsIn file) S h) lent
-  pub done : was ≡ doneOf (happened (requestsIn file) S h)
+-- After the grants gs, one for head h leaves buffers that show the rules' step, and it was what the rules say.
+pub record Stepped (file : List ℕ) (h : ℕ) (b′ : Buffers) (was : Done) (gs lent : List ℕ) : Type 0 where
+  pub buffers : b′ ≡ shown (requestsIn file) (step (requestsIn file) (stateAfter (meaning file .job) gs) h) lent
+  pub done : was ≡ doneOf (happened (requestsIn file) (stateAfter (meaning file .job) gs) h)
 
--- So it is from every state that the buffers b show at the grant of that number.
+-- So it is after any grants whose state the buffers b show at the grant of that number.
 abbrev pub Grants : List ℕ → ℕ → ℕ → Buffers → Buffers → Done → Type 0
-Grants file h number b b′ was =
-    (S : State) (past : List Happening) (lent : List ℕ) → Standing (requestsIn file) (length (b .table)) 16 b number S past lent → Stepped file h b′ was S lent
+Grants file h number b b′ was = (gs lent : List ℕ) → Standing (meaning file .job) b number gs lent → Stepped file h b′ was gs lent

@@ -56,7 +56,9 @@ fn serve(
 ) -> Granted
     requires { ⌜ Ready (now file) requests h number (buffers heads (now table) (now report) (now linearization) entries mask) ⌝ }
     requires { ⌜ eqb (mask / 2 ^ h % 2) 1 ≡ true ⌝ }
-    ensures { λ r. ⌜ Grants (now (file .entry)) h number (buffers heads (now (table .entry)) (now (report .entry)) (now (linearization .entry)) entries mask) (buffers (r .heads) (now (table .exit)) (now (report .exit)) (now (linearization .exit)) (r .entries) (r .mask)) (r .done) ⌝ }
+    ensures { λ r. ⌜ Grants (now (file .entry)) h number
+        (buffers heads (now (table .entry)) (now (report .entry)) (now (linearization .entry)) entries mask)
+        (buffers (r .heads) (now (table .exit)) (now (report .exit)) (now (linearization .exit)) (r .entries) (r .mask)) (r .done) ⌝ }
 {
     let at = h as usize;
     let head = ready_head(file, requests, heads[at]);
@@ -95,7 +97,9 @@ pub fn grant(
     mask: u32,
 ) -> Granted
     requires { ⌜ Ready (now file) requests h number (buffers heads (now table) (now report) (now linearization) entries mask) ⌝ }
-    ensures { λ r. ⌜ Grants (now (file .entry)) h number (buffers heads (now (table .entry)) (now (report .entry)) (now (linearization .entry)) entries mask) (buffers (r .heads) (now (table .exit)) (now (report .exit)) (now (linearization .exit)) (r .entries) (r .mask)) (r .done) ⌝ }
+    ensures { λ r. ⌜ Grants (now (file .entry)) h number
+        (buffers heads (now (table .entry)) (now (report .entry)) (now (linearization .entry)) entries mask)
+        (buffers (r .heads) (now (table .exit)) (now (report .exit)) (now (linearization .exit)) (r .entries) (r .mask)) (r .done) ⌝ }
 {
     if mask::is_set(mask, h) {
         return serve(

@@ -1,24 +1,23 @@
 -- One turn: the cursor is before the schedule's next grant, and the grant makes the rules' step.
-use mathlib.Core.Path.{_≡_, ap, _∙_}
+use mathlib.Core.Path.{_≡_, sym, ap, _∙_}
 use mathlib.Core.List.{List, _∷_}
 use Prim.Native.Nat.{ℕ, suc, _+_, _-_, _<_}
 use native.Mathlib.Omega.{arith}
-use lib.ListN.{getD, drop}
+use lib.ListN.{getD, take, drop}
 use lib.Seq.{drop-cons}
 use Rattle.jobfile.specs.Meaning.{meaning}
-use Rattle.rules.specs.State.{State}
 use Rattle.rules.specs.Step.{step}
 use Rattle.rules.specs.Run.{happened}
 use Rattle.stepper.specs.Shown.{Buffers, shown, doneOf, requestsIn, Ready}
-use Rattle.stepper.proofs.Needs.{playing-admitted}
+use Rattle.stepper.proofs.Reached.{after-next, playing-admitted}
 use Rattle.turns.specs.declared.Cursor.{Cursor}
 use Rattle.turns.specs.declared.Progress.{Progress}
-use Rattle.turns.specs.Turns.{runsIn, openedOf, remaining, Openable, buffersOf, Turnable, Turned}
+use Rattle.turns.specs.Turns.{runsIn, scheduleIn, stateAt, openedOf, remaining, Openable, buffersOf, Turnable, Turned}
 use Rattle.turns.proofs.Runs.{runs-some, grants-few, at-openable, opened-some, opened-head, opened-rest}
 
 module _ {file : List ℕ} {requests : ℕ} {p : Progress} {table report linearization : List ℕ} (t : Turnable file requests p table report linearization) where
   abbrev schedule : List ℕ
-  schedule = meaning file .job .schedule
+  schedule = scheduleIn file
 
   abbrev head : ℕ
   head = getD schedule (p .number) 0
@@ -43,25 +42,24 @@ module _ {file : List ℕ} {requests : ℕ} {p : Progress} {table report lineari
     turn-ready =
         record {
           playing = t .playing;
-          nodes = t .nodes;
           head = omega (arith, turn-head, playing-admitted (t .playing) .each-grant (p .number) 0 (t .more), playing-admitted (t .playing) .few-heads);
-          state = t .state;
-          past = t .past;
+          grants = take (p .number) schedule;
           lent = t .lent;
           standing = t .standing;
         }
 
-    pub turn-turned : (p′ : Progress) (b′ : Buffers) (S : State) (lent : List ℕ) → p′ .number ≡ p .number + 1
+    pub turn-turned : (p′ : Progress) (b′ : Buffers) (lent : List ℕ) → p′ .number ≡ p .number + 1
         → p′ .cursor ≡ record { next = c .next; head = c .head; left = c .left - 1 }
-        → b′ ≡ shown (requestsIn file) (step (requestsIn file) S (c .head)) lent
-        → p′ .done ≡ doneOf (happened (requestsIn file) S (c .head)) → Turned file p p′ b′ S lent
-    turn-turned p′ b′ S lent number cursor buffers done =
+        → b′ ≡ shown (requestsIn file) (step (requestsIn file) (stateAt file (p .number)) (c .head)) lent
+        → p′ .done ≡ doneOf (happened (requestsIn file) (stateAt file (p .number)) (c .head)) → Turned file p p′ b′ lent
+    turn-turned p′ b′ lent number cursor buffers done =
         let one : suc (p .number) ≡ p .number + 1 = omega arith in
         record {
           number = number;
           left = ap (remaining (runsIn file)) (cursor ∙ ap (λ k. record { next = k .next; head = k .head; left = k .left - 1 }) is)
               ∙ opened-rest (runsIn file) (runs-some (t .playing)) (p .cursor) head (drop (suc (p .number)) schedule) before-grant
               ∙ ap (λ k. drop k schedule) one;
-          buffers = buffers ∙ ap (λ k. shown (requestsIn file) (step (requestsIn file) S k) lent) turn-head;
-          done = done ∙ ap (λ k. doneOf (happened (requestsIn file) S k)) turn-head;
+          buffers = buffers ∙ ap (λ k. shown (requestsIn file) (step (requestsIn file) (stateAt file (p .number)) k) lent) turn-head
+              ∙ ap (λ T. shown (requestsIn file) T lent) (sym (after-next (meaning file .job) schedule (p .number) (t .more)));
+          done = done ∙ ap (λ k. doneOf (happened (requestsIn file) (stateAt file (p .number)) k)) turn-head;
         }

@@ -15,7 +15,7 @@ use Rattle.jobfile.specs.Meaning.{meaning, granted}
 use Rattle.jobfile.proofs.Runs.{Follows, longest-follow}
 use Rattle.jobfile.proofs.Places.{granted-next, granted-end, file-length, file-short, few-grants}
 use Rattle.stepper.specs.Shown.{Playing}
-use Rattle.stepper.proofs.Needs.{playing-admitted}
+use Rattle.stepper.proofs.Reached.{playing-admitted}
 use Rattle.turns.specs.declared.Cursor.{Cursor}
 use Rattle.turns.specs.Turns.{runsIn, noRun, openedOf, remaining, Openable}
 

@@ -3,12 +3,15 @@
 --   Roomy t               a tally that can be added to
 --   countedOf t d mask    the tally t after a grant that was d; the fourth number is the mask's count of ones
 --   runsIn file           the runs of a file
+--   scheduleIn file       the grants of a file
+--   stateAt file k        the rules' state of a file's job after its first k grants
 --   openedOf rs c         the cursor c at a grant
 --   takenOf c             the cursor c after a grant
 --   remaining rs c        the grants from the cursor c on
 --   buffersOf p t r l     the buffers t, r, l with what the play carries
+--   StandingAt            the buffers show the state after the grants so far
 --   Turnable, Turned      what a turn asks and what it leaves
---   Turns                 what it leaves, from every state that the buffers show
+--   Turns                 what it leaves of buffers that show the grants so far
 --   firstProgress hs m    what a play carries before its first grant
 --   firstTally m          the tally before the first grant
 --   runOf j               the rules' run of the job j
@@ -19,7 +22,7 @@ use mathlib.Core.List.{List, [], _++_, map}
 use Prim.Native.Nat.{ℕ, _+_, _-_, _*_, _<_}
 use lib.Count.{ones}
 use lib.Dec.{eqb}
-use lib.ListN.{length, getD, drop, replicate}
+use lib.ListN.{length, getD, take, drop, replicate}
 use Rattle.job.specs.declared.Tally.{Tally}
 use Rattle.job.specs.Job.{Job}
 use Rattle.word.specs.Word.{encode}
@@ -28,13 +31,12 @@ use Rattle.linearization.specs.Entry.{flat}
 use Rattle.jobfile.specs.declared.Run.{Run}
 use Rattle.jobfile.specs.Meaning.{meaning, granted}
 use Rattle.jobfile.specs.Written.{longestRuns}
-use Rattle.rules.specs.Table.{fresh}
-use Rattle.rules.specs.State.{State, start, tallyOf}
-use Rattle.rules.specs.Step.{plus, step}
-use Rattle.rules.specs.Run.{Happening, run, happened}
+use Rattle.rules.specs.State.{State, tallyOf}
+use Rattle.rules.specs.Step.{plus}
+use Rattle.rules.specs.Run.{happened}
 use Rattle.stepper.specs.declared.Done.{Done}
 use Rattle.stepper.specs.Buffers.{flatRows}
-use Rattle.stepper.specs.Shown.{Buffers, shown, doneOf, requestsIn, Playing, Standing}
+use Rattle.stepper.specs.Shown.{Buffers, buffers, shown, doneOf, stateAfter, requestsIn, Playing, Standing}
 use Rattle.turns.specs.declared.Cursor.{Cursor}
 use Rattle.turns.specs.declared.Progress.{Progress}
 use Rattle.turns.specs.declared.Ended.{Ended}
@@ -58,6 +60,12 @@ countedOf tally done mask =
 abbrev pub runsIn : List ℕ → List Run
 runsIn file = longestRuns (meaning file .job .schedule)
 
+abbrev pub scheduleIn : List ℕ → List ℕ
+scheduleIn file = meaning file .job .schedule
+
+abbrev pub stateAt : List ℕ → ℕ → State
+stateAt file k = stateAfter (meaning file .job) (take k (scheduleIn file))
+
 abbrev pub noRun : Run
 noRun = record { head = 0; count = 0 }
 
@@ -80,29 +88,28 @@ pub record Openable (rs : List Run) (c : Cursor) : Type 0 where
 -- ---- one turn
 
 abbrev pub buffersOf : Progress → List ℕ → List ℕ → List ℕ → Buffers
-buffersOf p table report linearization =
-    record { heads = p .heads; table = table; report = report; linearization = linearization; entries = p .entries; mask = p .mask }
+buffersOf p table report linearization = buffers (p .heads) table report linearization (p .entries) (p .mask)
+
+-- The buffers show the state after the grants so far.
+abbrev pub StandingAt : List ℕ → Progress → Buffers → List ℕ → Type 0
+StandingAt file p b lent = Standing (meaning file .job) b (p .number + 1) (take (p .number) (scheduleIn file)) lent
 
 pub record Turnable (file : List ℕ) (requests : ℕ) (p : Progress) (table report linearization : List ℕ) : Type 0 where
   pub playing : Playing file requests
-  pub nodes : length table ≡ meaning file .job .nodes
-  pub more : p .number < length (meaning file .job .schedule)
-  pub left : remaining (runsIn file) (p .cursor) ≡ drop (p .number) (meaning file .job .schedule)
-  pub state : State
-  pub past : List Happening
+  pub more : p .number < length (scheduleIn file)
+  pub left : remaining (runsIn file) (p .cursor) ≡ drop (p .number) (scheduleIn file)
   pub lent : List ℕ
-  pub standing : Standing (requestsIn file) (length table) 16 (buffersOf p table report linearization) (p .number + 1) state past lent
+  pub standing : StandingAt file p (buffersOf p table report linearization) lent
 
--- From the state S the turn makes the rules' step for the schedule's next head.
-pub record Turned (file : List ℕ) (p p′ : Progress) (b′ : Buffers) (S : State) (lent : List ℕ) : Type 0 where
+-- The turn makes the rules' step for the schedule's next head: the buffers then show the state after one grant more.
+pub record Turned (file : List ℕ) (p p′ : Progress) (b′ : Buffers) (lent : List ℕ) : Type 0 where
   pub number : p′ .number ≡ p .number + 1
-  pub left : remaining (runsIn file) (p′ .cursor) ≡ drop (p .number + 1) (meaning file .job .schedule)
-  pub buffers : b′ ≡ shown (requestsIn file) (step (requestsIn file) S (getD (meaning file .job .schedule) (p .number) 0)) lent
-  pub done : p′ .done ≡ doneOf (happened (requestsIn file) S (getD (meaning file .job .schedule) (p .number) 0))
+  pub left : remaining (runsIn file) (p′ .cursor) ≡ drop (p .number + 1) (scheduleIn file)
+  pub buffers : b′ ≡ shown (requestsIn file) (stateAt file (p .number + 1)) lent
+  pub done : p′ .done ≡ doneOf (happened (requestsIn file) (stateAt file (p .number)) (getD (scheduleIn file) (p .number) 0))
 
 abbrev pub Turns : List ℕ → Progress → Progress → Buffers → Buffers → Type 0
-Turns file p p′ b b′ =
-    (S : State) (past : List Happening) (lent : List ℕ) → Standing (requestsIn file) (length (b .table)) 16 b (p .number + 1) S past lent → Turned file p p′ b′ S lent
+Turns file p p′ b b′ = (lent : List ℕ) → StandingAt file p b lent → Turned file p p′ b′ lent
 
 -- ---- the whole schedule
 
@@ -122,12 +129,8 @@ firstProgress heads mask =
 abbrev pub firstTally : ℕ → Tally
 firstTally mask = record { idle = 0; failed = 0; links = 0; working = ones mask }
 
--- Every job is played with sixteen heads; those that it does not have get no request and no grant.
-abbrev pub startOf : Job → State
-startOf j = start (j .requests) 16 (fresh (j .nodes))
-
 abbrev pub runOf : Job → State
-runOf j = run (j .requests) (startOf j) (j .schedule)
+runOf j = stateAfter j (j .schedule)
 
 pub record End : Type 0 where
   pub table : List ℕ
@@ -150,7 +153,5 @@ endOf j lent = endAt j (runOf j) lent
 
 pub record Startable (file : List ℕ) (requests count : ℕ) (heads : List Head) (mask : ℕ) (table report linearization : List ℕ) : Type 0 where
   pub playing : Playing file requests
-  pub nodes : length table ≡ meaning file .job .nodes
-  pub grants : count ≡ length (meaning file .job .schedule)
-  pub standing : Standing (requestsIn file) (length table) 16
-      (record { heads = heads; table = table; report = report; linearization = linearization; entries = 0; mask = mask }) 1 (startOf (meaning file .job)) [] linearization
+  pub grants : count ≡ length (scheduleIn file)
+  pub standing : Standing (meaning file .job) (buffers heads table report linearization 0 mask) 1 [] linearization

@@ -96,7 +96,9 @@ pub fn turn(
     linearization: &mut [u32],
 ) -> Progress
     requires { ⌜ Turnable (now file) requests progress (now table) (now report) (now linearization) ⌝ }
-    ensures { λ r. ⌜ Turns (now (file .entry)) progress r (buffersOf progress (now (table .entry)) (now (report .entry)) (now (linearization .entry))) (buffersOf r (now (table .exit)) (now (report .exit)) (now (linearization .exit))) ⌝ }
+    ensures { λ r. ⌜ Turns (now (file .entry)) progress r
+        (buffersOf progress (now (table .entry)) (now (report .entry)) (now (linearization .entry)))
+        (buffersOf r (now (table .exit)) (now (report .exit)) (now (linearization .exit))) ⌝ }
 {
     let cursor = open_run(file, requests, progress.cursor);
     let number = progress.number + 1;
@@ -171,7 +173,8 @@ pub fn play_grants(
     linearization: &mut [u32],
 ) -> Ended
     requires { ⌜ Startable (now file) requests grants heads mask (now table) (now report) (now linearization) ⌝ }
-    ensures { λ r. ⌜ record { table = now (table .exit); report = now (report .exit); linearization = now (linearization .exit); ended = r } ≡ endOf (meaning (now (file .entry)) .job) (now (linearization .entry)) ⌝ }
+    ensures { λ r. ⌜ record { table = now (table .exit); report = now (report .exit); linearization = now (linearization .exit); ended = r }
+        ≡ endOf (meaning (now (file .entry)) .job) (now (linearization .entry)) ⌝ }
 {
     let mut progress = first_progress(heads, mask);
     let mut tally = first_tally(mask);

@@ -44,7 +44,8 @@ returns : tie.Need-returns
 returns c =
     let turned = c .before .before .before .before .before .before in
     let k = c .before .before .before .before .before .before .before .before .before .before .before .before .before .before .before .before in
-    λ S past lent st. turned-on (k .args .table .now) (k .args .report .now) _ _ (k .pre) (turned .turn .kept .1 .1 .1 .0) (turned .turn .kept .1 .1 .1 .1 .0) (turned .turn .ensures S past lent st)
+    λ lent standing. turned-on (k .args .table .now) (k .args .report .now) _ _ (k .pre)
+    (turned .turn .kept .1 .1 .1 .0) (turned .turn .kept .1 .1 .1 .1 .0) (turned .turn .ensures lent standing)
 
 pub turn-on-spec : {M : Type 1} → statement M
 turn-on-spec =

@@ -22,12 +22,14 @@ same-length-3 : tie.Need-same-length-3
 same-length-3 c = search needs
 
 returns : tie.Need-returns
-returns c = λ S past lent st. c .before .before .before .before .before .before .serve .ensures S past lent st
+returns c = let served = c .before .before .before .before .before .before in λ gs lent standing. served .serve .ensures gs lent standing
 
 returns-2 : tie.Need-returns-2
 returns-2 c =
-    λ S past lent st. let p = c .before .before .before .before .before .before .pre in let t = sym (c .before .is-set .ensures) ∙ c .if1 .left in
-    record { buffers = idle-shown (p .playing) (p .nodes) (p .head) st t; done = idle-done (p .playing) (p .nodes) (p .head) st t }
+    let p = c .before .before .before .before .before .before .pre in
+    let t = sym (c .before .is-set .ensures) ∙ c .if1 .left in
+    λ gs lent standing.
+    record { buffers = idle-shown (p .playing) (p .head) standing t; done = idle-done (p .playing) (p .head) standing t }
 
 pub grant-spec : {M : Type 1} → statement M
 grant-spec =

@@ -92,7 +92,7 @@ same-length-3 c = search needs
 
 returns : tie.Need-returns
 returns c =
-    λ state past lent standing.
+    λ gs lent standing.
     let entered = c .before .before .before .before in
     let charged = entered .before .before .before .before .before in
     let moved = charged .before .before .before in
@@ -101,12 +101,14 @@ returns c =
     let found = chosen .before .before in
     let start = found .before .before .before .before .before .before in
     let ready = start .pre .0 in
-    let shown = serve-shown (ready .playing) (ready .nodes) (ready .head) standing (start .pre .1) (found .ready-head .result) (found .ready-head .ensures) (chosen .next-access .result) (chosen .next-access .ensures)
+    let shown = serve-shown (ready .playing) (ready .head) standing (start .pre .1) (found .ready-head .result) (found .ready-head .ensures)
+    (chosen .next-access .result) (chosen .next-access .ensures)
     (touched .touch .result) (touched .touch .ensures .0) (moved .advance .result) (moved .advance .ensures)
     _ _ _ (entered .enter .result) (c .work-left .result) (c .before .settled-head .result)
     (touched .touch .ensures .1) (charged .charge-row .ensures) (entered .enter .ensures .1) (entered .enter .ensures .0)
     (c .before .settled-head .ensures) (c .work-left .ensures) in
-    let done = serve-done (ready .playing) (ready .nodes) (ready .head) standing (start .pre .1) (found .ready-head .result) (found .ready-head .ensures) (chosen .next-access .result) (chosen .next-access .ensures)
+    let done = serve-done (ready .playing) (ready .head) standing (start .pre .1) (found .ready-head .result) (found .ready-head .ensures)
+    (chosen .next-access .result) (chosen .next-access .ensures)
     (touched .touch .result) (touched .touch .ensures .0) (moved .advance .result) (moved .advance .ensures)
     _ refl in
     record { buffers = shown; done = done }

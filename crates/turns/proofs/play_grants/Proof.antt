@@ -5,7 +5,8 @@ use native.Mathlib.Omega.{arith}
 use borrow.Author.Needs.{needs}
 use Rattle.turns.proofs.Runs.{grants-few}
 use Rattle.turns.proofs.Counters.{small-roomy}
-use Rattle.turns.proofs.Going.{Going, standing-report, standing-linearization, going-start, going-turnable, going-next, going-end}
+use Rattle.turns.proofs.Going.{Going, standing-table, standing-report, standing-linearization}
+use Rattle.turns.proofs.Going.{going-start, going-turnable, going-next, going-end}
 use Rattle.turns.proofs.play_grants.Statement.{statement}
 use Rattle.turns.proofs.play_grants.Tie as tie
 
@@ -42,7 +43,7 @@ loop-less c =
     let tested = turned .before .before .before .before in
     let looped = tested .before .before in
     let g = looped .loop .inv in
-    omega (arith, tested .if1 .taken, turned .turn .ensures (g .state) (g .past) _ (g .standing) .number)
+    omega (arith, tested .if1 .taken, turned .turn .ensures _ (g .standing) .number)
 
 loop-again : tie.Need-loop-again Inv-loop μ-loop
 loop-again c =
@@ -51,19 +52,23 @@ loop-again c =
     let looped = tested .before .before in
     let start = looped .before .before .before .before .before .before .before in
     let g = looped .loop .inv in
-    going-next g (omega (arith, tested .if1 .taken, start .pre .grants)) (turned .turn .result) (c .counted .result) _ _ _ (turned .turn .ensures (g .state) (g .past) _ (g .standing)) (c .counted .ensures)
+    going-next g (omega (arith, tested .if1 .taken, start .pre .grants)) (turned .turn .result) (c .counted .result) _ _ _
+    (turned .turn .ensures _ (g .standing)) (c .counted .ensures)
 
 same-length : tie.Need-same-length Inv-loop μ-loop
-same-length c = let g = c .before .before .loop .inv in g .nodes ∙ sym (c .before .before .before .before .before .before .before .before .before .pre .nodes)
+same-length c =
+    let looped = c .before .before in
+    let start = looped .before .before .before .before .before .before .before in
+    let g = looped .loop .inv in standing-table (g .playing) (g .standing) ∙ sym (standing-table (g .playing) (start .pre .standing))
 
 same-length-2 : tie.Need-same-length-2 Inv-loop μ-loop
 same-length-2 c =
     let looped = c .before .before in
     let start = looped .before .before .before .before .before .before .before in
-    let g = looped .loop .inv in standing-report (g .standing) ∙ sym (standing-report (start .pre .standing))
+    let g = looped .loop .inv in standing-report (g .playing) (g .standing) ∙ sym (standing-report (g .playing) (start .pre .standing))
 
 same-length-3 : tie.Need-same-length-3 Inv-loop μ-loop
-same-length-3 c = let g = c .before .before .loop .inv in standing-linearization (g .standing)
+same-length-3 c = let g = c .before .before .loop .inv in standing-linearization (g .playing) (g .standing)
 
 returns : tie.Need-returns Inv-loop μ-loop
 returns c = let g = c .before .before .loop .inv in going-end g (omega (arith, c .if1 .left, c .before .before .before .before .before .before .before .before .before .pre .grants)) _ refl

@@ -38,8 +38,8 @@ returns c =
     let granted = c .before .before .before .before .before .before .before .before .before in
     let opened = granted .before .before .before .before .before .before in
     let start = opened .before .before .before .before .before in
-    λ S past lent st. let g = granted .grant .ensures S past lent st in
-    turn-turned (start .pre) (opened .open-run .result) (opened .open-run .ensures) _ _ S lent refl (c .taken .ensures) (g .buffers) (g .done)
+    λ lent standing. let g = granted .grant .ensures _ lent standing in
+    turn-turned (start .pre) (opened .open-run .result) (opened .open-run .ensures) _ _ lent refl (c .taken .ensures) (g .buffers) (g .done)
 
 pub turn-spec : {M : Type 1} → statement M
 turn-spec =

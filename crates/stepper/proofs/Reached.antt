@@ -1,0 +1,110 @@
+-- Behind a standing: the state that the buffers show is one of a run of an accepted job, so that the rules' invariant holds.
+--
+--   Reached   the buffers show the state S, which a run over n nodes has reached with the history `past`
+--
+-- Main laws: cut-granted, the grants of a cut are for heads; after-next, one grant more of a schedule is the rules' step;
+-- after-invariant, the invariant after any grants for heads; playing-admitted and playing-inside, what an accepted file says;
+-- reached, the buffers that stand show a state with the invariant.
+use mathlib.Core.Path.{_≡_, ap, _∙_, subst}
+use mathlib.Core.List.{List, [], _∷_, List·Memᴰ, List·Memᴰ·head, List·Memᴰ·tail, Memᴰ·append-left}
+use Prim.Native.Nat.{ℕ, suc, _+_, _*_, _≤_, _<_}
+use native.Mathlib.Omega.{arith}
+use lib.ListN.{length, getD, take, drop, take-append-drop}
+use lib.Seq.{take-suc}
+use Rattle.job.specs.declared.Request.{Request}
+use Rattle.job.specs.Job.{Job}
+use Rattle.linearization.specs.Partition.{apart}
+use Rattle.forest.proofs.Roots.{start-roots}
+use Rattle.jobfile.specs.Format.{mostHeads}
+use Rattle.jobfile.specs.Meaning.{meaning}
+use Rattle.jobfile.specs.Admitted.{Admitted}
+use Rattle.jobfile.proofs.RoundTrip.{admitted-meaning}
+use Rattle.rules.specs.State.{State, noRequest, requestAt}
+use Rattle.rules.specs.Step.{step}
+use Rattle.rules.specs.Run.{Happening, happened, history}
+use Rattle.rules.specs.Linearized.{Playable}
+use Rattle.rules.proofs.Table.{fresh-start}
+use Rattle.rules.proofs.Stages.{Inside}
+use Rattle.rules.proofs.Invariant.{Invariant}
+use Rattle.rules.proofs.Theorem.{length-heads, run-prefix, started-invariant, fresh-startable}
+use Rattle.rules.proofs.Laws.{run-heads}
+use Rattle.stepper.specs.Shown.{Buffers, shown, startOf, stateAfter, historyAfter, requestsIn, Playing, Standing}
+
+pub record Reached (qs : List Request) (n : ℕ) (b : Buffers) (number : ℕ) (S : State) (past : List Happening) (lent : List ℕ) : Type 0 where
+  pub invariant : Invariant qs n apart n S past
+  pub heads : length (S .heads) ≡ mostHeads
+  pub shows : b ≡ shown qs S lent
+  pub next : number ≡ suc (S .now)
+  pub room : 2 * length qs ≤ length lent
+
+-- ---- the grants of a schedule, one by one
+
+below-member : (k h : ℕ) (gs : List ℕ) → ((g none : ℕ) → g < length gs → getD gs g none < k) → List·Memᴰ h gs → h < k
+below-member k h (g ∷ gs) below (List·Memᴰ·head same) = omega (arith, same, below 0 0 (omega arith))
+below-member k h (g ∷ gs) below (List·Memᴰ·tail m) = below-member k h gs (λ i none l. below (suc i) none (omega arith)) m
+
+pub admitted-granted : (j : Job) → Admitted j → (h : ℕ) → List·Memᴰ h (j .schedule) → h < mostHeads
+admitted-granted j a h m = omega (arith, below-member (j .heads) h (j .schedule) (a .each-grant) m, a .few-heads)
+
+pub cut-granted : (j : Job) → Admitted j → (k h : ℕ) → List·Memᴰ h (take k (j .schedule)) → h < mostHeads
+cut-granted j a k h m =
+    admitted-granted j a h (subst (List·Memᴰ h) (take-append-drop k (j .schedule)) (Memᴰ·append-left (drop k (j .schedule)) m))
+
+pub after-next : (j : Job) (gs : List ℕ) (k : ℕ) → k < length gs
+    → stateAfter j (take (k + 1) gs) ≡ step (j .requests) (stateAfter j (take k gs)) (getD gs k 0)
+after-next j gs k l =
+    let one : k + 1 ≡ suc k = omega arith in
+    ap (λ i. stateAfter j (take i gs)) one ∙ ap (stateAfter j) (take-suc gs k 0 l)
+    ∙ run-prefix (j .requests) (startOf j) (take k gs) (getD gs k 0 ∷ [])
+
+-- ---- a run counts its grants
+
+length-history : (qs : List Request) (S : State) (past : List Happening) (gs : List ℕ)
+    → length (history qs S past gs) ≡ length gs + length past
+length-history qs S past [] = omega arith
+length-history qs S past (h ∷ gs) = omega (arith, length-history qs (step qs S h) (happened qs S h ∷ past) gs)
+
+-- ---- after any grants for heads
+
+pub after-playable : (j : Job) → Admitted j → (gs : List ℕ) → ((h : ℕ) → List·Memᴰ h gs → h < mostHeads)
+    → Playable (j .nodes) mostHeads (j .requests) gs
+after-playable j a gs granted =
+    record {
+      few = omega (arith, a .few-nodes);
+      left = λ q l. a .each-request q noRequest l .x;
+      right = λ q l. a .each-request q noRequest l .y;
+      granted = granted;
+    }
+
+module _ (j : Job) (admitted : Admitted j) (gs : List ℕ) (granted : (h : ℕ) → List·Memᴰ h gs → h < mostHeads) where
+  pub after-invariant : Invariant (j .requests) (j .nodes) apart (j .nodes) (stateAfter j gs) (historyAfter j gs)
+  after-invariant =
+      let playable = after-playable j admitted gs granted in
+      subst (λ k. Invariant (j .requests) (j .nodes) apart k (stateAfter j gs) (historyAfter j gs))
+      (start-roots (fresh-start (j .nodes) (playable .few))) (started-invariant playable (fresh-startable (j .nodes) (playable .few)))
+
+  pub after-now : stateAfter j gs .now ≡ length gs
+  after-now = omega (arith, after-invariant .clock, length-history (j .requests) (startOf j) [] gs)
+
+-- ---- what an accepted file says
+
+module _ {file : List ℕ} {requests : ℕ} (playing : Playing file requests) where
+  pub playing-admitted : Admitted (meaning file .job)
+  playing-admitted = admitted-meaning file (playing .bytes) (playing .accepted)
+
+  pub playing-inside : (q : ℕ) → q < length (requestsIn file) → Inside (meaning file .job .nodes) (requestAt (requestsIn file) q)
+  playing-inside q l =
+      let s = playing-admitted .each-request q noRequest l in
+      record { x = s .x; y = s .y }
+
+  pub reached : {b : Buffers} {number : ℕ} {gs lent : List ℕ} → Standing (meaning file .job) b number gs lent
+      → Reached (requestsIn file) (meaning file .job .nodes) b number
+      (stateAfter (meaning file .job) gs) (historyAfter (meaning file .job) gs) lent
+  reached {gs = gs} standing =
+      record {
+        invariant = after-invariant (meaning file .job) playing-admitted gs (standing .granted);
+        heads = run-heads (requestsIn file) (startOf (meaning file .job)) gs ∙ length-heads (requestsIn file) 0 mostHeads;
+        shows = standing .shows;
+        next = omega (arith, standing .next, after-now (meaning file .job) playing-admitted gs (standing .granted));
+        room = standing .room;
+      }
