@@ -151,7 +151,8 @@ module _ (E : Entry) (counts : Checked) where
             rows = omega (arith, report-long, a .lending .rows);
             table-rest = turned-here .table-rest ∙ a .lending .table-rest;
             report-rest = turned-here .report-rest ∙ a .lending .report-rest;
-            going = going-next (a .lending .going) more-left p′ tally′ (take n table′) (take m report′) linearization′ (turned-here .turned) added;
+            going = going-next (a .lending .going) more-left p′ tally′ (take n table′) (take m report′) linearization′
+                (turned-here .turned) added;
           }
 
       abbrev pub along-next : Along
@@ -190,7 +191,8 @@ module _ (E : Entry) (counts : Checked) where
         let going = going-end (a .lending .going) all (record { entries = a .progress .entries; tally = a .tally }) refl in
         let whole = whole-left (a .lending .checks) linearization₀ (take n (a .table)) (take m (a .report)) (a .linearization) _ going in
         (λ i. left (table-cut i) (report-cut i) (a .linearization) answer)
-        ∙ cut-left (meaning file .job) n m table₀ report₀ linearization₀ _ (ap (λ k. k .nodes) counts-are) (ap (λ k. 4 * k .requests) counts-are) whole
+        ∙ cut-left (meaning file .job) n m table₀ report₀ linearization₀ _
+        (ap (λ k. k .nodes) counts-are) (ap (λ k. 4 * k .requests) counts-are) whole
 
     accepted-end : Ended E (a .tally) (a .table) (a .report) (a .linearization) answer
     unfolding playedOf tallyLeft
@@ -290,20 +292,20 @@ module _ (E : Entry) (table report linearization : List ℕ) (plan : Plan) (byte
     }
 
     module _ (tally : Tally) (is-tally : tally ≡ firstTally (plan .progress .mask)) where
-      abbrev zeros : List ℕ
-      zeros = replicate (4 * plan .counts .requests) 0
+      abbrev size : ℕ
+      size = plan .counts .nodes
 
-      abbrev nodes : List ℕ
-      nodes = map encode (fresh (plan .counts .nodes))
+      abbrev rows : ℕ
+      rows = 4 * plan .counts .requests
 
       going : Going file (plan .counts .requests) linearization₀ (plan .progress) tally
-          (take (plan .counts .nodes) table) (take (4 * plan .counts .requests) report) linearization₀
+          (take size table) (take rows report) linearization₀
       going = going-start
           (whole-startable linearization₀ whole bytes (plan .progress .heads) (plan .progress .mask)
-          (take (plan .counts .nodes) table) (take (4 * plan .counts .requests) report) heads-are mask-is
-          (ap (take (plan .counts .nodes)) table-is ∙ take-at nodes (drop (plan .counts .nodes) table₀) (plan .counts .nodes) fresh-long)
-          (ap (take (4 * plan .counts .requests)) report-is
-          ∙ take-at zeros (drop (4 * plan .counts .requests) report₀) (4 * plan .counts .requests) (length-replicate (4 * plan .counts .requests) 0)))
+          (take size table) (take rows report) heads-are mask-is
+          (ap (take size) table-is ∙ take-at (map encode (fresh size)) (drop size table₀) size fresh-long)
+          (ap (take rows) report-is
+          ∙ take-at (replicate rows 0) (drop rows report₀) rows (length-replicate rows 0)))
           (plan .progress) tally progress-is is-tally
 
       lending-start : Lending E (plan .counts) (plan .progress) tally table report linearization
@@ -314,12 +316,12 @@ module _ (E : Entry) (table report linearization : List ℕ) (plan : Plan) (byte
             checks = roomy .checks;
             nodes = omega (arith, nodes-are, table-long, roomy .nodes);
             rows = omega (arith, rows-are, report-long, roomy .rows);
-            table-rest = ap (drop (plan .counts .nodes)) table-is
-                ∙ drop-at nodes (drop (plan .counts .nodes) table₀) (plan .counts .nodes) fresh-long;
-            report-rest = ap (drop (4 * plan .counts .requests)) report-is
-                ∙ drop-at zeros (drop (4 * plan .counts .requests) report₀) (4 * plan .counts .requests) (length-replicate (4 * plan .counts .requests) 0);
+            table-rest = ap (drop size) table-is
+                ∙ drop-at (map encode (fresh size)) (drop size table₀) size fresh-long;
+            report-rest = ap (drop rows) report-is
+                ∙ drop-at (replicate rows 0) (drop rows report₀) rows (length-replicate rows 0);
             going = subst (λ l. Going file (plan .counts .requests) linearization₀ (plan .progress) tally
-                (take (plan .counts .nodes) table) (take (4 * plan .counts .requests) report) l)
+                (take size table) (take rows report) l)
                 (sym (ap (λ x. x .linearization) was-accepted)) going;
           }
 

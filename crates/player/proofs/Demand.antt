@@ -12,14 +12,15 @@ use Rattle.word.specs.Word.{decode, encode}
 use Rattle.linearization.specs.Partition.{apart}
 use Rattle.linearization.specs.Entry.{Entry, flat, entriesOf}
 use Rattle.linearization.proofs.Numbers.{length-flat, entriesOf-flat}
+use Rattle.jobfile.specs.Format.{mostHeads}
 use Rattle.jobfile.specs.Meaning.{meaning}
 use Rattle.jobfile.specs.Admitted.{Admitted}
 use Rattle.rules.specs.declared.Row.{Row}
 use Rattle.rules.specs.State.{noRequest, tallyOf}
-use Rattle.rules.specs.Linearized.{Linearized}
+use Rattle.rules.specs.Linearized.{Playable, Linearized}
 use Rattle.rules.specs.Laws.{Lawful}
 use Rattle.rules.proofs.Invariant.{Invariant}
-use Rattle.rules.proofs.Theorem.{invariant-linearized}
+use Rattle.rules.proofs.Theorem.{fresh-linearized}
 use Rattle.rules.proofs.Laws.{run-lawful}
 use Rattle.stepper.specs.Buffers.{flatRows}
 use Rattle.table.proofs.Words.{decode-words}
@@ -39,6 +40,9 @@ rows-back (row ∷ rows) = ap {B = List Row} (λ r. row ∷ r) (rows-back rows)
 -- ---- the theorem, of what a play leaves
 
 module _ (j : Job) (admitted : Admitted j) where
+  playable : Playable (j .nodes) mostHeads (j .requests) (j .schedule)
+  playable = after-playable j admitted (j .schedule) (admitted-granted j admitted)
+
   -- the invariant at the end of the run
   pub run-ended : Invariant (j .requests) (j .nodes) apart (j .nodes) (runOf j) (historyOf j)
   run-ended = after-invariant j admitted (j .schedule) (admitted-granted j admitted)
@@ -50,30 +54,33 @@ module _ (j : Job) (admitted : Admitted j) where
 
   report-back : (lent : List ℕ) → rowsOf (take (4 * length (j .requests)) (flatRows (runOf j .report) ++ lent)) ≡ runOf j .report
   report-back lent =
-      ap rowsOf (take-at (flatRows (runOf j .report)) lent (4 * length (j .requests)) (length-rows (runOf j .report) ∙ ap (λ k. 4 * k) (run-ended .reports)))
+      ap rowsOf (take-at (flatRows (runOf j .report)) lent (4 * length (j .requests))
+      (length-rows (runOf j .report) ∙ ap (λ k. 4 * k) (run-ended .reports)))
       ∙ rows-back (runOf j .report)
 
   entries-back : (lent : List ℕ) → entriesOf (take (2 * length (runOf j .entries)) (flat (runOf j .entries) ++ lent)) ≡ runOf j .entries
-  entries-back lent = ap entriesOf (take-at (flat (runOf j .entries)) lent (2 * length (runOf j .entries)) (length-flat (runOf j .entries))) ∙ entriesOf-flat (runOf j .entries)
+  entries-back lent =
+      ap entriesOf (take-at (flat (runOf j .entries)) lent (2 * length (runOf j .entries)) (length-flat (runOf j .entries)))
+      ∙ entriesOf-flat (runOf j .entries)
 
   abbrev Shape : List Node → List Row → List Entry → Type 0
   Shape t r e = Linearized apart (j .nodes) (j .requests) t r e (historyOf j)
 
   left-linearized : (table report linearization : List ℕ)
-      → Shape (map decode (take (j .nodes) (map encode (runOf j .table) ++ table))) (rowsOf (take (4 * length (j .requests)) (flatRows (runOf j .report) ++ report)))
+      → Shape (map decode (take (j .nodes) (map encode (runOf j .table) ++ table)))
+      (rowsOf (take (4 * length (j .requests)) (flatRows (runOf j .report) ++ report)))
       (entriesOf (take (2 * length (runOf j .entries)) (flat (runOf j .entries) ++ linearization)))
   left-linearized table report linearization =
-      subst₃ Shape (sym (table-back table)) (sym (report-back report)) (sym (entries-back linearization)) (invariant-linearized run-ended)
+      subst₃ Shape (sym (table-back table)) (sym (report-back report)) (sym (entries-back linearization)) (fresh-linearized playable)
 
-  -- the job's own heads serve every request; those beyond them have no work
   abbrev LawfulAt : ℕ → List Node → List Row → Type 0
   LawfulAt grants t r = Lawful (j .nodes) (j .heads) (j .requests) t r (tallyOf (j .requests) (runOf j)) grants (historyOf j)
 
+  -- the job's own heads serve every request; those beyond them have no work
   run-is-lawful : LawfulAt (length (j .schedule)) (runOf j .table) (runOf j .report)
   run-is-lawful =
       subst (λ k. LawfulAt k (runOf j .table) (runOf j .report)) (after-now j admitted (j .schedule) (admitted-granted j admitted))
-      (run-lawful (after-playable j admitted (j .schedule) (admitted-granted j admitted)) (j .heads) (admitted .few-heads)
-      (λ q l. admitted .each-request q noRequest l .head))
+      (run-lawful playable (j .heads) (admitted .few-heads) (λ q l. admitted .each-request q noRequest l .head))
 
   left-lawful : (table report : List ℕ)
       → LawfulAt (length (j .schedule)) (map decode (take (j .nodes) (map encode (runOf j .table) ++ table)))

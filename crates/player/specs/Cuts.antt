@@ -51,7 +51,8 @@ pub record Cuts (file : List ℕ) : Type 0 where
   -- for it is the run's state after k grants.
   pub played : (k : ℕ) (table report linearization : List ℕ) → LongEnough (meaning file .job) table report linearization
       → playedOf (fileCut k file) table report linearization
-      ≡ leftAt (cut k (meaning file .job)) (stateAfter (meaning file .job) (take k (meaning file .job .schedule))) table report linearization
+      ≡ leftAt (cut k (meaning file .job)) (stateAfter (meaning file .job) (take k (meaning file .job .schedule)))
+      table report linearization
   -- Between any two cuts of one file: what holds between any two moments of a run, of the tables that the two plays leave.
   pub follows : (k l : ℕ) → k ≤ l → (table report linearization : List ℕ) → LongEnough (meaning file .job) table report linearization
       → Follows (meaning file .job .nodes) (nodesLeft k file table report linearization) (nodesLeft l file table report linearization)

@@ -7,7 +7,7 @@
 --   requestsIn file   the requests of a file
 --   startOf j         the rules' start of the job j
 --   stateAfter j gs   the rules' state of the job j after the grants gs
---   historyAfter j gs what those grants were, the newest first
+--   historyAfter j gs  what those grants were, the newest first
 --   Playing           an accepted file, with the number of its requests
 --   Standing          the buffers show the state after the grants gs, and the next grant is the one of that number
 --   Ready             they do, for a grant to head h

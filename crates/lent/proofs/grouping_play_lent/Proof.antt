@@ -19,8 +19,10 @@ use base.Logic.{ent, emp, via, fst∗, id⊢}
 use base.Fml.{ftrue, flft, fat}
 use prog.Wp.{WpFn}
 use contract.Running.{givenOf, tables, tablesOf}
-use types.Kit.{‵, raw, given, atRet, Sq, ⋆, _⊛_, some, later, _$_, _∵_, !, qed, cut, move, keep, drop, use1, split, pick, learn, rewrite, fsplit, fsplit3, fjoin3, feqI, await}
-use types.Run.{look, init, store-raw, forget, stop, hop, fld, from, load, lit, addr, bin, of-opd, and-then, no-more, assigns, land, first, skips, branches, returns-within, exec, enter, alloc1, alloc0, params1, pass1, pass0}
+use types.Kit.{‵, raw, given, atRet, Sq, ⋆, _⊛_, some, later, _$_, _∵_, !, qed, cut, move, keep, drop, use1, split, pick, learn, rewrite}
+use types.Kit.{fsplit, fsplit3, fjoin3, feqI, await}
+use types.Run.{look, init, store-raw, forget, stop, hop, fld, from, load, lit, addr, bin, of-opd, and-then, no-more, assigns, land, first}
+use types.Run.{skips, branches, returns-within, exec, enter, alloc1, alloc0, params1, pass1, pass0}
 use types.Part.{agg, whole, sub, look-in}
 use sound.WpLaws.{FmC, fmOf, WpFn-mono}
 use denote.RattleType.{owns}
@@ -45,7 +47,8 @@ use Rattle.turns.specs.declared.Progress.{Progress}
 use Rattle.turns.specs.Turns.{firstTally}
 use Rattle.player.specs.Player.{refusedWith}
 use Rattle.lent.proofs.Along.{Ended, refused-end, along-start}
-use Rattle.lent.proofs.Walks.{Setting, lent, row, value, IsValue, differs, agrees, told, typed, sees, makes, opens-value, tally-struct, checked-struct, progress-struct, plan-struct, played-struct}
+use Rattle.lent.proofs.Walks.{Setting, lent, row, value, IsValue, differs, agrees, told, typed, sees, makes, opens-value}
+use Rattle.lent.proofs.Walks.{tally-struct, checked-struct, progress-struct, plan-struct, played-struct}
 use Rattle.lent.proofs.prepare.Symbol as prepare-def
 use Rattle.lent.proofs.prepare.Symbol.{name as #lent·prepare}
 use Rattle.lent.proofs.prepare.Met as prepare-thm
@@ -98,18 +101,24 @@ module _ (w : Setting) (P : Parameters) where
       -- accepted: the tally is zeroed, and the loop starts
       opening : counts .number ≡ 0
           → Sq W (Buffers w P (z .left) ++ Owner w P (P .tally .entry)
-          ++ Locals w L P (room w L 8) (full w L 7 (value checked-struct counts)) (full w L 6 (value plan-struct (z .result)))) (Runs w P known L mir-of.t-11)
+          ++ Locals w L P (room w L 8) (full w L 7 (value checked-struct counts)) (full w L 6 (value plan-struct (z .result))))
+          (Runs w P known L mir-of.t-11)
       opening accepted =
-          assigns ! (of-opd ! (load ! (from ! (fld ! refl (stop !))) (look-in ! 48 (sub ! 1 refl (whole !))))) (from ! (stop !)) (init ! 44 refl (typed W progress-struct progress is-progress)) $
-          makes ! progress-struct progress _ is-progress $ use1 W (raw (Opened w .pre (to-opened w P progress))) (goes-opened w P progress) $
-          calls-at ! fm (Opened w) (known .opened) (to-opened w P progress) (and-then ! (load ! (from ! (stop !)) (look ! 45 refl)) (no-more !)) (λ v.
-          use1 W (later (some (λ (h : Tally). given (h ≡ firstTally (progress .mask)) (‵ (row tally-struct .own h (v ∷ [])))))) (told-opened w P progress v) $ await ! tt $ pick ! (λ h. learn ! (λ e.
+          assigns ! (of-opd ! (load ! (from ! (fld ! refl (stop !))) (look-in ! 48 (sub ! 1 refl (whole !))))) (from ! (stop !))
+          (init ! 44 refl (typed W progress-struct progress is-progress)) $
+          makes ! progress-struct progress _ is-progress $
+          use1 W (raw (Opened w .pre (to-opened w P progress))) (goes-opened w P progress) $
+          calls-at ! fm (Opened w) (known .opened) (to-opened w P progress)
+          (and-then ! (load ! (from ! (stop !)) (look ! 45 refl)) (no-more !)) (λ v.
+          use1 W (later (some (λ (h : Tally). given (h ≡ firstTally (progress .mask)) (‵ (row tally-struct .own h (v ∷ []))))))
+          (told-opened w P progress v) $ await ! tt $ pick ! (λ h. learn ! (λ e.
           sees ! tally-struct h (v ∷ []) (λ is. land ! (from ! (stop !)) (init ! 29 refl (typed W tally-struct h is)) $
           -- [what the new tally owns; the file and the slices; the tally and its token; the locals]
           move ! (9 ∷ []) $ fsplit3 ! $ drop ! $ move ! (0 ∷ 1 ∷ 11 ∷ []) $
           opens-value ! tt tally-struct (P .tally .entry) (P .tally .block) (P .tally .offset) (λ was. move ! (1 ∷ []) $ drop ! $
           -- [the tally's cell; the open borrow; obs; auth; what the new tally owns; the file and the slices; the locals]
-          assigns ! (of-opd ! (load ! (from ! (stop !)) (look ! 31 refl))) (from ! (hop ! (look ! 53 refl) (stop !))) (store-raw ! 0 refl (typed W tally-struct h is)) $
+          assigns ! (of-opd ! (load ! (from ! (stop !)) (look ! 31 refl))) (from ! (hop ! (look ! 53 refl) (stop !)))
+          (store-raw ! 0 refl (typed W tally-struct h is)) $
           move ! (0 ∷ 4 ∷ []) $ closes ! tt (row tally-struct) h (v ∷ []) (P .tally .block) (P .tally .offset) $
           feqI ! (List Val) (tally-pointer P ∷ []) (tally-pointer P ∷ []) refl $ fjoin3 ! $
           -- [the tally; its token; the file and the slices; the locals]
@@ -117,30 +126,41 @@ module _ (w : Setting) (P : Parameters) where
           looped w P known L counts is-counts (start h e, is-progress))))))
         where
           start : (h : Tally) → h ≡ firstTally (progress .mask) → Here P counts
-          start h e = along-start (entry P) (z .left .table) (z .left .report) (z .left .linearization) (z .result) (prepared .bytes) (prepared .exact)
-              (prepared .same .table) (prepared .same .report) accepted h e (prepared .same .linearization)
+          start h e =
+              along-start (entry P) (z .left .table) (z .left .report) (z .left .linearization) (z .result) (prepared .bytes)
+              (prepared .exact) (prepared .same .table) (prepared .same .report) accepted h e (prepared .same .linearization)
 
       -- the counts are taken from the plan; refused, `declined` answers and the function returns
-      choosing : Sq W (Buffers w P (z .left) ++ Owner w P (P .tally .entry) ++ Locals w L P (room w L 8) (room w L 7) (full w L 6 (value plan-struct (z .result)))) (Runs w P known L mir-of.t-8)
+      choosing :
+          Sq W (Buffers w P (z .left) ++ Owner w P (P .tally .entry)
+          ++ Locals w L P (room w L 8) (room w L 7) (full w L 6 (value plan-struct (z .result)))) (Runs w P known L mir-of.t-8)
       choosing =
-          assigns ! (of-opd ! (load ! (from ! (fld ! refl (stop !))) (look-in ! 48 (sub ! 0 refl (whole !))))) (from ! (stop !)) (init ! 46 refl (typed W checked-struct counts is-counts)) $
-          assigns ! (bin ! (load ! (from ! (fld ! refl (stop !))) (look-in ! 46 (sub ! 0 refl (whole !)))) (lit ! tt) tt) (from ! (stop !)) (init ! 30 refl (tt, tt)) $
+          assigns ! (of-opd ! (load ! (from ! (fld ! refl (stop !))) (look-in ! 48 (sub ! 0 refl (whole !))))) (from ! (stop !))
+          (init ! 46 refl (typed W checked-struct counts is-counts)) $
+          assigns ! (bin ! (load ! (from ! (fld ! refl (stop !))) (look-in ! 46 (sub ! 0 refl (whole !)))) (lit ! tt) tt)
+          (from ! (stop !)) (init ! 30 refl (tt, tt)) $
           first ! $ branches ! (load ! (from ! (stop !)) (look ! 30 refl))
-          (λ t. makes ! checked-struct counts _ is-counts $ use1 W (raw (Declined w .pre (to-declined w P counts))) (goes-declined w P counts) $
-          calls-at ! fm (Declined w) (known .declined) (to-declined w P counts) (and-then ! (load ! (from ! (stop !)) (look ! 47 refl)) (no-more !)) (λ v.
-          use1 W (later (some (λ (r : Played). given (r ≡ refusedWith (counts .number)) (‵ (row played-struct .own r (v ∷ [])))))) (told-declined w P counts v) $ await ! tt $ pick ! (λ r. learn ! (λ e.
+          (λ t. makes ! checked-struct counts _ is-counts $
+          use1 W (raw (Declined w .pre (to-declined w P counts))) (goes-declined w P counts) $
+          calls-at ! fm (Declined w) (known .declined) (to-declined w P counts)
+          (and-then ! (load ! (from ! (stop !)) (look ! 47 refl)) (no-more !)) (λ v.
+          use1 W (later (some (λ (r : Played). given (r ≡ refusedWith (counts .number)) (‵ (row played-struct .own r (v ∷ []))))))
+          (told-declined w P counts v) $ await ! tt $ pick ! (λ r. learn ! (λ e.
           sees ! played-struct r (v ∷ []) (λ is. land ! (from ! (stop !)) (init ! 61 refl (typed W played-struct r is)) $
           -- [what the answer owns; the file and the slices; the tally and its token; the locals]
           move ! (9 ∷ []) $ fsplit3 ! $ drop ! $ move ! (2 ∷ 0 ∷ 1 ∷ 11 ∷ []) $
           returns-within ! (Post w P) refl (look ! 62 refl) $
-          forget ! 62 refl $ forget ! 60 refl $ forget ! 58 refl $ forget ! 56 refl $ forget ! 54 refl $ forget ! 52 refl $ forget ! 50 refl $ forget ! 48 refl $ forget ! 32 refl $
+          forget ! 62 refl $ forget ! 60 refl $ forget ! 58 refl $ forget ! 56 refl $ forget ! 54 refl $ forget ! 52 refl $
+          forget ! 50 refl $ forget ! 48 refl $ forget ! 32 refl $
           ends w P (z .left) (P .tally .entry) (prepared .same) r v (refused-here (differs (counts .number) 0 t) r e) L)))))
-          (λ t. skips ! $ exec ! (known .tables .C) (known .tables .Λ) (En w L) mir-of.t-11 (atRet (En w L) (Post w P)) $ forget ! 30 refl $ opening (agrees (counts .number) 0 t))
+          (λ t. skips ! $ exec ! (known .tables .C) (known .tables .Λ) (En w L) mir-of.t-11 (atRet (En w L) (Post w P)) $
+          forget ! 30 refl $ opening (agrees (counts .number) 0 t))
         where
           refused-here : counts .number ≢ 0 → (r : Played) → r ≡ refusedWith (counts .number)
               → Ended (entry P) (P .tally .entry) (z .left .table) (z .left .report) (z .left .linearization) r
-          refused-here d r e = refused-end (entry P) (z .left .table) (z .left .report) (z .left .linearization) (z .result) (prepared .bytes) (prepared .exact)
-              (prepared .same .table) (prepared .same .report) d r e
+          refused-here d r e =
+              refused-end (entry P) (z .left .table) (z .left .report) (z .left .linearization) (z .result) (prepared .bytes)
+              (prepared .exact) (prepared .same .table) (prepared .same .report) d r e
 
     -- the slices are lent on to `prepare`, and come back
     preparing : Sq W (Buffers w P (lists₀ P) ++ Owner w P (P .tally .entry) ++ Locals w L P (room w L 8) (room w L 7) (room w L 6)) (Runs w P known L mir-of.t-1)
@@ -214,7 +234,8 @@ grouping-play-lent-spec {M} 𝓤 H 𝓜 𝓖 𝓡 =
     (meets w (record {
       tables = tablesOf 𝓤 H 𝓜 (tables 𝓤 H 𝓜 𝓡 code.env);
       prepare = cited 𝓤 H (Prepare w) 𝓜 𝓡 code.env #lent·prepare prepare-def.routine code.calls-lent·prepare (prepare-thm.met 𝓤 H 𝓜 𝓖 𝓡);
-      declined = cited 𝓤 H (Declined w) 𝓜 𝓡 code.env #lent·declined declined-def.routine code.calls-lent·declined (declined-thm.met 𝓤 H 𝓜 𝓖 𝓡);
+      declined = cited 𝓤 H (Declined w) 𝓜 𝓡 code.env #lent·declined declined-def.routine code.calls-lent·declined
+          (declined-thm.met 𝓤 H 𝓜 𝓖 𝓡);
       opened = cited 𝓤 H (Opened w) 𝓜 𝓡 code.env #lent·opened opened-def.routine code.calls-lent·opened (opened-thm.met 𝓤 H 𝓜 𝓖 𝓡);
       turn-on = cited 𝓤 H (TurnOn w) 𝓜 𝓡 code.env #lent·turn-on turn-on-def.routine code.calls-lent·turn-on (turn-on-thm.met 𝓤 H 𝓜 𝓖 𝓡);
       add = cited 𝓤 H (Add w) 𝓜 𝓡 code.env #lent·add add-def.routine code.calls-lent·add (add-thm.met 𝓤 H 𝓜 𝓖 𝓡);

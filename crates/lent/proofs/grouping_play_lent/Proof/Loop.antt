@@ -22,9 +22,11 @@ use base.Logic.{SProp, id⊢}
 use base.Fml.{Fml, GName, flft, fres, fat}
 use prog.Wp.{Out, afterSeq, afterBlock, afterTurn, Loops, Wp, atReturn}
 use prog.Wp.{Calls as CallTable}
-use types.Kit.{Item, ‵, raw, given, runs, anyQ, atRet, Sq, ⋆, _⊛_, some, later, _$_, !, by, cut, move, drop, use1, use2, use3, split, pick, learn, rewrite, fsplit3, await}
+use types.Kit.{Item, ‵, raw, given, runs, anyQ, atRet, Sq, ⋆, _⊛_, some, later, _$_, !, cut, move, drop, use1, use2, use3, split, pick}
+use types.Kit.{learn, rewrite, fsplit3, await}
 use types.Tokens.{lft-new, lft-end}
-use types.Run.{look, look-raw, init, store, forget, stop, hop, fld, from, load, addr, bin, of-opd, and-then, no-more, assigns, land, land-last, first, blocks, stays, leaves-loop, returns, free1, free0, exec, Below, again, loops}
+use types.Run.{look, look-raw, init, store, forget, stop, hop, fld, from, load, addr, bin, of-opd, and-then, no-more, assigns, land}
+use types.Run.{land-last, first, blocks, stays, leaves-loop, returns, exec, Below, again, loops}
 use types.Part.{agg, whole, sub, look-in}
 use sound.WpLaws.{FmC, fmOf}
 use denote.Laws.{Is}
@@ -89,7 +91,10 @@ module _ (w : Setting) (P : Parameters) (known : Known w) (L : ℕ → ℕ) (cou
   Nearer-wf = InvImage·wf (λ (s : Place). counts .grants - s .0 .progress .number) (Nat·lt-wfRel .wf)
 
   abbrev Turned : Place → Out → SProp 𝓤
-  Turned s = afterTurn 𝓤 H (Below 𝓤 H A Nearer At s) (afterBlock 𝓤 H (afterSeq 𝓤 H (Wp 𝓤 H C Λ (En w L) mir-of.t-15 (atReturn 𝓤 H (En w L) (Post w P))) (atReturn 𝓤 H (En w L) (Post w P))))
+  Turned s =
+      afterTurn 𝓤 H (Below 𝓤 H A Nearer At s)
+      (afterBlock 𝓤 H
+      (afterSeq 𝓤 H (Wp 𝓤 H C Λ (En w L) mir-of.t-15 (atReturn 𝓤 H (En w L) (Post w P))) (atReturn 𝓤 H (En w L) (Post w P))))
 
   module _ (s : Place) where
     abbrev a : Here P counts
@@ -104,16 +109,20 @@ module _ (w : Setting) (P : Parameters) (known : Known w) (L : ℕ → ℕ) (cou
         move ! (8 ∷ []) $ fsplit3 ! $ drop ! $ move ! (0 ∷ 1 ∷ 10 ∷ []) $
         opens-value ! tt tally-struct (a .tally) (P .tally .block) (P .tally .offset) (λ was.
         -- [the tally's cell; what it owns; the open borrow; obs; auth; the file and the slices; the locals]
-        assigns ! (of-opd ! (load ! (from ! (hop ! (look ! 53 refl) (stop !))) (look-raw ! 0 refl))) (from ! (stop !)) (init ! 31 refl (typed W tally-struct (a .tally) was)) $
+        assigns ! (of-opd ! (load ! (from ! (hop ! (look ! 53 refl) (stop !))) (look-raw ! 0 refl))) (from ! (stop !))
+        (init ! 31 refl (typed W tally-struct (a .tally) was)) $
         closes ! tt (row tally-struct) (a .tally) (value tally-struct (a .tally) ∷ []) (P .tally .block) (P .tally .offset) $
         makes ! tally-struct (a .tally) _ was $ makes ! progress-struct (a .progress) _ (s .1) $ makes ! checked-struct counts _ is-counts $
         use3 W (raw (Closed w .pre (to-closed w P counts (a .progress) (a .tally)))) (goes-closed w P counts (a .progress) (a .tally)) $
-        calls-at ! fm (Closed w) (known .closed) (to-closed w P counts (a .progress) (a .tally)) (and-then ! (load ! (from ! (stop !)) (look ! 48 refl)) (and-then ! (load ! (from ! (stop !)) (look ! 46 refl)) (and-then ! (load ! (from ! (stop !)) (look ! 30 refl)) (no-more !)))) (λ v.
+        calls-at ! fm (Closed w) (known .closed) (to-closed w P counts (a .progress) (a .tally))
+        (and-then ! (load ! (from ! (stop !)) (look ! 48 refl))
+        (and-then ! (load ! (from ! (stop !)) (look ! 46 refl)) (and-then ! (load ! (from ! (stop !)) (look ! 30 refl)) (no-more !)))) (λ v.
         use1 W (later (some (λ (r : Played). given (r ≡ closedOf counts (a .progress) (a .tally)) (‵ (row played-struct .own r (v ∷ [])))))) (told-closed w P counts (a .progress) (a .tally) v) $ await ! tt $ pick ! (λ r. learn ! (λ e.
         -- [what the answer owns; obs; the borrow; the token; the file and the slices; the locals]
         sees ! played-struct r (v ∷ []) (λ is. land ! (from ! (stop !)) (init ! 62 refl (typed W played-struct r is)) $
         returns ! (look ! 62 refl) $
-        forget ! 62 refl $ forget ! 60 refl $ forget ! 58 refl $ forget ! 56 refl $ forget ! 54 refl $ forget ! 52 refl $ forget ! 48 refl $ forget ! 46 refl $ forget ! 30 refl $
+        forget ! 62 refl $ forget ! 60 refl $ forget ! 58 refl $ forget ! 56 refl $ forget ! 54 refl $ forget ! 52 refl $
+        forget ! 48 refl $ forget ! 46 refl $ forget ! 30 refl $
         ends w P b (a .tally) (long P counts a) r v (along-end (entry P) counts a over r e) L)))))
 
     abbrev TallyKept : ℕ → GName → Fml
@@ -182,7 +191,8 @@ module _ (w : Setting) (P : Parameters) (known : Known w) (L : ℕ → ℕ) (cou
     leaving test =
         assigns ! (bin ! (load ! (from ! (fld ! refl (stop !))) (look-in ! 44 (sub ! 3 refl (whole !)))) (load ! (from ! (fld ! refl (stop !))) (look-in ! 46 (sub ! 4 refl (whole !)))) tt) (from ! (stop !)) (init ! 26 refl (tt, tt)) $
         rewrite ! 26 (λ (c : Bool). ‵ (fat fullShare (τ 17) (L 17) 0 (vbool c))) test refl $ leaves-loop ! (load ! (from ! (stop !)) (look ! 26 refl)) $
-        forget ! 26 refl $ exec ! C Λ (En w L) mir-of.t-15 (atRet (En w L) (Post w P)) $ closing (ltb-false (a .progress .number) (counts .grants) test)
+        forget ! 26 refl $ exec ! C Λ (En w L) mir-of.t-15 (atRet (En w L) (Post w P)) $
+        closing (ltb-false (a .progress .number) (counts .grants) test)
 
     turn-by : (c : Bool) → ltb (a .progress .number) (counts .grants) ≡ c → Sq W (At s) (runs C Λ (En w L) mir-of.turn-1 (anyQ (Turned s)))
     turn-by true test = turning (ltb-true (a .progress .number) (counts .grants) test) test
