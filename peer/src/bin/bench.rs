@@ -264,10 +264,8 @@ fn growth() {
 }
 
 fn main() {
-    println!(
-        "Least of {ROUNDS} rounds, core and peer in turn. A round repeats one call for {ROUND:?},"
-    );
-    println!("so that caches and branch predictors know it. Ratio: the first to the second.");
+    println!("Least of {ROUNDS} rounds, the two players in turn. A round repeats its call, all jobs of");
+    println!("a row in turn, for at least {ROUND:?}. Ratio: the first to the second.");
     grants();
     bytes();
     enquiry();
