@@ -264,7 +264,9 @@ fn growth() {
 }
 
 fn main() {
-    println!("Least of {ROUNDS} rounds, the two players in turn. A round repeats its call, all jobs of");
+    println!(
+        "Least of {ROUNDS} rounds, the two players in turn. A round repeats its call, all jobs of"
+    );
     println!("a row in turn, for at least {ROUND:?}. Ratio: the first to the second.");
     grants();
     bytes();
