@@ -265,9 +265,9 @@ fn growth() {
 
 fn main() {
     println!(
-        "Least of {ROUNDS} rounds, core and peer in turn. A round repeats one call for {ROUND:?},"
+        "Least of {ROUNDS} rounds, the two players in turn. A round repeats its call, all jobs of"
     );
-    println!("so that caches and branch predictors know it. Ratio: the first to the second.");
+    println!("a row in turn, for at least {ROUND:?}. Ratio: the first to the second.");
     grants();
     bytes();
     enquiry();
