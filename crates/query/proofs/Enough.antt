@@ -47,8 +47,8 @@ use Rattle.rules.specs.Table.{noNode, at, parent, rank, seen, touched}
 use Rattle.rules.proofs.History.{final-number}
 use Rattle.rules.proofs.Finds.{Above, FindKnows}
 use Rattle.rules.proofs.Stages.{Knows}
+use Rattle.table.specs.Admitted.{Admitted}
 use Rattle.query.specs.Query.{granted, steps, sameSet}
-use Rattle.query.specs.Admitted.{Admitted}
 use Rattle.query.proofs.Steps.{Serving, no-union, serving-goes-on, serving-ranks}
 
 -- the find from y follows the find from x

@@ -19,11 +19,11 @@ use Rattle.process.specs.declared.Access.the-variants.{Cas}
 use Rattle.forest.proofs.Halving.{Halving}
 use Rattle.rules.specs.Table.{at, parent, rank, touched}
 use Rattle.rules.proofs.Finds.{Above, own-parent, above-parent}
+use Rattle.table.specs.Admitted.{wordAt, Admitted}
+use Rattle.table.proofs.Admitted.{admitted-formed, admitted-worded, admitted-at, words-kept}
 use Rattle.table.proofs.Words.{decode-words}
-use Rattle.query.specs.Query.{wordAt, steps}
-use Rattle.query.specs.Admitted.{Admitted}
+use Rattle.query.specs.Query.{steps}
 use Rattle.query.specs.Numbers.{looking, moving, Ready, Lower, packed, ended}
-use Rattle.query.proofs.Words.{admitted-formed, admitted-worded, admitted-at, words-kept}
 use Rattle.query.proofs.Labels.{rootLabel, root-labelled}
 use Rattle.query.proofs.Halving.{halved-admitted}
 use Rattle.query.proofs.Grants.{swapping, again, move-reads, move-swaps, move-ends, spent}

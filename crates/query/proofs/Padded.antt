@@ -23,11 +23,11 @@ use Rattle.process.specs.Access.{accessOf}
 use Rattle.rules.specs.Report.{isFinal}
 use Rattle.rules.specs.Table.{noNode, at, parent, rank, freshFrom, seen, touched}
 use Rattle.rules.proofs.Table.{length-fresh}
+use Rattle.table.specs.Admitted.{Admitted}
 use Rattle.table.specs.Touch.{Within}
+use Rattle.table.proofs.Admitted.{admitted-worded, words-kept}
 use Rattle.table.proofs.Words.{decode-words}
 use Rattle.query.specs.Query.{Result, answered, granted, steps}
-use Rattle.query.specs.Admitted.{Admitted}
-use Rattle.query.proofs.Words.{admitted-worded, words-kept}
 use Rattle.query.proofs.Copies.{padded}
 use Rattle.query.proofs.Steps.{Serving, serving-within, serving-goes-on}
 
@@ -99,14 +99,15 @@ module _ {n : ℕ} {t : List Node} (admitted : Admitted n t) (k : ℕ) (room : n
         rising = λ i l. longer-rising i (place i l);
       }
 
-module _ (words : List ℕ) (few : length words ≤ 4096) (admitted : Admitted (length words) (map decode words)) where
+module _ (words : List ℕ) (admitted : Admitted (length words) (map decode words)) where
   abbrev pub others : List Node
   others = freshFrom (length words) (4096 - length words)
 
   whole : Admitted 4096 (map decode words ++ others)
   whole =
-      let size : length words + (4096 - length words) ≡ 4096 = omega (arith, few) in
-      subst (λ n. Admitted n (map decode words ++ others)) size (longer-admitted admitted (4096 - length words) (omega (arith, few)))
+      let size : length words + (4096 - length words) ≡ 4096 = omega (arith, admitted .few) in
+      subst (λ n. Admitted n (map decode words ++ others)) size
+      (longer-admitted admitted (4096 - length words) (omega (arith, admitted .few)))
 
   pub padded-nodes : map decode (padded words) ≡ map decode words ++ others
   padded-nodes =

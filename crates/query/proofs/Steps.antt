@@ -43,11 +43,11 @@ use Rattle.rules.proofs.Finds.{Walks, find-walks, find-halved}
 use Rattle.rules.proofs.Stages.{Inside, Finding, Searching, Rereading, Knows, find-node, finding-begin, restart-knows}
 use Rattle.rules.proofs.Steps.{ends-one, ends-two, finding-moved}
 use Rattle.rules.proofs.FindSteps.{next-kind}
+use Rattle.table.specs.Admitted.{Admitted}
 use Rattle.table.specs.Touch.{Within}
+use Rattle.table.proofs.Admitted.{admitted-formed}
 use Rattle.table.proofs.Within.{access-within}
 use Rattle.query.specs.Query.{granted, sameSet}
-use Rattle.query.specs.Admitted.{Admitted}
-use Rattle.query.proofs.Words.{admitted-formed}
 use Rattle.query.proofs.Halving.{Kept, unwritten, halved-keeps}
 
 abbrev pub Says : (ℕ → ℕ) → ℕ → ℕ → Answer → Type 0

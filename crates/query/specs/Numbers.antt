@@ -26,9 +26,9 @@ use Rattle.process.specs.declared.Stage.{Stage}
 use Rattle.process.specs.declared.Stage.the-variants.{Find}
 use Rattle.process.specs.declared.Head.{Head}
 use Rattle.process.specs.Process.{noWait}
+use Rattle.table.specs.Admitted.{wordAt, Admitted}
 use Rattle.query.specs.declared.Queried.{Queried}
-use Rattle.query.specs.Query.{wordAt, Result}
-use Rattle.query.specs.Admitted.{Admitted}
+use Rattle.query.specs.Query.{Result}
 
 -- A find serves x or y.
 abbrev pub errandOf : Bool → Errand

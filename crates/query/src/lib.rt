@@ -1,17 +1,17 @@
-// The counter enquiry of document 01: a same-set alone on a lent table, with a budget of grants; and the walk to a root.
+// The counter enquiry of document 01: a same-set alone on a lent table, with a budget of grants.
 use job::Answer;
+use table::admission::table_refusal;
 use word::Node;
 ghost use mathlib.Core.Path.{_≡_};
 ghost use mathlib.Core.List.{map};
 ghost use Prim.Native.Nat.{_-_, _<_, _≤_};
 ghost use lib.ListN.{length, take};
 ghost use lib.Seq.{sets};
-ghost use Rattle.word.specs.Word.{rankOf, before, decode, encode};
+ghost use Rattle.word.specs.Word.{rankOf, decode, encode};
 ghost use Rattle.process.specs.declared.Access.the-variants.{Cas};
-ghost use Rattle.forest.specs.Forest.{Leads};
-ghost use Rattle.rules.specs.Table.{parent, freshFrom, touched};
-ghost use Rattle.query.specs.Query.{isFaulty, anyFaulty, refusal, steps, queried};
-ghost use Rattle.query.specs.Admitted.{Admitted};
+ghost use Rattle.rules.specs.Table.{freshFrom, touched};
+ghost use Rattle.table.specs.Admitted.{Admitted};
+ghost use Rattle.query.specs.Query.{refusal, steps, queried};
 ghost use Rattle.query.specs.Numbers.{looking, moving, Ready, Lower, packed as Numbers·packed, told as Numbers·told, ended};
 ghost use Rattle.query.specs.Faithful.{Faithful};
 
@@ -23,74 +23,18 @@ pub struct Queried {
     pub used: u32,
 }
 
-// The order of nodes, on ranks that are not yet known to be admitted.
-fn stands_before(a_rank: u32, a: u32, b_rank: u32, b: u32) -> bool
-    ensures { λ r. ⌜ r ≡ before «a_rank» a «b_rank» b ⌝ }
-{
-    if a_rank == b_rank {
-        a < b
-    } else {
-        a_rank < b_rank
-    }
-}
-
-// Whether the word of node i cannot stand in this table.
-fn is_faulty(table: &[u32], i: u32) -> bool
-    requires { ⌜ i < length (now table) ⌝ }
-    ensures { λ r. ⌜ r ≡ isFaulty (now (table .entry)) i ⌝ }
-{
-    let word = table[i as usize];
-    let parent = word::parent(word);
-    if table.len() <= (parent as usize) {
-        return true;
-    }
-    if 12 < word::rank(word) {
-        return true;
-    }
-    stands_before(
-        word::rank(table[parent as usize]),
-        parent,
-        word::rank(word),
-        i,
-    )
-}
-
-// Whether any word cannot stand in this table.
-fn has_faulty(table: &[u32]) -> bool
-    requires { ⌜ length (now table) ≤ 4096 ⌝ }
-    ensures { λ r. ⌜ r ≡ anyFaulty (now (table .entry)) (length (now (table .entry))) ⌝ }
-{
-    let mut i = table.len() as u32;
-    while 0 < i {
-        i -= 1;
-        if is_faulty(table, i) {
-            return true;
-        }
-    }
-    false
-}
-
 // The number of the refusal, 0 for none.
 fn refusal_of(table: &[u32], x: u32, y: u32) -> u32
     ensures { λ r. ⌜ r ≡ refusal (now (table .entry)) x y ⌝ }
 {
     let nodes = table.len();
-    if nodes == 0 {
-        return 15;
-    }
-    if 4096 < nodes {
-        return 15;
-    }
     if nodes <= (x as usize) {
         return 15;
     }
     if nodes <= (y as usize) {
         return 15;
     }
-    if has_faulty(table) {
-        return 16;
-    }
-    0
+    table_refusal(table)
 }
 
 // The end of an enquiry as one number: the answer's number and the grants used.
@@ -253,17 +197,4 @@ pub fn query(table: &mut [u32], x: u32, y: u32, budget: u16) -> Queried
         };
     }
     told(enquire(table, x, y, budget))
-}
-
-// The root that a node of an admitted table leads to, by a plain walk.
-pub fn root_of(table: &[u32], node: u32) -> u32
-    requires { ⌜ Admitted (length (now table)) (map decode (now table)) ⌝ }
-    requires { ⌜ node < length (now table) ⌝ }
-    ensures { λ r. ⌜ Leads (parent (map decode (now (table .entry)))) node r ⌝ }
-{
-    let above = word::parent(table[node as usize]);
-    if above == node {
-        return node;
-    }
-    root_of(table, above)
 }

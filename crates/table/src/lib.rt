@@ -1,4 +1,6 @@
-// The shared table of words: one grant of a head on it, the one access and where it leads together.
+// The shared table of words: one grant of a head on it, the one access and where it leads together; and a table that a host lends.
+pub mod admission;
+
 use process::Advanced;
 use process::Head;
 use process::Stage;

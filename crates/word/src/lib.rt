@@ -52,8 +52,8 @@ pub fn is_same(a: Node, b: Node) -> bool
     }
 }
 
-// Whether node a of rank a_rank comes before node b of rank b_rank.
-pub fn comes_before(a_rank: u8, a: u16, b_rank: u8, b: u16) -> bool
+// Whether node a of rank a_rank comes before node b of rank b_rank: the order of nodes.
+pub fn stands_before(a_rank: u32, a: u32, b_rank: u32, b: u32) -> bool
     ensures { λ r. ⌜ r ≡ before «a_rank» a «b_rank» b ⌝ }
 {
     if a_rank == b_rank {
@@ -61,4 +61,11 @@ pub fn comes_before(a_rank: u8, a: u16, b_rank: u8, b: u16) -> bool
     } else {
         a_rank < b_rank
     }
+}
+
+// The same order on a rank and a node as a head has them.
+pub fn comes_before(a_rank: u8, a: u16, b_rank: u8, b: u16) -> bool
+    ensures { λ r. ⌜ r ≡ before «a_rank» a «b_rank» b ⌝ }
+{
+    stands_before(a_rank as u32, a as u32, b_rank as u32, b as u32)
 }

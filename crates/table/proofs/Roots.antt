@@ -10,9 +10,8 @@ use lib.ListN.{length}
 use Rattle.word.specs.Word.{parentOf, decode, key, nodeLimit}
 use Rattle.forest.specs.Forest.{Leads, root, up}
 use Rattle.rules.specs.Table.{parent, rank}
-use Rattle.query.specs.Query.{wordAt}
-use Rattle.query.specs.Admitted.{Admitted}
-use Rattle.query.proofs.Words.{parent-decoded}
+use Rattle.table.specs.Admitted.{wordAt, Admitted}
+use Rattle.table.proofs.Words.{parent-decoded}
 
 abbrev pub height : List ℕ → ℕ → ℕ
 height words i = 13 * nodeLimit - key (rank (map decode words) i) i
