@@ -57,7 +57,8 @@ module _ (words : List ℕ) (h : Head) {t : Stage} (e : h .stage ≡ t) where
   moves words′ now a found sees leads = rw e (leads ∙ ap (λ w. advanceAt (h .task) w now t) (sees .0), sees .1)
 
 -- a find's step is its request's grant
-module _ (words : List ℕ) (h : Head) {errand : Errand} {s : Step} (e : h .stage ≡ Find errand s) (x : ℕ) (is : x ≡ nodeAt (h .task) errand) where
+module _ (words : List ℕ) (h : Head) {errand : Errand} {s : Step} (e : h .stage ≡ Find errand s) (x : ℕ)
+    (is : x ≡ nodeAt (h .task) errand) where
   pub errand-able : Touchable (map decode words) (accessOf h) → Touchable (map decode words) (findAccess x s)
   errand-able able = subst (λ v. Touchable (map decode words) (findAccess v s)) (sym is) (head-able words h e able)
 

@@ -22,7 +22,8 @@ node-at-requires c κs = search needs
 walk-requires : tie.Need-walk-requires
 walk-requires c κs =
     let start = c .before .before .before .before .before .before .before in
-    errand-able (now (start .args .table)) (start .args .head) (c .before .before .before .stage .given .1) _ (c .node-at .ensures) (start .pre .0)
+    errand-able (now (start .args .table)) (start .args .head) (c .before .before .before .stage .given .1) _ (c .node-at .ensures)
+    (start .pre .0)
 
 followed-requires : tie.Need-followed-requires
 followed-requires c κs = search needs
@@ -88,16 +89,21 @@ raising-requires c κs = search needs
 returns : tie.Need-returns
 returns c =
     let start = c .before .before .before .before .before in
-    let able = head-able (now (start .args .table)) (start .args .head) (c .before .enum-told .given .1) (start .pre .0) in
-    moves (now (start .args .table)) (start .args .head) (c .before .enum-told .given .1) _ _ _ _ (sees-idle _ (able .worded)) (c .going .ensures)
+    let case = c .before .enum-told .given .1 in
+    let able = head-able (now (start .args .table)) (start .args .head) case (start .pre .0) in
+    moves (now (start .args .table)) (start .args .head) case _ _ _ _ (sees-idle _ (able .worded)) (c .going .ensures)
 
 same-length : tie.Need-same-length
 same-length c = search needs
 
 returns-2 : tie.Need-returns-2
 returns-2 c =
-    let start = c .before .before .before .before .before .before .before .before .before .before .before in
-    moves-find (now (start .args .table)) (start .args .head) (c .before .before .before .before .before .before .before .stage .given .1) _ (c .before .before .before .before .node-at .ensures) _ _ _ _ (c .before .before .before .walk .ensures) (c .followed .ensures)
+    let walked = c .before .before .before in
+    let sent = walked .before in
+    let case = sent .before .before .before in
+    let start = case .before .before .before .before in
+    moves-find (now (start .args .table)) (start .args .head) (case .stage .given .1) _ (sent .node-at .ensures) _ _ _ _
+    (walked .walk .ensures) (c .followed .ensures)
 
 same-length-2 : tie.Need-same-length-2
 same-length-2 c = search needs
@@ -157,40 +163,8 @@ returns-7 c =
 
 pub stepped-spec : {M : Type 1} → statement M
 stepped-spec =
-    tie.close
-    (tie.spec
-    enum-told
-    going-requires
-    enum-known-stage
-    node-at-requires
-    walk-requires
-    followed-requires
-    enum-known-stage-2
-    load-requires
-    reread-requires
-    enum-told-2
-    load-requires-2
-    going-requires-2
-    enum-known-stage-3
-    load-requires-3
-    ranked-requires
-    enum-known-stage-4
-    swap-requires
-    linking-requires
-    enum-known-stage-5
-    add-t40
-    swap-requires-2
-    raising-requires
-    returns
-    same-length
-    returns-2
-    same-length-2
-    returns-3
-    same-length-3
-    returns-4
-    same-length-4
-    returns-5
-    same-length-5
-    returns-6
-    same-length-6
-    returns-7)
+    tie.close (tie.spec enum-told going-requires enum-known-stage node-at-requires walk-requires followed-requires
+    enum-known-stage-2 load-requires reread-requires enum-told-2 load-requires-2 going-requires-2 enum-known-stage-3
+    load-requires-3 ranked-requires enum-known-stage-4 swap-requires linking-requires enum-known-stage-5 add-t40
+    swap-requires-2 raising-requires returns same-length returns-2 same-length-2 returns-3 same-length-3 returns-4
+    same-length-4 returns-5 same-length-5 returns-6 same-length-6 returns-7)

@@ -93,23 +93,6 @@ returns-4 c =
 
 pub walk-spec : {M : Type 1} → statement M
 walk-spec =
-    tie.close
-    (tie.spec
-    enum-told
-    load-requires
-    read-node-requires
-    enum-known-step
-    load-requires-2
-    enum-known-step-2
-    swap-requires
-    halved-requires
-    enum-known-step-3
-    load-requires-3
-    same-length
-    returns
-    same-length-2
-    returns-2
-    same-length-3
-    returns-3
-    same-length-4
-    returns-4)
+    tie.close (tie.spec enum-told load-requires read-node-requires enum-known-step load-requires-2 enum-known-step-2
+    swap-requires halved-requires enum-known-step-3 load-requires-3 same-length returns same-length-2 returns-2
+    same-length-3 returns-3 same-length-4 returns-4)
