@@ -11,7 +11,7 @@ use lib.ListN.{length, take, replicate, length-map, length-append, length-replic
 use lib.Seq.{sets, take-at}
 use borrow.Author.Tests.{eq-eqb, ne-eqb}
 use Rattle.word.specs.declared.Node.{Node}
-use Rattle.word.specs.Word.{decode, encode}
+use Rattle.word.specs.Word.{decode, encode, mostNodes}
 use Rattle.rules.proofs.Table.{length-fresh}
 use Rattle.query.specs.Query.{Result, refusal, steps, queried}
 use Rattle.query.specs.Numbers.{looking, Ready, ended}
@@ -31,16 +31,16 @@ module _ (words : List ℕ) (x y : ℕ) (none : refusal words x y ≡ 0) where
   good : Accepted words x y
   good = accepted words x y none
 
-  pub enquiry-few : length words ≤ 4096
+  pub enquiry-few : length words ≤ mostNodes
   enquiry-few = good .table .few
 
   -- both loops make the array of zeros the padded one
-  pub enquiry-array : (copied array : List ℕ) → copied ≡ sets (replicate 4096 0) 0 words
+  pub enquiry-array : (copied array : List ℕ) → copied ≡ sets (replicate mostNodes 0) 0 words
       → array ≡ sets copied (length words) (roots (length words)) → array ≡ padded words
   enquiry-array copied array copies pads =
       pads
       ∙ ap (λ l. sets l (length words) (roots (length words))) copies
-      ∙ filled (replicate 4096 0) words (length-replicate {A = ℕ} 4096 0) (good .table .few)
+      ∙ filled (replicate mostNodes 0) words (length-replicate {A = ℕ} mostNodes 0) (good .table .few)
 
   pub enquiry-ready : (array : List ℕ) (budget : ℕ) → array ≡ padded words → budget ≤ 65535 → Ready array x y 0 budget
   enquiry-ready array budget e small =
@@ -73,7 +73,7 @@ module _ (words : List ℕ) (x y : ℕ) (none : refusal words x y ≡ 0) where
           ∙ ap (steps budget 0 (looking x y false)) (ap (map decode) is ∙ padded-nodes words (good .table))
           ∙ steps-padded past budget 0 (looking x y false) (map decode words) (start-serving words x y budget good)
 
-      pub enquiry-size : length words′ ≡ 4096
+      pub enquiry-size : length words′ ≡ mostNodes
       enquiry-size =
           ap (λ r. length (r .table)) ends
           ∙ omega (
@@ -81,7 +81,7 @@ module _ (words : List ℕ) (x y : ℕ) (none : refusal words x y ≡ 0) where
             length-append (own .table) (map encode past),
             own-length,
             length-map past encode,
-            length-fresh (length words) (4096 - length words),
+            length-fresh (length words) (mostNodes - length words),
             good .table .few,
           )
 

@@ -16,7 +16,7 @@ use lib.Dec.{eqb, ltb, leb}
 use lib.ListN.{length, length-map}
 use borrow.Author.Tests.{ltb-false, leb-false}
 use Rattle.word.specs.declared.Node.{Node}
-use Rattle.word.specs.Word.{rankOf, parentOf, decode, encode, before, key}
+use Rattle.word.specs.Word.{rankOf, parentOf, decode, encode, before, key, mostNodes, mostRank}
 use Rattle.word.proofs.Laws.{before-key}
 use Rattle.forest.proofs.Forest.{WellFormed}
 use Rattle.rules.specs.Table.{at, parent, rank}
@@ -69,13 +69,13 @@ none-faulty words (suc k) e i l =
 
 record Sane (words : List ℕ) (i : ℕ) : Type 0 where
   pub inside : parentOf (wordAt words i) < length words
-  pub rank : rankOf (wordAt words i) ≤ 12
+  pub rank : rankOf (wordAt words i) ≤ mostRank
   pub order : before (rankOf (wordAt words (parentOf (wordAt words i)))) (parentOf (wordAt words i)) (rankOf (wordAt words i)) i ≡ false
 
 sane : (words : List ℕ) (i : ℕ) → isFaulty words i ≡ false → Sane words i
 sane words i e =
     let above = passed (leb (length words) (parentOf (wordAt words i))) true≢false e in
-    let rank = passed (ltb 12 (rankOf (wordAt words i))) true≢false (above .others) in
+    let rank = passed (ltb mostRank (rankOf (wordAt words i))) true≢false (above .others) in
     record { inside = leb-false _ _ (above .first); rank = ltb-false _ _ (rank .first); order = rank .others }
 
 -- ---- a table that is not refused
@@ -84,11 +84,11 @@ module _ (words : List ℕ) (none : tableRefusal words ≡ 0) where
   abbrev t : List Node
   t = map decode words
 
-  short : Passed {A = ℕ} (ltb 4096 (length words)) (cond (anyFaulty words (length words)) 16 0) 0
-  short = passed (ltb 4096 (length words)) (λ e. omega arith) (passed (eqb (length words) 0) (λ e. omega arith) none .others)
+  short : Passed {A = ℕ} (ltb mostNodes (length words)) (cond (anyFaulty words (length words)) 16 0) 0
+  short = passed (ltb mostNodes (length words)) (λ e. omega arith) (passed (eqb (length words) 0) (λ e. omega arith) none .others)
 
-  few : length words ≤ 4096
-  few = ltb-false 4096 (length words) (short .first)
+  few : length words ≤ mostNodes
+  few = ltb-false mostNodes (length words) (short .first)
 
   sane-at : (i : ℕ) → i < length words → Sane words i
   sane-at i l =

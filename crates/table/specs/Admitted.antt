@@ -13,7 +13,7 @@ use Prim.Native.Nat.{ℕ, zero, suc, _≤_, _<_}
 use lib.Dec.{eqb, ltb, leb}
 use lib.ListN.{length, getD}
 use Rattle.word.specs.declared.Node.{Node}
-use Rattle.word.specs.Word.{rankOf, parentOf, before, key}
+use Rattle.word.specs.Word.{rankOf, parentOf, before, key, mostNodes, mostRank}
 use Rattle.rules.specs.Table.{parent, rank}
 
 abbrev pub wordAt : List ℕ → ℕ → ℕ
@@ -24,7 +24,7 @@ wordAt words i = getD words i 0
 abbrev pub isFaulty : List ℕ → ℕ → Bool
 isFaulty words i =
     cond (leb (length words) (parentOf (wordAt words i))) true
-    (cond (ltb 12 (rankOf (wordAt words i))) true
+    (cond (ltb mostRank (rankOf (wordAt words i))) true
     (before (rankOf (wordAt words (parentOf (wordAt words i)))) (parentOf (wordAt words i)) (rankOf (wordAt words i)) i))
 
 abbrev pub anyFaulty : List ℕ → ℕ → Bool
@@ -35,15 +35,15 @@ anyFaulty words (suc k) = cond (isFaulty words k) true (anyFaulty words k)
 abbrev pub tableRefusal : List ℕ → ℕ
 tableRefusal words =
     cond (eqb (length words) 0) 15
-    (cond (ltb 4096 (length words)) 15
+    (cond (ltb mostNodes (length words)) 15
     (cond (anyFaulty words (length words)) 16 0))
 
 pub record Admitted (n : ℕ) (t : List Node) : Type 0 where
   pub nodes : length t ≡ n
-  pub few : n ≤ 4096
+  pub few : n ≤ mostNodes
   -- every parent is below the length
   pub inside : (i : ℕ) → i < n → parent t i < n
   -- no rank is above 12
-  pub ranks : (i : ℕ) → i < n → rank t i ≤ 12
+  pub ranks : (i : ℕ) → i < n → rank t i ≤ mostRank
   -- every parent that isn't the node itself comes after it
   pub rising : (i : ℕ) → i < n → parent t i ≢ i → key (rank t i) i < key (rank t (parent t i)) (parent t i)

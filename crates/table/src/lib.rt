@@ -16,6 +16,7 @@ use process::joining::ranked;
 use process::walking::halved;
 use process::walking::read_node;
 use word::Node;
+use word::Word;
 ghost use mathlib.Core.Path.{_≡_};
 ghost use mathlib.Core.List.{map};
 ghost use Rattle.word.specs.Word.{decode, encode};
@@ -28,7 +29,7 @@ ghost use Rattle.rules.specs.Table.{seen, touched};
 ghost use Rattle.table.specs.Touch.{Touchable};
 
 // A read: the node that stands there.
-fn load(table: &[u32], node: u16) -> Node
+fn load(table: &[Word], node: u16) -> Node
     requires { ⌜ Touchable (map decode (now table)) (Load node) ⌝ }
     ensures { λ r. ⌜ r ≡ seen (map decode (now (table .entry))) (Load node) ⌝ }
 {
@@ -36,7 +37,7 @@ fn load(table: &[u32], node: u16) -> Node
 }
 
 // A compare-and-swap: it writes only if the word equals the expected one, and tells the node that stood there.
-fn swap(table: &mut [u32], node: u16, expected: Node, new: Node) -> Node
+fn swap(table: &mut [Word], node: u16, expected: Node, new: Node) -> Node
     requires { ⌜ Touchable (map decode (now table)) (Cas node expected new) ⌝ }
     ensures sees { λ r. ⌜ r ≡ seen (map decode (now (table .entry))) (Cas node expected new) ⌝ }
     ensures leaves { λ _. ⌜ now (table .exit) ≡ map encode (touched (map decode (now (table .entry))) (Cas node expected new)) ⌝ }
@@ -50,7 +51,7 @@ fn swap(table: &mut [u32], node: u16, expected: Node, new: Node) -> Node
 }
 
 // One step of a find on a node: its access, and where that leads.
-pub fn walk(table: &mut [u32], node: u16, step: Step) -> Walked
+pub fn walk(table: &mut [Word], node: u16, step: Step) -> Walked
     requires { ⌜ Touchable (map decode (now table)) (findAccess node step) ⌝ }
     ensures leads { λ r. ⌜ r ≡ walked node (seen (map decode (now (table .entry))) (findAccess node step)) step ⌝ }
     ensures leaves { λ _. ⌜ now (table .exit) ≡ map encode (touched (map decode (now (table .entry))) (findAccess node step)) ⌝ }
@@ -79,7 +80,7 @@ pub fn walk(table: &mut [u32], node: u16, step: Step) -> Walked
 
 // One grant of a head: the one access of its stage, and where that leads. In a grant no other function reads or writes
 // the table.
-pub fn stepped(table: &mut [u32], head: Head, number: u32) -> Advanced
+pub fn stepped(table: &mut [Word], head: Head, number: u32) -> Advanced
     requires { ⌜ Touchable (map decode (now table)) (accessOf head) ⌝ }
     requires { ⌜ Raisable (head .stage) ⌝ }
     ensures leads { λ r. ⌜ r ≡ advanceOf head (seen (map decode (now (table .entry))) (accessOf head)) number ⌝ }

@@ -3,6 +3,15 @@ ghost use mathlib.Core.Path.{_≡_};
 ghost use Prim.Native.Nat.{_<_};
 ghost use Rattle.word.specs.Word.{rankOf, parentOf, decode, encode, same, before, rankLimit};
 
+// A table's word.
+pub type Word = u32;
+
+// The most nodes of a table.
+pub const MOST_NODES: usize = 4096;
+
+// The highest rank that a node of a table can have.
+pub const MOST_RANK: u32 = 12;
+
 // What a node's word says: its rank, and its parent (itself for a root).
 pub struct Node {
     pub rank: u8,
@@ -10,21 +19,21 @@ pub struct Node {
 }
 
 // The rank in a word.
-pub fn rank(word: u32) -> u32
+pub fn rank(word: Word) -> u32
     ensures { λ r. ⌜ r ≡ rankOf word ⌝ }
 {
     word / 65536
 }
 
 // The parent in a word.
-pub fn parent(word: u32) -> u32
+pub fn parent(word: Word) -> u32
     ensures { λ r. ⌜ r ≡ parentOf word ⌝ }
 {
     word % 65536
 }
 
 // The node of a word whose rank is within the limit.
-pub fn decoded(word: u32) -> Node
+pub fn decoded(word: Word) -> Node
     requires { ⌜ rankOf word < rankLimit ⌝ }
     ensures { λ r. ⌜ r ≡ decode word ⌝ }
 {
@@ -35,10 +44,10 @@ pub fn decoded(word: u32) -> Node
 }
 
 // The word of a node.
-pub fn encoded(node: Node) -> u32
+pub fn encoded(node: Node) -> Word
     ensures { λ r. ⌜ r ≡ encode node ⌝ }
 {
-    (node.rank as u32) * 65536 + (node.parent as u32)
+    (node.rank as Word) * 65536 + (node.parent as Word)
 }
 
 // Whether two nodes have the same rank and the same parent: what a compare-and-swap compares.
