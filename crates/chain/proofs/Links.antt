@@ -6,15 +6,16 @@ use mathlib.Core.List.{List}
 use Prim.Native.Nat.{ℕ, zero, suc, _-_, _≤_, _<_}
 use native.Mathlib.Omega.{arith}
 use lib.ListN.{length, set, length-set}
+use Rattle.word.specs.Word.{mostNodes}
 use Rattle.chain.specs.Chain.{below}
 
 pub record Linking (start table : List ℕ) (first i : ℕ) : Type 0 where
   pub kept : length table ≡ length start
-  pub few : length start ≤ 4096
+  pub few : length start ≤ mostNodes
   pub inside : i < length start
   pub same : below i table ≡ below first start
 
-pub linking-start : (start : List ℕ) (i : ℕ) → length start ≤ 4096 → i < length start → Linking start start i i
+pub linking-start : (start : List ℕ) (i : ℕ) → length start ≤ mostNodes → i < length start → Linking start start i i
 linking-start start i few inside = record { kept = refl; few = few; inside = inside; same = refl }
 
 -- node i - 1 is linked below node i

@@ -13,12 +13,12 @@ use native.Mathlib.Nat.{zero-add}
 use native.Mathlib.Omega.{arith}
 use lib.ListN.{length, getD, set, drop, length-map, length-set, length-append, drop-of-length-le}
 use lib.Seq.{sets, sets-eq, drop-cons, drop-length}
-use Rattle.word.specs.Word.{encode}
+use Rattle.word.specs.Word.{encode, mostNodes}
 use Rattle.rules.specs.Table.{freshFrom}
 use Rattle.rules.proofs.Table.{length-fresh}
 
 abbrev pub roots : ℕ → List ℕ
-roots i = map encode (freshFrom i (4096 - i))
+roots i = map encode (freshFrom i (mostNodes - i))
 
 -- The array has room for the longest table. No step from a node of the table leads to one past it.
 abbrev pub padded : List ℕ → List ℕ
@@ -59,10 +59,10 @@ module _ {start words now : List ℕ} {i : ℕ} (copying : Copying start words n
   copying-done l = ap (sets now i) (sym (drop-of-length-le words l)) ∙ copying .left
 
 pub record Padding (start : List ℕ) (from : ℕ) (now : List ℕ) (i : ℕ) : Type 0 where
-  pub within : i ≤ 4096
+  pub within : i ≤ mostNodes
   pub left : sets now i (roots i) ≡ sets start from (roots from)
 
-pub padding-start : (start : List ℕ) (from : ℕ) → from ≤ 4096 → Padding start from start from
+pub padding-start : (start : List ℕ) (from : ℕ) → from ≤ mostNodes → Padding start from start from
 padding-start start from l = record { within = l; left = refl }
 
 -- the word of a root is its number
@@ -71,23 +71,23 @@ unfolding encode
 root-word i = omega arith
 
 module _ {start : List ℕ} {from : ℕ} {now : List ℕ} {i : ℕ} (padding : Padding start from now i) where
-  pub padding-on : i < 4096 → Padding start from (set now i i) (i + 1)
+  pub padding-on : i < mostNodes → Padding start from (set now i i) (i + 1)
   padding-on l =
-      let more : 4096 - i ≡ suc (4096 - (i + 1)) = omega arith in
+      let more : mostNodes - i ≡ suc (mostNodes - (i + 1)) = omega arith in
       let next : suc i ≡ i + 1 = omega arith in
       record {
         within = omega arith;
         left =
             write-on now i i (roots i) (roots (i + 1))
             (ap (λ k. map encode (freshFrom i k)) more
-            ∙ ap (λ k. encode (record { rank = 0; parent = i }) ∷ map encode (freshFrom k (4096 - (i + 1)))) next
+            ∙ ap (λ k. encode (record { rank = 0; parent = i }) ∷ map encode (freshFrom k (mostNodes - (i + 1)))) next
             ∙ ap (λ w. w ∷ roots (i + 1)) (root-word i))
             ∙ padding .left;
       }
 
-  pub padding-done : 4096 ≤ i → now ≡ sets start from (roots from)
+  pub padding-done : mostNodes ≤ i → now ≡ sets start from (roots from)
   padding-done l =
-      let none : 4096 - i ≡ 0 = omega arith in
+      let none : mostNodes - i ≡ 0 = omega arith in
       ap (λ k. sets now i (map encode (freshFrom i k))) (sym none) ∙ padding .left
 
 -- ---- whole lists
@@ -107,14 +107,14 @@ sets-after words [] back i k e =
 sets-after words (w ∷ front) back i k e = sets-after (set words i w) front back (suc i) k (omega (arith, e))
 
 -- both loops fill the array
-pub filled : (start words : List ℕ) → length start ≡ 4096 → length words ≤ 4096
+pub filled : (start words : List ℕ) → length start ≡ mostNodes → length words ≤ mostNodes
     → sets (sets start 0 words) (length words) (roots (length words)) ≡ padded words
 filled start words size few =
     sets-after start words (roots (length words)) 0 (length words) (omega arith)
     ∙ sets-all start (padded words) (omega (arith, size, few, padded-length))
   where
-    padded-length : length (padded words) ≡ length words + (4096 - length words)
+    padded-length : length (padded words) ≡ length words + (mostNodes - length words)
     padded-length =
         length-append words (roots (length words))
         ∙ ap (λ k. length words + k)
-        (length-map (freshFrom (length words) (4096 - length words)) encode ∙ length-fresh (length words) (4096 - length words))
+        (length-map (freshFrom (length words) (mostNodes - length words)) encode ∙ length-fresh (length words) (mostNodes - length words))

@@ -47,8 +47,8 @@ use Rattle.rules.specs.Table.{noNode, at, parent, rank, seen, touched}
 use Rattle.rules.proofs.History.{final-number}
 use Rattle.rules.proofs.Finds.{Above, FindKnows}
 use Rattle.rules.proofs.Stages.{Knows}
+use Rattle.table.specs.Admitted.{Admitted}
 use Rattle.query.specs.Query.{granted, steps, sameSet}
-use Rattle.query.specs.Admitted.{Admitted}
 use Rattle.query.proofs.Steps.{Serving, no-union, serving-goes-on, serving-ranks}
 
 -- the find from y follows the find from x
@@ -161,7 +161,8 @@ module _ {n : ℕ} {t : List Node} (r : ℕ → ℕ) (admitted : Admitted n t) (
 
   -- ---- the end of a find
 
-  two-roots : (kind : Kind) → SameSet ≡ kind → parent t (k .x) ≡ k .x → 1 ≤ m → eqb (k .x) (k .y) ≡ false → Goes t (compared k kind (suc used))
+  two-roots : (kind : Kind) → SameSet ≡ kind → parent t (k .x) ≡ k .x → 1 ≤ m → eqb (k .x) (k .y) ≡ false
+      → Goes t (compared k kind (suc used))
   two-roots Union kind root l e = no-union kind
   two-roots SameSet kind root l e = rw e (λ f. record { fixed = root; enough = l })
 
@@ -210,7 +211,8 @@ module _ {n : ℕ} {t : List Node} (r : ℕ → ℕ) (admitted : Admitted n t) (
       apart e = lower (sym (ap (parent t) e) ∙ fixed ∙ e)
 
   halve-goes : (e : Errand) (rank u w : ℕ) → parent t (nodeAt k e) ≢ nodeAt k e → Enough n (parent t) r k (Find e (Halve rank u w)) (suc m)
-      → Goes (touched t (findAccess (nodeAt k e) (Halve rank u w))) (followed k e (suc used) (walked (nodeAt k e) (at t (nodeAt k e)) (Halve rank u w)))
+      → Goes (touched t (findAccess (nodeAt k e) (Halve rank u w)))
+      (followed k e (suc used) (walked (nodeAt k e) (at t (nodeAt k e)) (Halve rank u w)))
   halve-goes e rank u w lower needs =
       let expected : Node = record { rank = rank; parent = u } in
       let fixed = halve-fixed (servesX e) expected (record { rank = rank; parent = w }) lower (needs .fixed) in

@@ -11,11 +11,11 @@ use lib.ListN.{length, take, replicate, length-map, length-append, length-replic
 use lib.Seq.{sets, take-at}
 use borrow.Author.Tests.{eq-eqb, ne-eqb}
 use Rattle.word.specs.declared.Node.{Node}
-use Rattle.word.specs.Word.{decode, encode}
+use Rattle.word.specs.Word.{decode, encode, mostNodes}
 use Rattle.rules.proofs.Table.{length-fresh}
 use Rattle.query.specs.Query.{Result, refusal, steps, queried}
 use Rattle.query.specs.Numbers.{looking, Ready, ended}
-use Rattle.query.proofs.Refusal.{Accepted, accepted, accepted-admitted}
+use Rattle.query.proofs.Refusal.{Accepted, accepted}
 use Rattle.query.proofs.Faithful.{steps-ended, start-serving}
 use Rattle.query.proofs.Copies.{roots, padded, filled}
 use Rattle.query.proofs.Padded.{others, padded-nodes, padded-admitted, extended, steps-padded}
@@ -31,23 +31,23 @@ module _ (words : List ℕ) (x y : ℕ) (none : refusal words x y ≡ 0) where
   good : Accepted words x y
   good = accepted words x y none
 
-  pub enquiry-few : length words ≤ 4096
-  enquiry-few = good .few
+  pub enquiry-few : length words ≤ mostNodes
+  enquiry-few = good .table .few
 
   -- both loops make the array of zeros the padded one
-  pub enquiry-array : (copied array : List ℕ) → copied ≡ sets (replicate 4096 0) 0 words
+  pub enquiry-array : (copied array : List ℕ) → copied ≡ sets (replicate mostNodes 0) 0 words
       → array ≡ sets copied (length words) (roots (length words)) → array ≡ padded words
   enquiry-array copied array copies pads =
       pads
       ∙ ap (λ l. sets l (length words) (roots (length words))) copies
-      ∙ filled (replicate 4096 0) words (length-replicate {A = ℕ} 4096 0) (good .few)
+      ∙ filled (replicate mostNodes 0) words (length-replicate {A = ℕ} mostNodes 0) (good .table .few)
 
   pub enquiry-ready : (array : List ℕ) (budget : ℕ) → array ≡ padded words → budget ≤ 65535 → Ready array x y 0 budget
   enquiry-ready array budget e small =
       record {
-        admitted = rw e (padded-admitted words (good .few) (accepted-admitted good));
-        inside = omega (arith, good .few, good .left);
-        within = omega (arith, good .few, good .right);
+        admitted = rw e (padded-admitted words (good .table));
+        inside = omega (arith, good .table .few, good .left);
+        within = omega (arith, good .table .few, good .right);
         room = omega (arith, small);
       }
 
@@ -56,7 +56,7 @@ module _ (words : List ℕ) (x y : ℕ) (none : refusal words x y ≡ 0) where
     own = steps budget 0 (looking x y false) (map decode words)
 
     abbrev past : List Node
-    past = others words (good .few) (accepted-admitted good)
+    past = others words (good .table)
 
     -- the table has as many words at the end
     own-length : length (own .table) ≡ length words
@@ -70,10 +70,10 @@ module _ (words : List ℕ) (x y : ℕ) (none : refusal words x y ≡ 0) where
       ends : ended number words′ ≡ extended own past
       ends =
           looked
-          ∙ ap (steps budget 0 (looking x y false)) (ap (map decode) is ∙ padded-nodes words (good .few) (accepted-admitted good))
+          ∙ ap (steps budget 0 (looking x y false)) (ap (map decode) is ∙ padded-nodes words (good .table))
           ∙ steps-padded past budget 0 (looking x y false) (map decode words) (start-serving words x y budget good)
 
-      pub enquiry-size : length words′ ≡ 4096
+      pub enquiry-size : length words′ ≡ mostNodes
       enquiry-size =
           ap (λ r. length (r .table)) ends
           ∙ omega (
@@ -81,8 +81,8 @@ module _ (words : List ℕ) (x y : ℕ) (none : refusal words x y ≡ 0) where
             length-append (own .table) (map encode past),
             own-length,
             length-map past encode,
-            length-fresh (length words) (4096 - length words),
-            good .few,
+            length-fresh (length words) (mostNodes - length words),
+            good .table .few,
           )
 
       pub enquired : ended number (take (length words) words′) ≡ queried words x y budget

@@ -25,14 +25,14 @@ use Rattle.forest.specs.Forest as forest
 use Rattle.forest.proofs.Forest.{Labelled, together-label, label-together}
 use Rattle.rules.specs.Report.{isFinal}
 use Rattle.rules.specs.Table.{parent, rank, touched}
-use Rattle.query.specs.Query.{Result, answered, granted, steps, sameSet, refusal, queried}
-use Rattle.query.specs.Admitted.{Admitted}
-use Rattle.query.specs.Faithful.{parentsOf, Faithful}
+use Rattle.table.specs.Admitted.{Admitted}
+use Rattle.table.proofs.Admitted.{admitted-formed, admitted-worded}
 use Rattle.table.proofs.Words.{decode-words}
+use Rattle.query.specs.Query.{Result, answered, granted, steps, sameSet, refusal, queried}
+use Rattle.query.specs.Faithful.{parentsOf, Faithful}
 use Rattle.query.proofs.Labels.{rootLabel, root-labelled}
-use Rattle.query.proofs.Refusal.{Accepted, accepted, accepted-admitted}
+use Rattle.query.proofs.Refusal.{Accepted, accepted}
 use Rattle.query.proofs.Steps.{Says, Serving, serving-step, serving-goes-on, serving-start}
-use Rattle.query.proofs.Words.{admitted-formed, admitted-worded}
 use Rattle.query.proofs.Enough.{steps-enough, start-enough}
 
 pub record Ended (n : ℕ) (B : ℕ → ℕ) (x y limit : ℕ) (result : Result) : Type 0 where
@@ -105,13 +105,13 @@ module _ (words : List ℕ) (x y budget : ℕ) (good : Accepted words x y) where
   start = map decode words
 
   abbrev pub labels : ℕ → ℕ
-  labels = rootLabel (admitted-formed (accepted-admitted good))
+  labels = rootLabel (admitted-formed (good .table))
 
   start-labelled : Labelled (length words) (parent start) labels
-  start-labelled = root-labelled (admitted-formed (accepted-admitted good))
+  start-labelled = root-labelled (admitted-formed (good .table))
 
   pub start-serving : Serving (length words) labels x y start 0 (begin (sameSet x y) 0) Unfinished
-  start-serving = serving-start (accepted-admitted good) start-labelled (record { x = good .left; y = good .right })
+  start-serving = serving-start (good .table) start-labelled (record { x = good .left; y = good .right })
 
   module _ (result : Result) (end : Ended (length words) labels x y budget result) where
     end-nodes : map decode (result .table) ≡ end .nodes
@@ -121,8 +121,8 @@ module _ (words : List ℕ) (x y budget : ℕ) (good : Accepted words x y) where
         → forest.Together (parentsOf words) i j ↔ forest.Together (parent (end .nodes)) i j
     same-sets i j inside-i inside-j = (
       λ z. label-together (admitted-formed (end .admitted)) (end .labelled) i j inside-i inside-j
-          (together-label (admitted-formed (accepted-admitted good)) start-labelled i j inside-i inside-j z),
-      λ z. label-together (admitted-formed (accepted-admitted good)) start-labelled i j inside-i inside-j
+          (together-label (admitted-formed (good .table)) start-labelled i j inside-i inside-j z),
+      λ z. label-together (admitted-formed (good .table)) start-labelled i j inside-i inside-j
           (together-label (admitted-formed (end .admitted)) (end .labelled) i j inside-i inside-j z),
     )
 
@@ -133,8 +133,8 @@ module _ (words : List ℕ) (x y budget : ℕ) (good : Accepted words x y) where
           sets = λ i j inside-i inside-j.
               subst (λ t. forest.Together (parentsOf words) i j ↔ forest.Together (parent t) i j) (sym end-nodes)
               (same-sets i j inside-i inside-j);
-          yes = λ e. label-together (admitted-formed (accepted-admitted good)) start-labelled x y (good .left) (good .right) (end .yes e);
-          no = λ e z. end .no e (together-label (admitted-formed (accepted-admitted good)) start-labelled x y (good .left) (good .right) z);
+          yes = λ e. label-together (admitted-formed (good .table)) start-labelled x y (good .left) (good .right) (end .yes e);
+          no = λ e z. end .no e (together-label (admitted-formed (good .table)) start-labelled x y (good .left) (good .right) z);
           within = end .within;
           spent = end .spent;
           enough = enough;

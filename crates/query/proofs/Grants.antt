@@ -26,10 +26,10 @@ use Rattle.process.specs.Access.{accessOf}
 use Rattle.process.specs.Advance.{advanceOf}
 use Rattle.rules.specs.Table.{at, parent, touched}
 use Rattle.linearization.proofs.Tests.{split}
+use Rattle.table.specs.Admitted.{Admitted}
+use Rattle.table.proofs.Admitted.{words-kept}
 use Rattle.query.specs.Query.{answered, steps}
-use Rattle.query.specs.Admitted.{Admitted}
 use Rattle.query.specs.Numbers.{errandOf, headAt, looking, moving, packed, ended}
-use Rattle.query.proofs.Words.{words-kept}
 
 abbrev pub swapping : ℕ → ℕ → Bool → Node → ℕ → Head
 swapping node other fromY w above = headAt node other fromY (Find (errandOf fromY) (Halve (w .rank) (w .parent) above))

@@ -16,8 +16,8 @@ use Rattle.rules.specs.Table.{parent, rank}
 use Rattle.rules.proofs.Table.{parent-changed, rank-changed}
 use Rattle.rules.proofs.Finds.{stored, Halved}
 use Rattle.rules.proofs.Finds.Halved.{kept, written}
-use Rattle.query.specs.Admitted.{Admitted}
-use Rattle.query.proofs.Words.{admitted-formed}
+use Rattle.table.specs.Admitted.{Admitted}
+use Rattle.table.proofs.Admitted.{admitted-formed}
 
 pub record Kept (n : ℕ) (t t′ : List Node) (B : ℕ → ℕ) : Type 0 where
   pub admitted : Admitted n t′

@@ -1,5 +1,4 @@
 -- The laws behind the enquiry, file by file from the bottom.
-pub mod Words
 pub mod Labels
 pub mod Refusal
 pub mod Halving
@@ -8,7 +7,6 @@ pub mod Looks
 pub mod Moves
 pub mod Copies
 pub mod Steps
-pub mod Walk
 pub mod Enough
 pub mod Faithful
 pub mod Padded

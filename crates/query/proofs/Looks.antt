@@ -15,9 +15,10 @@ use Rattle.word.specs.declared.Node.{Node}
 use Rattle.word.specs.Word.{parentOf, decode}
 use Rattle.process.specs.declared.Head.{Head}
 use Rattle.rules.specs.Table.{parent}
-use Rattle.query.specs.Query.{Result, wordAt, steps}
+use Rattle.table.specs.Admitted.{wordAt}
+use Rattle.table.proofs.Admitted.{admitted-at}
+use Rattle.query.specs.Query.{Result, steps}
 use Rattle.query.specs.Numbers.{looking, moving, Ready, packed, ended}
-use Rattle.query.proofs.Words.{admitted-at}
 use Rattle.query.proofs.Grants.{rereading, look-moves, look-turns, look-meets, look-differs, reread-root, reread-lower}
 use Rattle.query.proofs.Grants.{told-answer, spent}
 

@@ -13,17 +13,17 @@ use Rattle.linearization.proofs.Tests.{split}
 use Rattle.mask.proofs.Lists.{set-mapped}
 use Rattle.job.specs.declared.Answer.the-variants.{Unfinished}
 use Rattle.word.specs.declared.Node.{Node}
-use Rattle.word.specs.Word.{rankOf, parentOf, decode, encode, same}
+use Rattle.word.specs.Word.{rankOf, parentOf, decode, encode, same, mostNodes, mostRank}
 use Rattle.word.proofs.Laws.{same-true, encode-decode}
 use Rattle.process.specs.declared.Access.the-variants.{Cas}
 use Rattle.forest.proofs.Halving.{Halving}
 use Rattle.rules.specs.Table.{at, parent, rank, touched}
 use Rattle.rules.proofs.Finds.{Above, own-parent, above-parent}
+use Rattle.table.specs.Admitted.{wordAt, Admitted}
+use Rattle.table.proofs.Admitted.{admitted-formed, admitted-worded, admitted-at, words-kept}
 use Rattle.table.proofs.Words.{decode-words}
-use Rattle.query.specs.Query.{wordAt, steps}
-use Rattle.query.specs.Admitted.{Admitted}
+use Rattle.query.specs.Query.{steps}
 use Rattle.query.specs.Numbers.{looking, moving, Ready, Lower, packed, ended}
-use Rattle.query.proofs.Words.{admitted-formed, admitted-worded, admitted-at, words-kept}
 use Rattle.query.proofs.Labels.{rootLabel, root-labelled}
 use Rattle.query.proofs.Halving.{halved-admitted}
 use Rattle.query.proofs.Grants.{swapping, again, move-reads, move-swaps, move-ends, spent}
@@ -45,8 +45,8 @@ swap-admitted {n} {t} admitted v node lower =
     may = record { node = node; target = above .node; lower = lower; rank = refl; same = above .same; before = above .before }
 
 -- a swap that compares words compares their nodes
-module _ (words : List ℕ) (node word above : ℕ) (admitted : Admitted 4096 (map decode words)) (inside : node < 4096)
-    (low : rankOf word ≤ 12) where
+module _ (words : List ℕ) (node word above : ℕ) (admitted : Admitted mostNodes (map decode words)) (inside : node < mostNodes)
+    (low : rankOf word ≤ mostRank) where
   abbrev new : Node
   new = record { rank = rankOf word; parent = above }
 
@@ -88,17 +88,17 @@ module _ {words : List ℕ} {node other used left : ℕ} (ready : Ready words no
   own-parent-up : parent t node ≡ up
   own-parent-up = ap (λ v. v .parent) own ∙ sym its
 
-  pub own-rank : rankOf word ≤ 12
+  pub own-rank : rankOf word ≤ mostRank
   own-rank = omega (arith, ready .admitted .ranks node (ready .inside), ap (λ v. v .rank) own)
 
-  pub up-inside : up < 4096
+  pub up-inside : up < mostNodes
   up-inside = omega (arith, ready .admitted .inside node (ready .inside), own-parent-up)
 
   module _ {above : ℕ} (seen : above ≡ parentOf (wordAt words up)) where
     grandparent : parent t up ≡ above
     grandparent = ap (λ v. v .parent) (admitted-at words (ready .admitted) up up-inside) ∙ sym seen
 
-    pub above-inside : above < 4096
+    pub above-inside : above < mostNodes
     above-inside = omega (arith, ready .admitted .inside up up-inside, grandparent)
 
     abbrev swapped : List Node
@@ -119,14 +119,14 @@ module _ {words : List ℕ} {node other used left : ℕ} (ready : Ready words no
         (omega (arith, one, ready .room)) told
         ∙ sym (moved-once fromY (omega (arith, one)))
 
-    swapped-admitted : Admitted 4096 swapped
+    swapped-admitted : Admitted mostNodes swapped
     swapped-admitted =
         let to-above : parent t (parent t node) ≡ above = ap (parent t) own-parent-up ∙ grandparent in
         subst
-        (λ w. Admitted 4096 (touched t (Cas node w (record { rank = w .rank; parent = above }))))
+        (λ w. Admitted mostNodes (touched t (Cas node w (record { rank = w .rank; parent = above }))))
         own
         (subst
-        (λ u. Admitted 4096 (touched t (Cas node (at t node) (record { rank = rank t node; parent = u }))))
+        (λ u. Admitted mostNodes (touched t (Cas node (at t node) (record { rank = rank t node; parent = u }))))
         to-above
         (swap-admitted (ready .admitted) node (ready .inside) (λ e. lower .lower (sym its ∙ sym own-parent-up ∙ e))))
 
@@ -134,8 +134,8 @@ module _ {words : List ℕ} {node other used left : ℕ} (ready : Ready words no
       nodes′ : map decode words′ ≡ swapped
       nodes′ = ap (map decode) leaves ∙ decode-words swapped (admitted-worded swapped-admitted)
 
-      admitted′ : Admitted 4096 (map decode words′)
-      admitted′ = subst (Admitted 4096) (sym nodes′) swapped-admitted
+      admitted′ : Admitted mostNodes (map decode words′)
+      admitted′ = subst (Admitted mostNodes) (sym nodes′) swapped-admitted
 
       moved-twice : (fromY : Bool) → 2 ≤ left
           → steps left used (moving node other fromY (decode word)) t

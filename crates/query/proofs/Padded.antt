@@ -15,7 +15,7 @@ use Rattle.linearization.proofs.Tests.{split}
 use Rattle.job.specs.declared.Answer.{Answer}
 use Rattle.job.specs.declared.Answer.the-variants.{Unfinished}
 use Rattle.word.specs.declared.Node.{Node}
-use Rattle.word.specs.Word.{decode, encode, same, key}
+use Rattle.word.specs.Word.{decode, encode, same, key, mostNodes, mostRank}
 use Rattle.process.specs.declared.Access.{Access}
 use Rattle.process.specs.declared.Access.the-variants.{Idle, Load, Cas}
 use Rattle.process.specs.declared.Head.{Head}
@@ -23,11 +23,11 @@ use Rattle.process.specs.Access.{accessOf}
 use Rattle.rules.specs.Report.{isFinal}
 use Rattle.rules.specs.Table.{noNode, at, parent, rank, freshFrom, seen, touched}
 use Rattle.rules.proofs.Table.{length-fresh}
+use Rattle.table.specs.Admitted.{Admitted}
 use Rattle.table.specs.Touch.{Within}
+use Rattle.table.proofs.Admitted.{admitted-worded, words-kept}
 use Rattle.table.proofs.Words.{decode-words}
 use Rattle.query.specs.Query.{Result, answered, granted, steps}
-use Rattle.query.specs.Admitted.{Admitted}
-use Rattle.query.proofs.Words.{admitted-worded, words-kept}
 use Rattle.query.proofs.Copies.{padded}
 use Rattle.query.proofs.Steps.{Serving, serving-within, serving-goes-on}
 
@@ -40,7 +40,7 @@ fresh-at i (suc n) (suc j) l =
     let e : suc i + j ≡ i + suc j = omega arith in
     fresh-at (suc i) n j (omega arith) ∙ ap (λ k. record { rank = 0; parent = k }) e
 
-module _ {n : ℕ} {t : List Node} (admitted : Admitted n t) (k : ℕ) (room : n + k ≤ 4096) where
+module _ {n : ℕ} {t : List Node} (admitted : Admitted n t) (k : ℕ) (room : n + k ≤ mostNodes) where
   abbrev longer : List Node
   longer = t ++ freshFrom n k
 
@@ -85,7 +85,7 @@ module _ {n : ℕ} {t : List Node} (admitted : Admitted n t) (k : ℕ) (room : n
   longer-inside i l (low m e) = omega (arith, ap (λ v. v .parent) e, admitted .inside i m)
   longer-inside i l (high e) = omega (arith, ap (λ v. v .parent) e, l)
 
-  longer-ranks : (i : ℕ) → Place i → rank longer i ≤ 12
+  longer-ranks : (i : ℕ) → Place i → rank longer i ≤ mostRank
   longer-ranks i (low m e) = omega (arith, ap (λ v. v .rank) e, admitted .ranks i m)
   longer-ranks i (high e) = omega (arith, ap (λ v. v .rank) e)
 
@@ -99,14 +99,15 @@ module _ {n : ℕ} {t : List Node} (admitted : Admitted n t) (k : ℕ) (room : n
         rising = λ i l. longer-rising i (place i l);
       }
 
-module _ (words : List ℕ) (few : length words ≤ 4096) (admitted : Admitted (length words) (map decode words)) where
+module _ (words : List ℕ) (admitted : Admitted (length words) (map decode words)) where
   abbrev pub others : List Node
-  others = freshFrom (length words) (4096 - length words)
+  others = freshFrom (length words) (mostNodes - length words)
 
-  whole : Admitted 4096 (map decode words ++ others)
+  whole : Admitted mostNodes (map decode words ++ others)
   whole =
-      let size : length words + (4096 - length words) ≡ 4096 = omega (arith, few) in
-      subst (λ n. Admitted n (map decode words ++ others)) size (longer-admitted admitted (4096 - length words) (omega (arith, few)))
+      let size : length words + (mostNodes - length words) ≡ mostNodes = omega (arith, admitted .few) in
+      subst (λ n. Admitted n (map decode words ++ others)) size
+      (longer-admitted admitted (mostNodes - length words) (omega (arith, admitted .few)))
 
   pub padded-nodes : map decode (padded words) ≡ map decode words ++ others
   padded-nodes =
@@ -114,8 +115,8 @@ module _ (words : List ℕ) (few : length words ≤ 4096) (admitted : Admitted (
       ∙ ap (map decode) (sym (map-append encode (map decode words) others))
       ∙ decode-words (map decode words ++ others) (admitted-worded whole)
 
-  pub padded-admitted : Admitted 4096 (map decode (padded words))
-  padded-admitted = subst (Admitted 4096) (sym padded-nodes) whole
+  pub padded-admitted : Admitted mostNodes (map decode (padded words))
+  padded-admitted = subst (Admitted mostNodes) (sym padded-nodes) whole
 
 -- ---- the steps are the same
 

@@ -42,11 +42,11 @@ use Rattle.rules.proofs.Finds.{Walks, find-walks, find-halved}
 use Rattle.rules.proofs.Stages.{Inside, Finding, Searching, Rereading, Knows, find-node, finding-begin, restart-knows}
 use Rattle.rules.proofs.Steps.{ends-one, ends-two, finding-moved}
 use Rattle.rules.proofs.FindSteps.{next-kind}
+use Rattle.table.specs.Admitted.{Admitted}
 use Rattle.table.specs.Touch.{Within}
+use Rattle.table.proofs.Admitted.{admitted-formed}
 use Rattle.table.proofs.Within.{access-within}
 use Rattle.query.specs.Query.{granted, sameSet}
-use Rattle.query.specs.Admitted.{Admitted}
-use Rattle.query.proofs.Words.{admitted-formed}
 use Rattle.query.proofs.Halving.{Kept, unwritten, halved-keeps}
 
 abbrev pub Says : (ℕ → ℕ) → ℕ → ℕ → Answer → Type 0
@@ -114,7 +114,8 @@ module _ {n : ℕ} (B : ℕ → ℕ) {a b : ℕ} (inside : Inside n (sameSet a b
               (λ s. eqb-false (k .x) (k .y) e (after .labelled .apart (k .x) (k .y) (f .left) (f .right) r root s));
         }))
 
-    one-node : (kind : Kind) → Finding n B (sameSet a b) kind (k .x) (k .y) → eqb (k .x) (k .y) ≡ true → Next t′ (compared k kind (suc used))
+    one-node : (kind : Kind) → Finding n B (sameSet a b) kind (k .x) (k .y) → eqb (k .x) (k .y) ≡ true
+        → Next t′ (compared k kind (suc used))
     one-node Union f e = no-union (f .kind)
     one-node SameSet f e = rw e (answers Yes refl (ends-one (f .ends) (eqb-true (k .x) (k .y) e)))
 
@@ -144,7 +145,8 @@ module _ {n : ℕ} (B : ℕ → ℕ) {a b : ℕ} (inside : Inside n (sameSet a b
       pub find-keeps : Kept n t (touched t (findAccess (nodeAt k e) s)) B
       find-keeps = halved-keeps admitted labelled (find-halved t (admitted .nodes) (admitted-formed admitted) labelled node s (knows .find))
 
-      find-step : Next (touched t (findAccess (nodeAt k e) s)) (followed k e (suc used) (walked (nodeAt k e) (seen t (findAccess (nodeAt k e) s)) s))
+      find-step : Next (touched t (findAccess (nodeAt k e) s))
+          (followed k e (suc used) (walked (nodeAt k e) (seen t (findAccess (nodeAt k e) s)) s))
       find-step =
           follows find-keeps e (knows .finding) (walked (nodeAt k e) (seen t (findAccess (nodeAt k e) s)) s)
           (find-walks t (admitted .nodes) (admitted-formed admitted) labelled node s (knows .find))

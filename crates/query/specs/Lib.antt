@@ -1,6 +1,5 @@
 -- The counter enquiry: its refusals, its steps and its result; what its inner functions' numbers stand for; cases.
 pub mod Query
-pub mod Admitted
 pub mod Numbers
 pub mod Faithful
 pub mod Cases

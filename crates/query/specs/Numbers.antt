@@ -18,7 +18,7 @@ use Prim.Native.Nat.{ℕ, _+_, _*_, _/_, _%_, _≤_, _<_}
 use Rattle.job.specs.declared.Answer.{Answer}
 use Rattle.job.specs.Job.{answerNumber}
 use Rattle.word.specs.declared.Node.{Node}
-use Rattle.word.specs.Word.{parentOf, decode}
+use Rattle.word.specs.Word.{parentOf, decode, mostNodes}
 use Rattle.process.specs.declared.Step.the-variants.{ReadNode, ReadParent}
 use Rattle.process.specs.declared.Errand.{Errand}
 use Rattle.process.specs.declared.Errand.the-variants.{SameX, SameY}
@@ -26,9 +26,9 @@ use Rattle.process.specs.declared.Stage.{Stage}
 use Rattle.process.specs.declared.Stage.the-variants.{Find}
 use Rattle.process.specs.declared.Head.{Head}
 use Rattle.process.specs.Process.{noWait}
+use Rattle.table.specs.Admitted.{wordAt, Admitted}
 use Rattle.query.specs.declared.Queried.{Queried}
-use Rattle.query.specs.Query.{wordAt, Result}
-use Rattle.query.specs.Admitted.{Admitted}
+use Rattle.query.specs.Query.{Result}
 
 -- A find serves x or y.
 abbrev pub errandOf : Bool → Errand
@@ -50,9 +50,9 @@ moving node other fromY w = headAt node other fromY (Find (errandOf fromY) (Read
 
 -- The array has 4,096 words, all admitted.
 pub record Ready (words : List ℕ) (node other used left : ℕ) : Type 0 where
-  pub admitted : Admitted 4096 (map decode words)
-  pub inside : node < 4096
-  pub within : other < 4096
+  pub admitted : Admitted mostNodes (map decode words)
+  pub inside : node < mostNodes
+  pub within : other < mostNodes
   -- no more grants than the largest budget
   pub room : used + left ≤ 65535
 

@@ -1,26 +1,24 @@
 -- Document 01, "Counter enquiry", and refusals 15 and 16: a same-set alone on a lent table, with a budget of grants
 -- (document 01: allowance).
 --
---   isFaulty words i           the word of node i cannot stand in a table
---   anyFaulty words k          one of the first k words cannot
 --   refusal words x y          the refusal's number, 0 for none
 --   Result                     what the caller is told, and the words at exit
 --   answered a used t          the result of an enquiry that was told a after so many grants
 --   steps budget used h t      the steps of head h on the table t, after the grants used so far
 --   sameSet x y                the request that the enquiry serves
 --   queried words x y budget   the enquiry
-use mathlib.Core.Bool.{Bool, true, false, cond}
+use mathlib.Core.Bool.{cond}
 use mathlib.Core.List.{List, map}
 use Prim.Native.Nat.{ℕ, zero, suc}
-use lib.Dec.{eqb, ltb, leb}
-use lib.ListN.{length, getD}
+use lib.Dec.{eqb, leb}
+use lib.ListN.{length}
 use Rattle.job.specs.declared.Kind.the-variants.{SameSet}
 use Rattle.job.specs.declared.Answer.{Answer}
 use Rattle.job.specs.declared.Answer.the-variants.{Unfinished}
 use Rattle.job.specs.declared.Request.{Request}
 use Rattle.job.specs.Job.{answerNumber}
 use Rattle.word.specs.declared.Node.{Node}
-use Rattle.word.specs.Word.{rankOf, parentOf, decode, encode, before}
+use Rattle.word.specs.Word.{decode, encode}
 use Rattle.process.specs.declared.Head.{Head}
 use Rattle.process.specs.declared.Advanced.{Advanced}
 use Rattle.process.specs.Process.{begin}
@@ -28,31 +26,16 @@ use Rattle.process.specs.Access.{accessOf}
 use Rattle.process.specs.Advance.{advanceOf}
 use Rattle.rules.specs.Report.{isFinal}
 use Rattle.rules.specs.Table.{seen, touched}
+use Rattle.table.specs.Admitted.{tableRefusal}
 use Rattle.query.specs.declared.Queried.{Queried}
 
-abbrev pub wordAt : List ℕ → ℕ → ℕ
-wordAt words i = getD words i 0
-
--- 16: a word has a parent not below the length, a rank above 12, or a parent other than itself that comes before it
--- (no node comes before itself).
-abbrev pub isFaulty : List ℕ → ℕ → Bool
-isFaulty words i =
-    cond (leb (length words) (parentOf (wordAt words i))) true
-    (cond (ltb 12 (rankOf (wordAt words i))) true
-    (before (rankOf (wordAt words (parentOf (wordAt words i)))) (parentOf (wordAt words i)) (rankOf (wordAt words i)) i))
-
-abbrev pub anyFaulty : List ℕ → ℕ → Bool
-anyFaulty words zero = false
-anyFaulty words (suc k) = cond (isFaulty words k) true (anyFaulty words k)
-
--- 15: the table is empty or over 4,096, or a place isn't below its length. Checked before 16.
+-- 15: the table is empty or over 4,096, or a place isn't below its length. Checked before 16. (The table's own refusal is 15 or
+-- 16; so the places, which give 15 alone, are looked at first.)
 unfoldable pub refusal : List ℕ → ℕ → ℕ → ℕ
 refusal words x y =
-    cond (eqb (length words) 0) 15
-    (cond (ltb 4096 (length words)) 15
-    (cond (leb (length words) x) 15
+    cond (leb (length words) x) 15
     (cond (leb (length words) y) 15
-    (cond (anyFaulty words (length words)) 16 0))))
+    (tableRefusal words))
 
 pub record Result : Type 0 where
   pub queried : Queried

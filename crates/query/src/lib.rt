@@ -1,19 +1,24 @@
-// The counter enquiry of document 01: a same-set alone on a lent table, with a budget of grants; and the walk to a root.
+// The counter enquiry of document 01: a same-set alone on a lent table, with a budget of grants.
 use job::Answer;
+use table::admission::table_refusal;
+use word::MOST_NODES;
 use word::Node;
+use word::Word;
 ghost use mathlib.Core.Path.{_≡_};
 ghost use mathlib.Core.List.{map};
 ghost use Prim.Native.Nat.{_-_, _<_, _≤_};
 ghost use lib.ListN.{length, take};
 ghost use lib.Seq.{sets};
-ghost use Rattle.word.specs.Word.{rankOf, before, decode, encode};
+ghost use Rattle.word.specs.Word.{rankOf, decode, encode, mostNodes, mostRank};
 ghost use Rattle.process.specs.declared.Access.the-variants.{Cas};
-ghost use Rattle.forest.specs.Forest.{Leads};
-ghost use Rattle.rules.specs.Table.{parent, freshFrom, touched};
-ghost use Rattle.query.specs.Query.{isFaulty, anyFaulty, refusal, steps, queried};
-ghost use Rattle.query.specs.Admitted.{Admitted};
+ghost use Rattle.rules.specs.Table.{freshFrom, touched};
+ghost use Rattle.table.specs.Admitted.{Admitted};
+ghost use Rattle.query.specs.Query.{refusal, steps, queried};
 ghost use Rattle.query.specs.Numbers.{looking, moving, Ready, Lower, packed as Numbers·packed, told as Numbers·told, ended};
 ghost use Rattle.query.specs.Faithful.{Faithful};
+
+// The array that an enquiry is made on: as many words as the longest table has.
+type Nodes = [Word; MOST_NODES];
 
 // What an enquiry is told: 0, its answer (3 yes, 4 no, 0 spent) and the grants used; or a refusal's number and zeros.
 #[repr(C)]
@@ -23,74 +28,18 @@ pub struct Queried {
     pub used: u32,
 }
 
-// The order of nodes, on ranks that are not yet known to be admitted.
-fn stands_before(a_rank: u32, a: u32, b_rank: u32, b: u32) -> bool
-    ensures { λ r. ⌜ r ≡ before «a_rank» a «b_rank» b ⌝ }
-{
-    if a_rank == b_rank {
-        a < b
-    } else {
-        a_rank < b_rank
-    }
-}
-
-// Whether the word of node i cannot stand in this table.
-fn is_faulty(table: &[u32], i: u32) -> bool
-    requires { ⌜ i < length (now table) ⌝ }
-    ensures { λ r. ⌜ r ≡ isFaulty (now (table .entry)) i ⌝ }
-{
-    let word = table[i as usize];
-    let parent = word::parent(word);
-    if table.len() <= (parent as usize) {
-        return true;
-    }
-    if 12 < word::rank(word) {
-        return true;
-    }
-    stands_before(
-        word::rank(table[parent as usize]),
-        parent,
-        word::rank(word),
-        i,
-    )
-}
-
-// Whether any word cannot stand in this table.
-fn has_faulty(table: &[u32]) -> bool
-    requires { ⌜ length (now table) ≤ 4096 ⌝ }
-    ensures { λ r. ⌜ r ≡ anyFaulty (now (table .entry)) (length (now (table .entry))) ⌝ }
-{
-    let mut i = table.len() as u32;
-    while 0 < i {
-        i -= 1;
-        if is_faulty(table, i) {
-            return true;
-        }
-    }
-    false
-}
-
 // The number of the refusal, 0 for none.
-fn refusal_of(table: &[u32], x: u32, y: u32) -> u32
+fn refusal_of(table: &[Word], x: u32, y: u32) -> u32
     ensures { λ r. ⌜ r ≡ refusal (now (table .entry)) x y ⌝ }
 {
     let nodes = table.len();
-    if nodes == 0 {
-        return 15;
-    }
-    if 4096 < nodes {
-        return 15;
-    }
     if nodes <= (x as usize) {
         return 15;
     }
     if nodes <= (y as usize) {
         return 15;
     }
-    if has_faulty(table) {
-        return 16;
-    }
-    0
+    table_refusal(table)
 }
 
 // The end of an enquiry as one number: the answer's number and the grants used.
@@ -113,9 +62,9 @@ fn told(end: u32) -> Queried
 }
 
 // A find's swap, from the word read to the same rank with the parent `above`.
-fn halve(table: &mut [u32; 4096], node: u32, word: u32, above: u32)
-    requires { ⌜ Admitted 4096 (map decode (now table)) ⌝ }
-    requires { ⌜ (node < 4096) × (rankOf word ≤ 12) × (above < 4096) ⌝ }
+fn halve(table: &mut Nodes, node: u32, word: Word, above: u32)
+    requires { ⌜ Admitted mostNodes (map decode (now table)) ⌝ }
+    requires { ⌜ (node < mostNodes) × (rankOf word ≤ mostRank) × (above < mostNodes) ⌝ }
     ensures { λ _. ⌜ now (table .exit) ≡ map encode (touched (map decode (now (table .entry)))
         (Cas node (decode word) (record { rank = rankOf word; parent = above }))) ⌝ }
 {
@@ -129,7 +78,7 @@ fn halve(table: &mut [u32; 4096], node: u32, word: u32, above: u32)
 
 // Looks at a node: one grant, after which the enquiry moves on from it, or its find ends there. The find from x hands on
 // to the find from y; that one compares, and where the two differ, the next grant reads x's word again.
-fn look(table: &mut [u32; 4096], node: u32, other: u32, from_y: bool, used: u32, left: u32) -> u32
+fn look(table: &mut Nodes, node: u32, other: u32, from_y: bool, used: u32, left: u32) -> u32
     requires { ⌜ Ready (now table) node other used left ⌝ }
     ensures { λ r. ⌜ ended r (now (table .exit))
         ≡ steps left used (looking node other «from_y») (map decode (now (table .entry))) ⌝ }
@@ -159,11 +108,11 @@ fn look(table: &mut [u32; 4096], node: u32, other: u32, from_y: bool, used: u32,
 // Moves on from a node whose word was read and is no root's: reads its parent's word, swaps, reads the parent's word
 // again, and looks at the node that it names. The grants may end before each of the three.
 fn move_on(
-    table: &mut [u32; 4096],
+    table: &mut Nodes,
     node: u32,
     other: u32,
     from_y: bool,
-    word: u32,
+    word: Word,
     used: u32,
     left: u32,
 ) -> u32
@@ -189,8 +138,8 @@ fn move_on(
 }
 
 // Copies a table's words to the front of the array.
-fn copy_in(nodes: &mut [u32; 4096], table: &[u32])
-    requires { ⌜ length (now table) ≤ 4096 ⌝ }
+fn copy_in(nodes: &mut Nodes, table: &[Word])
+    requires { ⌜ length (now table) ≤ mostNodes ⌝ }
     ensures { λ _. ⌜ now (nodes .exit) ≡ sets (now (nodes .entry)) 0 (now (table .entry)) ⌝ }
 {
     let mut i = 0;
@@ -201,20 +150,20 @@ fn copy_in(nodes: &mut [u32; 4096], table: &[u32])
 }
 
 // Makes each node of the array, from one on, a root.
-fn pad(nodes: &mut [u32; 4096], from: usize)
-    requires { ⌜ from ≤ 4096 ⌝ }
-    ensures { λ _. ⌜ now (nodes .exit) ≡ sets (now (nodes .entry)) from (map encode (freshFrom from (4096 - from))) ⌝ }
+fn pad(nodes: &mut Nodes, from: usize)
+    requires { ⌜ from ≤ mostNodes ⌝ }
+    ensures { λ _. ⌜ now (nodes .exit) ≡ sets (now (nodes .entry)) from (map encode (freshFrom from (mostNodes - from))) ⌝ }
 {
     let mut i = from;
-    while i < 4096 {
-        nodes[i] = i as u32;
+    while i < MOST_NODES {
+        nodes[i] = i as Word;
         i += 1;
     }
 }
 
 // Copies the array's front back to the table.
-fn copy_out(table: &mut [u32], nodes: &[u32; 4096])
-    requires { ⌜ (length (now table) ≤ 4096) × (length (now nodes) ≡ 4096) ⌝ }
+fn copy_out(table: &mut [Word], nodes: &Nodes)
+    requires { ⌜ (length (now table) ≤ mostNodes) × (length (now nodes) ≡ mostNodes) ⌝ }
     ensures { λ _. ⌜ now (table .exit) ≡ take (length (now (table .entry))) (now (nodes .entry)) ⌝ }
 {
     let mut i = 0;
@@ -225,11 +174,11 @@ fn copy_out(table: &mut [u32], nodes: &[u32; 4096])
 }
 
 // Makes the enquiry on an array of its own, and gives the words back.
-fn enquire(table: &mut [u32], x: u32, y: u32, budget: u16) -> u32
+fn enquire(table: &mut [Word], x: u32, y: u32, budget: u16) -> u32
     requires { ⌜ refusal (now table) x y ≡ 0 ⌝ }
     ensures { λ r. ⌜ ended r (now (table .exit)) ≡ queried (now (table .entry)) x y budget ⌝ }
 {
-    let mut nodes = [0u32; 4096];
+    let mut nodes = [0; MOST_NODES];
     copy_in(&mut nodes, table);
     pad(&mut nodes, table.len());
     let end = look(&mut nodes, x, y, false, 0, budget as u32);
@@ -239,7 +188,7 @@ fn enquire(table: &mut [u32], x: u32, y: u32, budget: u16) -> u32
 
 // Makes an enquiry: are x and y in one set, within a budget of grants? Refused, it writes nothing. Whatever the budget,
 // the sets stay, and yes and no are right.
-pub fn query(table: &mut [u32], x: u32, y: u32, budget: u16) -> Queried
+pub fn query(table: &mut [Word], x: u32, y: u32, budget: u16) -> Queried
     ensures exact { λ r. ⌜ record { queried = r; table = now (table .exit) } ≡ queried (now (table .entry)) x y budget ⌝ }
     ensures faithful { λ r. ⌜ (r .number ≡ 0
         → Faithful (now (table .entry)) x y budget (record { queried = r; table = now (table .exit) })) ⌝ }
@@ -253,17 +202,4 @@ pub fn query(table: &mut [u32], x: u32, y: u32, budget: u16) -> Queried
         };
     }
     told(enquire(table, x, y, budget))
-}
-
-// The root that a node of an admitted table leads to, by a plain walk.
-pub fn root_of(table: &[u32], node: u32) -> u32
-    requires { ⌜ Admitted (length (now table)) (map decode (now table)) ⌝ }
-    requires { ⌜ node < length (now table) ⌝ }
-    ensures { λ r. ⌜ Leads (parent (map decode (now (table .entry)))) node r ⌝ }
-{
-    let above = word::parent(table[node as usize]);
-    if above == node {
-        return node;
-    }
-    root_of(table, above)
 }

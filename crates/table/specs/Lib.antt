@@ -1,2 +1,3 @@
--- What an access to the table asks of it; what it sees and leaves is said by the rules (`rules/specs/Table`).
+-- A table that a host lends, and what is admitted; what an access asks of a table (what it sees and leaves: `rules/specs/Table`).
+pub mod Admitted
 pub mod Touch

@@ -1,4 +1,6 @@
-// The shared table of words: one grant of a head on it, the one access and where it leads together.
+// The shared table of words: one grant of a head on it, the one access and where it leads together; and a table that a host lends.
+pub mod admission;
+
 use process::Advanced;
 use process::Errand;
 use process::Head;
@@ -15,6 +17,7 @@ use process::joining::linking;
 use process::joining::raising;
 use process::joining::ranked;
 use word::Node;
+use word::Word;
 ghost use mathlib.Core.Path.{_≡_};
 ghost use mathlib.Core.List.{map};
 ghost use Rattle.word.specs.Word.{decode, encode};
@@ -27,7 +30,7 @@ ghost use Rattle.rules.specs.Table.{seen, touched};
 ghost use Rattle.table.specs.Touch.{Touchable};
 
 // A read: the node that stands there.
-fn load(table: &[u32], node: u16) -> Node
+fn load(table: &[Word], node: u16) -> Node
     requires { ⌜ Touchable (map decode (now table)) (Load node) ⌝ }
     ensures { λ r. ⌜ r ≡ seen (map decode (now (table .entry))) (Load node) ⌝ }
 {
@@ -35,7 +38,7 @@ fn load(table: &[u32], node: u16) -> Node
 }
 
 // A compare-and-swap: it writes only if the word equals the expected one, and tells the node that stood there.
-fn swap(table: &mut [u32], node: u16, expected: Node, new: Node) -> Node
+fn swap(table: &mut [Word], node: u16, expected: Node, new: Node) -> Node
     requires { ⌜ Touchable (map decode (now table)) (Cas node expected new) ⌝ }
     ensures sees { λ r. ⌜ r ≡ seen (map decode (now (table .entry))) (Cas node expected new) ⌝ }
     ensures leaves { λ _. ⌜ now (table .exit) ≡ map encode (touched (map decode (now (table .entry))) (Cas node expected new)) ⌝ }
@@ -49,7 +52,7 @@ fn swap(table: &mut [u32], node: u16, expected: Node, new: Node) -> Node
 }
 
 // One step of a find on its errand: the one access, and where that leads.
-fn walk(table: &mut [u32], task: Task, errand: Errand, step: Step, number: u32) -> Advanced
+fn walk(table: &mut [Word], task: Task, errand: Errand, step: Step, number: u32) -> Advanced
     requires { ⌜ Touchable (map decode (now table)) (findAccess (nodeAt task errand) step) ⌝ }
     ensures leads { λ r. ⌜ r ≡ followed task errand number
         (walked (nodeAt task errand) (seen (map decode (now (table .entry))) (findAccess (nodeAt task errand) step)) step) ⌝ }
@@ -92,7 +95,7 @@ fn walk(table: &mut [u32], task: Task, errand: Errand, step: Step, number: u32) 
 
 // One grant of a head: the one access of its stage, and where that leads. In a grant no other function reads or writes
 // the table.
-pub fn stepped(table: &mut [u32], head: Head, number: u32) -> Advanced
+pub fn stepped(table: &mut [Word], head: Head, number: u32) -> Advanced
     requires { ⌜ Touchable (map decode (now table)) (accessOf head) ⌝ }
     requires { ⌜ Raisable (head .stage) ⌝ }
     ensures leads { λ r. ⌜ r ≡ advanceOf head (seen (map decode (now (table .entry))) (accessOf head)) number ⌝ }

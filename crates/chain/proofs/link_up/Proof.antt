@@ -57,21 +57,5 @@ returns c = linking-end _ _ _ _ (c .before .loop .inv) (omega arith)
 
 pub link-up-spec : {M : Type 1} → statement M
 link-up-spec =
-    tie.close
-    (tie.spec
-    Inv-loop
-    μ-loop
-    sub-last
-    cast-table
-    mul-table
-    slice-write-table
-    loop-holds
-    cast-table-2
-    sub-table
-    mul-table-2
-    slice-write-table-2
-    sub-i
-    loop-less
-    loop-again
-    same-length
-    returns)
+    tie.close (tie.spec Inv-loop μ-loop sub-last cast-table mul-table slice-write-table loop-holds cast-table-2
+    sub-table mul-table-2 slice-write-table-2 sub-i loop-less loop-again same-length returns)

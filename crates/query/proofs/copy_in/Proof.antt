@@ -43,16 +43,5 @@ returns c = copying-done (c .before .loop .inv) (omega arith)
 
 pub copy-in-spec : {M : Type 1} → statement M
 copy-in-spec =
-    tie.close
-    (tie.spec
-    Inv-loop
-    μ-loop
-    loop-holds
-    mul-nodes
-    shared-slice-read-nodes
-    mul-nodes-2
-    element-write-nodes
-    add-i
-    loop-less
-    loop-again
-    returns)
+    tie.close (tie.spec Inv-loop μ-loop loop-holds mul-nodes shared-slice-read-nodes mul-nodes-2 element-write-nodes
+    add-i loop-less loop-again returns)

@@ -60,17 +60,5 @@ returns c =
 
 pub copy-out-spec : {M : Type 1} → statement M
 copy-out-spec =
-    tie.close
-    (tie.spec
-    Inv-loop
-    μ-loop
-    loop-holds
-    mul-table
-    element-copy-out-table
-    mul-table-2
-    slice-write-table
-    add-i
-    loop-less
-    loop-again
-    same-length
-    returns)
+    tie.close (tie.spec Inv-loop μ-loop loop-holds mul-table element-copy-out-table mul-table-2 slice-write-table add-i
+    loop-less loop-again same-length returns)

@@ -45,15 +45,5 @@ returns-2 c =
 
 pub halve-spec : {M : Type 1} → statement M
 halve-spec =
-    tie.close
-    (tie.spec
-    mul-if1
-    element-copy-out-if1
-    rank-requires
-    cast-t13
-    cast-t14
-    encoded-requires
-    mul-table
-    element-write-table
-    returns
-    returns-2)
+    tie.close (tie.spec mul-if1 element-copy-out-if1 rank-requires cast-t13 cast-t14 encoded-requires mul-table
+    element-write-table returns returns-2)

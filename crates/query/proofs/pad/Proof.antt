@@ -2,6 +2,7 @@
 use Prim.Native.Nat.{_-_}
 use native.Mathlib.Omega.{arith}
 use borrow.Author.Needs.{needs}
+use Rattle.word.specs.Word.{mostNodes}
 use Rattle.query.proofs.Copies.{Padding, padding-start, padding-on, padding-done}
 use Rattle.query.proofs.pad.Statement.{statement}
 use Rattle.query.proofs.pad.Tie as tie
@@ -10,7 +11,7 @@ abbrev Inv-loop : tie.InvT-loop
 Inv-loop nodes₀ from i₀ nodes i = Padding nodes₀ from nodes i
 
 abbrev μ-loop : tie.MeasureT-loop
-μ-loop nodes₀ from i₀ nodes i = 4096 - i
+μ-loop nodes₀ from i₀ nodes i = mostNodes - i
 
 loop-holds : tie.Need-loop-holds Inv-loop μ-loop
 loop-holds c = padding-start _ _ (c .pre)
@@ -38,15 +39,5 @@ returns c = padding-done (c .before .loop .inv) (omega arith)
 
 pub pad-spec : {M : Type 1} → statement M
 pad-spec =
-    tie.close
-    (tie.spec
-    Inv-loop
-    μ-loop
-    loop-holds
-    cast-nodes
-    mul-nodes
-    element-write-nodes
-    add-i
-    loop-less
-    loop-again
+    tie.close (tie.spec Inv-loop μ-loop loop-holds cast-nodes mul-nodes element-write-nodes add-i loop-less loop-again
     returns)

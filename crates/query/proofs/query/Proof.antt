@@ -39,12 +39,4 @@ returns-2 c =
 
 pub query-spec : {M : Type 1} → statement M
 query-spec =
-    tie.close
-    (tie.spec
-    refusal-of-requires
-    same-length
-    returns
-    enquire-requires
-    told-requires
-    same-length-2
-    returns-2)
+    tie.close (tie.spec refusal-of-requires same-length returns enquire-requires told-requires same-length-2 returns-2)

@@ -57,15 +57,5 @@ returns-2 c =
 
 pub swap-spec : {M : Type 1} → statement M
 swap-spec =
-    tie.close
-    (tie.spec
-    mul-decoded
-    slice-read-decoded
-    decoded-requires
-    is-same-requires
-    encoded-requires
-    mul-table
-    slice-write-table
-    same-length
-    returns
-    returns-2)
+    tie.close (tie.spec mul-decoded slice-read-decoded decoded-requires is-same-requires encoded-requires mul-table
+    slice-write-table same-length returns returns-2)

@@ -1,17 +1,17 @@
--- `query::root_of` goes on from the parent; keys rise along parents and are bounded, so the walk ends.
+-- `admission::root_of` goes on from the parent; keys rise along parents and are bounded, so the walk ends.
 use denote.Ref.{now}
 use native.Mathlib.Omega.{arith}
 use borrow.Author.Needs.{needs}
-use Rattle.query.proofs.Walk.{height, walk-inside, walk-ends, walk-falls, walk-goes-on}
+use Rattle.table.proofs.Roots.{height, walk-inside, walk-ends, walk-falls, walk-goes-on}
 use Prim.Native.Nat.{ℕ, _<_}
 use borrow.Fn.Kinds.{In}
 use borrow.Fn.PlainCycle.{Measures, is, falls, and}
-use Rattle.query.proofs.root_of.Reads as root-of
-use Rattle.query.proofs.root_of.Kinds as root-of-kinds
-use Rattle.query.proofs.+root_of.Lts-root_of as root-of-lts
+use Rattle.table.proofs.admission.root_of.Reads as root-of
+use Rattle.table.proofs.admission.root_of.Kinds as root-of-kinds
+use Rattle.table.proofs.admission.+root_of.Lts-root_of as root-of-lts
 use Rattle.word.proofs.parent.Reads as parent-reads
-use Rattle.query.proofs.+root_of.{statement}
-use Rattle.query.proofs.+root_of.Tie.{close}
+use Rattle.table.proofs.admission.+root_of.{statement}
+use Rattle.table.proofs.admission.+root_of.Tie.{close}
 
 abbrev μ-root-of : Measures 1 root-of-kinds.ps ℕ
 μ-root-of κs a = height (a .0 .now) (a .1 .0)
@@ -62,12 +62,6 @@ root-of-returns-2 t c =
     (above .ensures) (c .before .if1 .left) (c .root-of .result) (c .root-of .ensures)
 
 pub +root-of-spec : {M : Type 1} → statement M
-+root-of-spec = close μ-root-of λ t. root-of-lts.spec (root-of-claims t)
-    (root-of-at t)
-    root-of.Post
-    (root-of-mul-parent t)
-    (root-of-shared-slice-read-parent t)
-    (root-of-parent-requires t)
-    (root-of-returns t)
-    (root-of-root-of-requires t)
++root-of-spec = close μ-root-of λ t. root-of-lts.spec (root-of-claims t) (root-of-at t) root-of.Post (root-of-mul-parent t)
+    (root-of-shared-slice-read-parent t) (root-of-parent-requires t) (root-of-returns t) (root-of-root-of-requires t)
     (root-of-returns-2 t)

@@ -1,8 +1,8 @@
--- `query::is_faulty`: one test a line of the definition.
+-- `admission::is_faulty`: one test a line of the definition.
 use borrow.Author.Tests.{lt-ltb, le-ltb, le-leb, lt-leb}
 use borrow.Author.Needs.{needs}
-use Rattle.query.proofs.is_faulty.Statement.{statement}
-use Rattle.query.proofs.is_faulty.Tie as tie
+use Rattle.table.proofs.admission.is_faulty.Statement.{statement}
+use Rattle.table.proofs.admission.is_faulty.Tie as tie
 
 mul-word : tie.Need-mul-word
 mul-word c = search needs
@@ -62,19 +62,5 @@ returns-3 c =
 
 pub is-faulty-spec : {M : Type 1} → statement M
 is-faulty-spec =
-    tie.close
-    (tie.spec
-    mul-word
-    shared-slice-read-word
-    parent-requires
-    cast-if1
-    returns
-    rank-requires
-    returns-2
-    cast-rank
-    mul-rank
-    shared-slice-read-rank
-    rank-requires-2
-    rank-requires-3
-    stands-before-requires
-    returns-3)
+    tie.close (tie.spec mul-word shared-slice-read-word parent-requires cast-if1 returns rank-requires returns-2 cast-rank mul-rank
+    shared-slice-read-rank rank-requires-2 rank-requires-3 stands-before-requires returns-3)

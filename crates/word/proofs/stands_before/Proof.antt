@@ -1,7 +1,7 @@
--- `query::stands_before` compares ranks, then numbers.
+-- `word::stands_before` compares ranks, then numbers.
 use borrow.Author.Tests.{eq-eqb, ne-eqb}
-use Rattle.query.proofs.stands_before.Statement.{statement}
-use Rattle.query.proofs.stands_before.Tie as tie
+use Rattle.word.proofs.stands_before.Statement.{statement}
+use Rattle.word.proofs.stands_before.Tie as tie
 
 returns : tie.Need-returns
 returns c = simp (eq-eqb _ _ (c .if1 .taken))

@@ -4,18 +4,17 @@
 use mathlib.Core.Path.{_≡_, sym, ap, _∙_, subst}
 use mathlib.Core.Logic.{_≢_}
 use mathlib.Core.List.{List, map}
-use Prim.Native.Nat.{ℕ, _*_, _-_, _<_}
+use Prim.Native.Nat.{ℕ, suc, _*_, _-_, _<_}
 use native.Mathlib.Omega.{arith}
 use lib.ListN.{length}
-use Rattle.word.specs.Word.{parentOf, decode, key, nodeLimit}
+use Rattle.word.specs.Word.{parentOf, decode, key, nodeLimit, mostRank}
 use Rattle.forest.specs.Forest.{Leads, root, up}
 use Rattle.rules.specs.Table.{parent, rank}
-use Rattle.query.specs.Query.{wordAt}
-use Rattle.query.specs.Admitted.{Admitted}
-use Rattle.query.proofs.Words.{parent-decoded}
+use Rattle.table.specs.Admitted.{wordAt, Admitted}
+use Rattle.table.proofs.Words.{parent-decoded}
 
 abbrev pub height : List ℕ → ℕ → ℕ
-height words i = 13 * nodeLimit - key (rank (map decode words) i) i
+height words i = suc mostRank * nodeLimit - key (rank (map decode words) i) i
 
 module _ (words : List ℕ) (node : ℕ) (admitted : Admitted (length words) (map decode words)) (inside : node < length words)
     (above : ℕ) (read : above ≡ parentOf (wordAt words node)) where

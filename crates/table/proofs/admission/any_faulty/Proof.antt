@@ -1,10 +1,10 @@
--- `query::has_faulty` looks from the back.
+-- `admission::any_faulty` looks from the back.
 use mathlib.Core.Path.{refl, sym, _∙_}
 use native.Mathlib.Omega.{arith}
 use borrow.Author.Needs.{needs}
-use Rattle.query.proofs.Refusal.{Looked, looked-faulty, looked-on, looked-all}
-use Rattle.query.proofs.has_faulty.Statement.{statement}
-use Rattle.query.proofs.has_faulty.Tie as tie
+use Rattle.table.proofs.Admitted.{Looked, looked-faulty, looked-on, looked-all}
+use Rattle.table.proofs.admission.any_faulty.Statement.{statement}
+use Rattle.table.proofs.admission.any_faulty.Tie as tie
 
 abbrev Inv-loop : tie.InvT-loop
 Inv-loop table i₀ i = Looked table i
@@ -40,17 +40,6 @@ loop-again c =
 returns-2 : tie.Need-returns-2 Inv-loop μ-loop
 returns-2 c = looked-all (c .before .loop .inv) (omega arith)
 
-pub has-faulty-spec : {M : Type 1} → statement M
-has-faulty-spec =
-    tie.close
-    (tie.spec
-    Inv-loop
-    μ-loop
-    cast-i
-    loop-holds
-    sub-i
-    is-faulty-requires
-    returns
-    loop-less
-    loop-again
-    returns-2)
+pub any-faulty-spec : {M : Type 1} → statement M
+any-faulty-spec =
+    tie.close (tie.spec Inv-loop μ-loop cast-i loop-holds sub-i is-faulty-requires returns loop-less loop-again returns-2)
