@@ -33,7 +33,7 @@ use Rattle.rules.specs.Table.{at, parent, rank, seen}
 use Rattle.rules.specs.Action.{Agrees}
 use Rattle.rules.proofs.Table.{found-parent, found-rank}
 use Rattle.rules.proofs.Finds.{FindKnows}
-use Rattle.rules.proofs.Stages.{Linking, Knows}
+use Rattle.rules.proofs.Stages.{Moment, Linking, Knows}
 use Rattle.rules.proofs.Steps.{cond-both}
 
 abbrev Tells : Access → Node → Event → Type 0
@@ -55,16 +55,19 @@ ended-quiet k e now =
     cond-both QuietStep (servesX e) (record { failed = refl; linked = refl })
     (cond-both QuietStep (eqb (k .x) (k .y)) (record { failed = refl; linked = refl }) (record { failed = refl; linked = refl }))
 
-module _ (now : ℕ) (t : List Node) (k : Task) where
+module _ {n : ℕ} (m : Moment n) (k : Task) where
+  abbrev t : List Node
+  t = m .table
+
   abbrev Told : Stage → Type 0
-  Told st = Tells (accessAt k st) (seen t (accessAt k st)) (advanceAt k (seen t (accessAt k st)) (suc now) st .event)
+  Told st = Tells (accessAt k st) (seen t (accessAt k st)) (advanceAt k (seen t (accessAt k st)) (suc (m .now)) st .event)
 
   module _ (e : Errand) where
     -- the node's word was read: the find ends, or goes on
     node-tells : Told (Find e ReadNode)
     node-tells =
         split (eqb (parent t (nodeAt k e)) (nodeAt k e))
-        (λ root. rw root (read-tells (nodeAt k e) (at t (nodeAt k e)) (ended-quiet k e (suc now))))
+        (λ root. rw root (read-tells (nodeAt k e) (at t (nodeAt k e)) (ended-quiet k e (suc (m .now)))))
         (λ none. rw none (record { failed = refl; linked = refl }))
 
     -- a find swaps the word of a node that is no root
@@ -75,23 +78,23 @@ module _ (now : ℕ) (t : List Node) (k : Task) where
         (λ found. record { failed = rw found refl; linked = rw (found, none) refl })
         (λ failed. record { failed = rw failed refl; linked = rw failed refl })
 
-    find-tells : (n : ℕ) (B : ℕ → ℕ) (s : Step) → FindKnows n (parent t) (rank t) B (nodeAt k e) s → Told (Find e s)
-    find-tells n B ReadNode a = node-tells
-    find-tells n B (ReadParent r u) a = record { failed = refl; linked = refl }
-    find-tells n B (Halve r u w) a = halve-tells r u w (a .parent .lower)
-    find-tells n B (ReadAgain u) a = record { failed = refl; linked = refl }
+    find-tells : (s : Step) → FindKnows n (parent t) (rank t) (m .labels) (nodeAt k e) s → Told (Find e s)
+    find-tells ReadNode a = node-tells
+    find-tells (ReadParent r u) a = record { failed = refl; linked = refl }
+    find-tells (Halve r u w) a = halve-tells r u w (a .parent .lower)
+    find-tells (ReadAgain u) a = record { failed = refl; linked = refl }
 
   module _ (r : ℕ) (e : Bool) where
-    linked-failed : (e : Bool) → linked k r e (suc now) .event .failed ≡ false
+    linked-failed : (e : Bool) → linked k r e (suc (m .now)) .event .failed ≡ false
     linked-failed true = refl
     linked-failed false = refl
 
-    linked-linked : (e : Bool) → linked k r e (suc now) .event .linked ≡ true
+    linked-linked : (e : Bool) → linked k r e (suc (m .now)) .event .linked ≡ true
     linked-linked true = refl
     linked-linked false = refl
 
     -- a link that writes has seen a root, and y is another node
-    link-tells : {n : ℕ} {B : ℕ → ℕ} {q : Request} → Linking n (rank t) B q (k .x) (k .y) r → Told (Link r e)
+    link-tells : {q : Request} → Linking m q (k .x) (k .y) r → Told (Link r e)
     link-tells a =
         split (same (at t (k .x)) (record { rank = r; parent = k .x }))
         (λ found.
@@ -114,16 +117,15 @@ module _ (now : ℕ) (t : List Node) (k : Task) where
       stays true false = refl
       stays false c = refl
 
-  pub stage-agrees : (n : ℕ) (B : ℕ → ℕ) (Apart : ℕ → Type 0) (q : Request) (st : Stage)
-      → Knows n (parent t) (rank t) B Apart now q k st → Told st
-  stage-agrees n B Apart q Resting a = record { failed = refl; linked = refl }
-  stage-agrees n B Apart q (Find e s) a = find-tells e n B s (a .find)
-  stage-agrees n B Apart q (RereadX point) a =
+  pub stage-agrees : (q : Request) (st : Stage) → Knows m q k st → Told st
+  stage-agrees q Resting a = record { failed = refl; linked = refl }
+  stage-agrees q (Find e s) a = find-tells e s (a .find)
+  stage-agrees q (RereadX point) a =
       read-tells (k .x) (at t (k .x))
       (cond-both QuietStep (eqb (parent t (k .x)) (k .x)) (record { failed = refl; linked = refl }) (record { failed = refl; linked = refl }))
-  stage-agrees n B Apart q ReadRankX a = record { failed = refl; linked = refl }
-  stage-agrees n B Apart q (ReadRankY r) a =
+  stage-agrees q ReadRankX a = record { failed = refl; linked = refl }
+  stage-agrees q (ReadRankY r) a =
       read-tells (k .y) (at t (k .y))
       (cond-both QuietStep (before (rank t (k .y)) (k .y) r (k .x)) (record { failed = refl; linked = refl }) (record { failed = refl; linked = refl }))
-  stage-agrees n B Apart q (Link r e) a = link-tells r e a
-  stage-agrees n B Apart q (Raise r) a = raise-tells r
+  stage-agrees q (Link r e) a = link-tells r e a
+  stage-agrees q (Raise r) a = raise-tells r

@@ -32,7 +32,7 @@ use Rattle.forest.specs.Forest.{rootCount}
 use Rattle.linearization.specs.Partition.{Labels}
 use Rattle.linearization.specs.Entry.{occurrences}
 use Rattle.linearization.proofs.Replay.{labelsTo, Replayed}
-use Rattle.rules.specs.Table.{parent, rank, seen}
+use Rattle.rules.specs.Table.{parent, seen}
 use Rattle.rules.specs.Report.{noRow, isFinal, charge}
 use Rattle.rules.specs.State.{State, requestAt, seek, resting}
 use Rattle.rules.specs.Step.{headAt, advanced, settled, served}
@@ -44,13 +44,13 @@ use Rattle.rules.specs.Linearized.{operationAt}
 use Rattle.rules.proofs.History.{other-served, row-other, row-served}
 use Rattle.rules.proofs.Table.{length-touched}
 use Rattle.rules.proofs.Requests.{seek-from, seek-own, seek-least}
-use Rattle.rules.proofs.Stages.{Inside, Knows, pending-until, knows-later}
+use Rattle.rules.proofs.Stages.{Inside, Onward, knows-later}
 use Rattle.rules.proofs.Outcomes.{Kept}
 use Rattle.rules.proofs.Steps.{advance-keeps}
 use Rattle.rules.proofs.Agreement.{stage-agrees}
 use Rattle.rules.proofs.Positions.{phase-of}
 use Rattle.rules.proofs.Others.{timed-other, over-other, waiting-other, phase-other}
-use Rattle.rules.proofs.Invariant.{labels, ApartAt, claim, Timed, Over, Current, Busy, Phase, Placed, Invariant}
+use Rattle.rules.proofs.Invariant.{labels, momentOf, HeadKnows, head-until, claim, Timed, Over, Current, Busy, Phase, Placed, Invariant}
 use Rattle.rules.proofs.Invariant.Phase.{over, current, waiting}
 
 pub record Serving (qs : List Request) (n : ℕ) (B : Labels) (S : State) (past : List Happening) (h : ℕ) (head : Head) : Type 0 where
@@ -58,8 +58,7 @@ pub record Serving (qs : List Request) (n : ℕ) (B : Labels) (S : State) (past 
   pub own : requestAt qs (head .task .request) .head ≡ h
   pub position : headAt S h .task .request ≡ head .task .request
   pub busy : isResting head ≡ false
-  pub knows : Knows n (parent (S .table)) (rank (S .table)) (labels qs B S) (ApartAt qs B (S .entries) (head .task .request)) (S .now)
-      (requestAt qs (head .task .request)) (head .task) (head .stage)
+  pub knows : HeadKnows qs n B S (head .task .request) head
   pub timed : Timed (head .task .request) past (head .stage)
   pub begun : traitsOf (head .stage) .linked ≡ true → rowOf (head .task .request) past .first ≢ 0
   pub unfinished : rowOf (head .task .request) past .answer ≡ 0
@@ -76,8 +75,7 @@ pub served-agrees : {qs : List Request} {n : ℕ} {B : Labels} {S : State} {past
     → Serving qs n B S past h head → Agrees (actionOf S head)
 unfolding accessOf advanceOf
 served-agrees {qs} {n} {B} {S = S} {head = head} srv =
-    stage-agrees (S .now) (S .table) (head .task) n (labels qs B S) (ApartAt qs B (S .entries) (head .task .request)) (requestAt qs (head .task .request))
-    (head .stage) (srv .knows)
+    stage-agrees (momentOf qs n B S) (head .task) (requestAt qs (head .task .request)) (head .stage) (srv .knows)
 
 -- the head before its next request
 abbrev next-head : List Request → ℕ → Advanced → Head
@@ -85,16 +83,18 @@ next-head qs h a = queued (a .head) (seek qs h (suc (a .head .task .request)))
 
 -- What holds of the request after the grant. S′ is the state after it, a the head's step.
 pub data After (qs : List Request) (n : ℕ) (B : Labels) (S′ : State) (past′ : List Happening) (q : ℕ) (a : Advanced) : Type 0 where
-  continues : a .event .answer ≡ Unfinished → isResting (a .head) ≡ false
-      → Knows n (parent (S′ .table)) (rank (S′ .table)) (labels qs B S′) (ApartAt qs B (S′ .entries) q) (S′ .now) (requestAt qs q) (a .head .task) (a .head .stage)
+  continues : a .event .answer ≡ Unfinished → isResting (a .head) ≡ false → HeadKnows qs n B S′ q (a .head)
       → Timed q past′ (a .head .stage) → Current q past′ (occurrences q (S′ .entries)) → After qs n B S′ past′ q a
-  finishes : isFinal (a .event .answer) ≡ true → a .head .stage ≡ Resting → Over q past′ (occurrences q (S′ .entries)) → After qs n B S′ past′ q a
+  finishes : isFinal (a .event .answer) ≡ true → a .head .stage ≡ Resting → Over q past′ (occurrences q (S′ .entries))
+      → After qs n B S′ past′ q a
 
-pub record Effect (qs : List Request) (n : ℕ) (B : Labels) (roots₀ : ℕ) (S S′ : State) (past′ : List Happening) (q : ℕ) (a : Advanced) : Type 0 where
-  pub kept : Kept n (S .table) (S′ .table) (labels qs B S) (labels qs B S′)
+pub record Effect (qs : List Request) (n : ℕ) (B : Labels) (roots₀ : ℕ) (S S′ : State) (past′ : List Happening) (q : ℕ) (a : Advanced)
+    : Type 0 where
+  pub kept : Kept (momentOf qs n B S) (S′ .table) (labels qs B S′)
   pub roots : rootCount (parent (S′ .table)) n + S′ .links ≡ roots₀
   -- the sets up to an earlier point stay
-  pub settled : (point : ℕ) → point ≤ S .now → labelsTo (operationAt qs) point B (S′ .entries) ≡ labelsTo (operationAt qs) point B (S .entries)
+  pub settled : (point : ℕ) → point ≤ S .now
+      → labelsTo (operationAt qs) point B (S′ .entries) ≡ labelsTo (operationAt qs) point B (S .entries)
   pub entries : Replayed (operationAt qs) (Placed qs past′) (claim past′) B 0 (S′ .entries)
   pub others : (p : ℕ) → p ≢ q → occurrences p (S′ .entries) ≡ occurrences p (S .entries)
   pub after : After qs n B S′ past′ q a
@@ -118,10 +118,11 @@ module _ {qs : List Request} {n : ℕ} {B : Labels} {roots₀ : ℕ} {S : State}
   unfolding advanceOf
   keeps = advance-keeps (head .task) (seen (S .table) (accessOf head)) (suc (S .now)) (head .stage)
 
-  -- what the head a knows of request p after the grant
   abbrev Known : ℕ → Head → Type 0
-  Known p a =
-      Knows n (parent (S′ .table)) (rank (S′ .table)) (labels qs B S′) (ApartAt qs B (S′ .entries) p) (S′ .now) (requestAt qs p) (a .task) (a .stage)
+  Known p = HeadKnows qs n B S′ p
+
+  onward : Onward (momentOf qs n B S) (momentOf qs n B S′)
+  onward = record { table = effect .kept .later; passes = omega arith; settled = effect .settled }
 
   -- What holds of the served head after the grant.
   record Seated : Type 0 where
@@ -206,17 +207,12 @@ module _ {qs : List Request} {n : ℕ} {B : Labels} {roots₀ : ℕ} {S : State}
 
     knows-other : isResting (headAt S k) ≡ false → Known (headAt S k .task .request) (headAt S k)
     knows-other b =
-        knows-later (effect .kept .later) (inside (headAt S k .task .request) (inv .busy k b .within))
-        {Apart = ApartAt qs B (S .entries) (headAt S k .task .request)} {Apart′ = ApartAt qs B (S′ .entries) (headAt S k .task .request)}
-        {now = S .now} {now′ = suc (S .now)} (omega arith)
-        (λ point l apart. subst (λ C. C (requestAt qs (headAt S k .task .request) .x) ≢ C (requestAt qs (headAt S k .task .request) .y)) (sym (effect .settled point l)) apart)
-        (headAt S k .task) (headAt S k .stage) (inv .knows k b)
+        knows-later onward (inside (headAt S k .task .request) (inv .busy k b .within)) (headAt S k .task) (headAt S k .stage) (inv .knows k b)
 
     timed-kept : isResting (headAt S k) ≡ false → Timed (headAt S k .task .request) (more S head past) (headAt S k .stage)
     timed-kept b =
-        let until = pending-until n (parent (S .table)) (rank (S .table)) (labels qs B S) (ApartAt qs B (S .entries) (headAt S k .task .request)) (S .now)
-        (requestAt qs (headAt S k .task .request)) (headAt S k .task) (headAt S k .stage) (inv .knows k b) in
-        timed-other (serving-of S head) (other-served (headAt S k .task .request) q (actionOf S head) (request-other b)) (omega (arith, until, inv .clock)) (inv .timed k b)
+        timed-other (serving-of S head) (other-served (headAt S k .task .request) q (actionOf S head) (request-other b))
+        (omega (arith, head-until qs n B S (headAt S k) (inv .knows k b), inv .clock)) (inv .timed k b)
 
   head-served : headAt S′ h ≡ head′
   head-served = getD-set-same (S .heads) h head′ (resting 0) present
