@@ -1,7 +1,7 @@
 -- What the steps say of a grant is what its access and the word seen tell: a failed swap, and a link.
 --
 --   Tells access seen event   the event's two flags are those of the access
---   Quiet e                   the event e tells of no failed swap and no link
+--   Quiet w i a               the step a, which read the word w of node i, tells of no failed swap and no link
 --
 -- Main law: stage-agrees, whatever the stage; so a find's swaps link nothing, and a link that wrote has linked.
 use mathlib.Core.Path.{_≡_, refl, ap}
@@ -39,21 +39,14 @@ use Rattle.rules.proofs.Steps.{cond-both}
 abbrev Tells : Access → Node → Event → Type 0
 Tells access seen event = Agrees (record { access = access; seen = seen; event = event })
 
--- a read fails nothing and links nothing
-pub record Quiet (e : Event) : Type 0 where
-  pub failed : e .failed ≡ false
-  pub linked : e .linked ≡ false
+-- a read fails nothing and links nothing, wherever it leads
+abbrev Quiet : Node → ℕ → Advanced → Type 0
+Quiet w i a = Tells (Load i) w (a .event)
 
-read-tells : {e : Event} (i : ℕ) (w : Node) → Quiet e → Tells (Load i) w e
-read-tells i w quiet = record { failed = quiet .failed; linked = quiet .linked }
-
-abbrev QuietStep : Advanced → Type 0
-QuietStep a = Quiet (a .event)
-
-ended-quiet : (k : Task) (e : Errand) (now : ℕ) → QuietStep (ended k e now)
-ended-quiet k e now =
-    cond-both QuietStep (servesX e) (record { failed = refl; linked = refl })
-    (cond-both QuietStep (eqb (k .x) (k .y)) (record { failed = refl; linked = refl }) (record { failed = refl; linked = refl }))
+ended-quiet : (k : Task) (e : Errand) (now : ℕ) (w : Node) (i : ℕ) → Quiet w i (ended k e now)
+ended-quiet k e now w i =
+    cond-both (Quiet w i) (servesX e) (record { failed = refl; linked = refl })
+    (cond-both (Quiet w i) (eqb (k .x) (k .y)) (record { failed = refl; linked = refl }) (record { failed = refl; linked = refl }))
 
 module _ {n : ℕ} (m : Moment n) (k : Task) where
   abbrev t : List Node
@@ -67,7 +60,7 @@ module _ {n : ℕ} (m : Moment n) (k : Task) where
     node-tells : Told (Find e ReadNode)
     node-tells =
         split (eqb (parent t (nodeAt k e)) (nodeAt k e))
-        (λ root. rw root (read-tells (nodeAt k e) (at t (nodeAt k e)) (ended-quiet k e (suc (m .now)))))
+        (λ root. rw root (ended-quiet k e (suc (m .now)) (at t (nodeAt k e)) (nodeAt k e)))
         (λ none. rw none (record { failed = refl; linked = refl }))
 
     -- a find swaps the word of a node that is no root
@@ -109,7 +102,8 @@ module _ {n : ℕ} (m : Moment n) (k : Task) where
   raise-tells r =
       record {
         failed = refl;
-        linked = rw (eq-eqb (k .y) (k .y) refl) (stays (same (at t (k .y)) (record { rank = r; parent = k .y })) (eqb (parent t (k .y)) (k .y)));
+        linked = rw (eq-eqb (k .y) (k .y) refl)
+            (stays (same (at t (k .y)) (record { rank = r; parent = k .y })) (eqb (parent t (k .y)) (k .y)));
       }
     where
       stays : (b c : Bool) → false ≡ cond b (cond c (not true) false) false
@@ -121,11 +115,11 @@ module _ {n : ℕ} (m : Moment n) (k : Task) where
   stage-agrees q Resting a = record { failed = refl; linked = refl }
   stage-agrees q (Find e s) a = find-tells e s (a .find)
   stage-agrees q (RereadX point) a =
-      read-tells (k .x) (at t (k .x))
-      (cond-both QuietStep (eqb (parent t (k .x)) (k .x)) (record { failed = refl; linked = refl }) (record { failed = refl; linked = refl }))
+      cond-both (Quiet (at t (k .x)) (k .x)) (eqb (parent t (k .x)) (k .x))
+      (record { failed = refl; linked = refl }) (record { failed = refl; linked = refl })
   stage-agrees q ReadRankX a = record { failed = refl; linked = refl }
   stage-agrees q (ReadRankY r) a =
-      read-tells (k .y) (at t (k .y))
-      (cond-both QuietStep (before (rank t (k .y)) (k .y) r (k .x)) (record { failed = refl; linked = refl }) (record { failed = refl; linked = refl }))
+      cond-both (Quiet (at t (k .y)) (k .y)) (before (rank t (k .y)) (k .y) r (k .x))
+      (record { failed = refl; linked = refl }) (record { failed = refl; linked = refl })
   stage-agrees q (Link r e) a = link-tells r e a
   stage-agrees q (Raise r) a = raise-tells r

@@ -33,7 +33,8 @@ use Rattle.linearization.specs.Partition.{Labels, replyTo, reply, next}
 use Rattle.linearization.specs.Entry.{Entry, insert, occurrences}
 use Rattle.linearization.proofs.Partition.{reply-together, reply-apart, next-same-set, next-union, next-together}
 use Rattle.linearization.proofs.Entries.{entry, Below, Free, insert-last, occurrences-inserted, occurrences-other, occurrences-absent}
-use Rattle.linearization.proofs.Replay.{after, labelsTo, Replayed, Silent, after-snoc, after-insert, labelsTo-snoc, labelsTo-insert, replayed-fact, replayed-map, replayed-snoc, replayed-insert}
+use Rattle.linearization.proofs.Replay.{after, labelsTo, Replayed, Silent, after-snoc, after-insert, labelsTo-snoc, labelsTo-insert}
+use Rattle.linearization.proofs.Replay.{replayed-fact, replayed-map, replayed-snoc, replayed-insert}
 use Rattle.rules.specs.Table.{parent, touched}
 use Rattle.rules.specs.Report.{isFinal}
 use Rattle.rules.specs.State.{State, requestAt}
@@ -42,14 +43,16 @@ use Rattle.rules.specs.Action.{Action, Agrees, links}
 use Rattle.rules.specs.Run.{Happening, actionOf}
 use Rattle.rules.specs.History.{linkOf, pointOf}
 use Rattle.rules.specs.Linearized.{operationAt, promised}
-use Rattle.rules.proofs.History.{other-served, row-other, served-answer, link-served, link-unserved, find-served, point-unlinked, point-same-set, point-union, usedFor}
+use Rattle.rules.proofs.History.{usedFor, other-served, row-other, served-answer, link-served, link-unserved, find-served}
+use Rattle.rules.proofs.History.{point-unlinked, point-same-set, point-union}
 use Rattle.rules.proofs.Stages.{Moment, Knows}
 use Rattle.rules.proofs.Outcomes.{united, Kept, Unlinked, Going, Closing, Linked, Joining, Ending, Denying, Outcome}
 use Rattle.rules.proofs.Outcomes.Linked.{finished, raises}
 use Rattle.rules.proofs.Outcomes.Outcome.{going, closing, joining, ending, denying}
 use Rattle.rules.proofs.Invariant.{labels, momentOf, claim, Candidate, Placed, Invariant}
 use Rattle.rules.proofs.Others.{placed-other}
-use Rattle.rules.proofs.Own.{anchored-joined, anchored-found, anchored-no, finished-over, unfinished-current, timed-on, timed-raising, placed-now, placed-pending, placed-still}
+use Rattle.rules.proofs.Own.{anchored-joined, anchored-found, anchored-no, finished-over, unfinished-current}
+use Rattle.rules.proofs.Own.{timed-on, timed-raising, placed-now, placed-pending, placed-still}
 use Rattle.rules.proofs.Serving.{Serving, serving-of, more, served-agrees, After, Effect}
 use Rattle.rules.proofs.Serving.After.{continues, finishes}
 
@@ -104,7 +107,8 @@ module _ (qs : List Request) (n : ℕ) (B : Labels) (roots₀ : ℕ) (S : State)
   unplaced : a .event .point ≡ 0 → Does (S .entries) → Effect qs n B roots₀ S (served qs S h head) past′ q a
   unplaced z does = subst Does (sym (rw (eq-eqb (a .event .point) 0 z) refl)) does
 
-  placed-at : (point : ℕ) → a .event .point ≡ point → 1 ≤ point → Does (insert point q (S .entries)) → Effect qs n B roots₀ S (served qs S h head) past′ q a
+  placed-at : (point : ℕ) → a .event .point ≡ point → 1 ≤ point → Does (insert point q (S .entries))
+      → Effect qs n B roots₀ S (served qs S h head) past′ q a
   placed-at point e positive does = subst Does (sym entries) does
     where
       entries : served qs S h head .entries ≡ insert point q (S .entries)
@@ -189,7 +193,8 @@ module _ (qs : List Request) (n : ℕ) (B : Labels) (roots₀ : ℕ) (S : State)
   entered-labels : after (operationAt qs) B entered ≡ next B₁ (operationAt qs q)
   entered-labels = ap (after (operationAt qs) B) entered-last ∙ after-snoc (operationAt qs) B (S .entries) own
 
-  entered-settled : (point : ℕ) → point ≤ S .now → labelsTo (operationAt qs) point B entered ≡ labelsTo (operationAt qs) point B (S .entries)
+  entered-settled : (point : ℕ) → point ≤ S .now
+      → labelsTo (operationAt qs) point B entered ≡ labelsTo (operationAt qs) point B (S .entries)
   entered-settled point l =
       ap (labelsTo (operationAt qs) point B) entered-last ∙ labelsTo-snoc (operationAt qs) point B (S .entries) own (omega arith)
 
@@ -221,7 +226,9 @@ module _ (qs : List Request) (n : ℕ) (B : Labels) (roots₀ : ℕ) (S : State)
           settled = entered-settled;
           entries = entered-replayed (c .unraised) (closing-point (requestAt qs q .kind)) closing-answer;
           others = others-stay (suc (S .now));
-          after = finishes final (c .rests) (finished-over q act past final (anchored-found q act past (requestAt qs q .kind) (c .answer) (c .found) final) (listed-once (c .unraised) (suc (S .now))));
+          after = finishes final (c .rests)
+              (finished-over q act past final (anchored-found q act past (requestAt qs q .kind) (c .answer) (c .found) final)
+              (listed-once (c .unraised) (suc (S .now))));
         }
 
   -- ---- the link was written
@@ -304,10 +311,12 @@ module _ (qs : List Request) (n : ℕ) (B : Labels) (roots₀ : ℕ) (S : State)
           kept = d .table .kept;
           roots = roots-stay (d .unlinked) (d .table);
           settled = λ point l. refl;
-          entries = replayed-map (inv .entries) (λ e m. ending-placed e (ℕ-discrete (e .request) q)) (λ e m. ending-claim (e .request) (ℕ-discrete (e .request) q));
+          entries = replayed-map (inv .entries) (λ e m. ending-placed e (ℕ-discrete (e .request) q))
+              (λ e m. ending-claim (e .request) (ℕ-discrete (e .request) q));
           others = λ p e. refl;
           after = finishes final (d .rests)
-              (finished-over q act past final (anchored-joined q act past (d .answer)) (srv .listed ∙ rw (ne-eqb (linkOf q past) 0 was-linked)));
+              (finished-over q act past final (anchored-joined q act past (d .answer))
+              (srv .listed ∙ rw (ne-eqb (linkOf q past) 0 was-linked)));
         }
 
   -- ---- x was still a root
@@ -341,14 +350,16 @@ module _ (qs : List Request) (n : ℕ) (B : Labels) (roots₀ : ℕ) (S : State)
         let final = ap isFinal (d .answer) in
         let until : point ≤ length past = omega (arith, d .until, inv .clock) in
         record {
-          kept = table-kept (insert point q (S .entries)) (after-insert (operationAt qs) point q B (S .entries) (silent .unchanged)) (d .table .kept);
+          kept = table-kept (insert point q (S .entries))
+              (after-insert (operationAt qs) point q B (S .entries) (silent .unchanged)) (d .table .kept);
           roots = roots-stay (d .unlinked) (d .table);
           settled = λ m l. labelsTo-insert (operationAt qs) point q m B (S .entries) (silent .unchanged);
           entries = replayed-insert point q (entries-stand (not-listed (d .unraised))) (omega (arith, d .positive)) point-free
               (placed-pending q act past (srv .within) (d .kind) (d .unfound) until candidate) silent;
           others = others-stay point;
           after = finishes final (d .rests)
-              (finished-over q act past final (anchored-no q act past (d .answer) (d .unfound) candidate) (listed-once (d .unraised) point));
+              (finished-over q act past final (anchored-no q act past (d .answer) (d .unfound) candidate)
+              (listed-once (d .unraised) point));
         }
 
   -- ---- any outcome

@@ -103,7 +103,12 @@ module _ {n : ℕ} {m : Moment n} {q : Request} (present : Present m q) (k : Tas
           still = refl;
           proposed = λ z. refl;
           found = λ z. refl;
-          knows = record { finding = f; positive = omega arith; until = omega arith; apart = roots-apart f root (eqb-false (k .x) (k .y) two) };
+          knows = record {
+            finding = f;
+            positive = omega arith;
+            until = omega arith;
+            apart = roots-apart f root (eqb-false (k .x) (k .y) two);
+          };
         }))
 
     -- ---- one of them has
@@ -131,11 +136,13 @@ module _ {n : ℕ} {m : Moment n} {q : Request} (present : Present m q) (k : Tas
     follows Ended f a = find-ended f a
 
   pub find-step : (e : Errand) (s : Step) → Searching m q k e s
-      → Gives (touched t (findAccess (nodeAt k e) s)) (Find e s) (followed k e (suc (m .now)) (walked (nodeAt k e) (seen t (findAccess (nodeAt k e) s)) s))
+      → Gives (touched t (findAccess (nodeAt k e) s)) (Find e s)
+      (followed k e (suc (m .now)) (walked (nodeAt k e) (seen t (findAccess (nodeAt k e) s)) s))
   find-step e s a =
       let node = find-node k (a .finding) e in
       let sound = present .sound in
-      follows e s (find-unlinked m (present .nodes) sound (find-halved t (present .nodes) (sound .formed) (sound .labelled) node s (a .find)))
+      follows e s
+      (find-unlinked m (present .nodes) sound (find-halved t (present .nodes) (sound .formed) (sound .labelled) node s (a .find)))
       (walked (nodeAt k e) (seen t (findAccess (nodeAt k e) s)) s) (a .finding)
       (find-walks t (present .nodes) (sound .formed) (sound .labelled) node s (a .find))
 
@@ -158,4 +165,5 @@ module _ {n : ℕ} {m : Moment n} {q : Request} (present : Present m q) (k : Tas
         until = a .until;
         two-sets = a .apart (eqb-true (parent t (k .x)) (k .x) e);
       })))
-      (λ e. rw e (goes-on (RereadX point) k (restart SameSet) false false refl refl (unchanged present) (restart-knows SameSet k (a .finding))))
+      (λ e. rw e
+      (goes-on (RereadX point) k (restart SameSet) false false refl refl (unchanged present) (restart-knows SameSet k (a .finding))))

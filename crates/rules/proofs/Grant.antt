@@ -63,10 +63,12 @@ module _ {qs : List Request} {n : ℕ} {B : Labels} {roots₀ : ℕ} {S : State}
         roots = inv .roots;
         own = inv .own;
         busy = inv .busy;
-        knows = λ h b. knows-later onward (inside (headAt S h .task .request) (inv .busy h b .within)) (headAt S h .task) (headAt S h .stage)
-            (inv .knows h b);
-        timed = λ h b. timed-other idle refl (omega (arith, inv .clock, head-until qs n B S (headAt S h) (inv .knows h b))) (inv .timed h b);
-        entries = replayed-map (inv .entries) (λ e m p. placed-other idle refl p) (λ e m. ap (λ r. promised (r .answer)) (sym (row-other (e .request) idle past refl)));
+        knows = λ h b. knows-later onward (inside (headAt S h .task .request) (inv .busy h b .within))
+            (headAt S h .task) (headAt S h .stage) (inv .knows h b);
+        timed = λ h b. timed-other idle refl (omega (arith, inv .clock, head-until qs n B S (headAt S h) (inv .knows h b)))
+            (inv .timed h b);
+        entries = replayed-map (inv .entries) (λ e m p. placed-other idle refl p)
+            (λ e m. ap (λ r. promised (r .answer)) (sym (row-other (e .request) idle past refl)));
         phases = λ q l. phase-other q past idle refl refl (inv .phases q l);
       }
     where
@@ -81,12 +83,15 @@ module _ {qs : List Request} {n : ℕ} {B : Labels} {roots₀ : ℕ} {S : State}
   -- ---- a grant that serves a head
 
   module _ (h : ℕ) (present : h < length (S .heads)) where
-    module _ (within : headAt S h .task .request < length qs) where
-      own-head : requestAt qs (headAt S h .task .request) .head ≡ h
+    abbrev q : ℕ
+    q = headAt S h .task .request
+
+    module _ (within : q < length qs) where
+      own-head : requestAt qs q .head ≡ h
       own-head = inv .own h present within
 
-      own-phase : Phase (headAt S h) (headAt S h .task .request) past (occurrences (headAt S h .task .request) (S .entries))
-      own-phase = phase-of inv h (headAt S h .task .request) within own-head
+      own-phase : Phase (headAt S h) q past (occurrences q (S .entries))
+      own-phase = phase-of inv h q within own-head
 
       -- the head goes on
       serving-busy : isResting (headAt S h) ≡ false → Serving qs n B S past h (headAt S h)
@@ -105,7 +110,7 @@ module _ {qs : List Request} {n : ℕ} {B : Labels} {roots₀ : ℕ} {S : State}
           }
 
       -- it begins its next request
-      serving-begun : isResting (headAt S h) ≡ true → Serving qs n B S past h (begin (requestAt qs (headAt S h .task .request)) (headAt S h .task .request))
+      serving-begun : isResting (headAt S h) ≡ true → Serving qs n B S past h (begin (requestAt qs q) q)
       serving-begun rests =
           let w = phase-waiting own-phase rests in
           record {
@@ -113,12 +118,12 @@ module _ {qs : List Request} {n : ℕ} {B : Labels} {roots₀ : ℕ} {S : State}
             own = own-head;
             position = refl;
             busy = refl;
-            knows = restart-knows (requestAt qs (headAt S h .task .request) .kind) (begin (requestAt qs (headAt S h .task .request)) (headAt S h .task .request) .task)
-                (finding-begin (requestAt qs (headAt S h .task .request)) (inside (headAt S h .task .request) within));
+            knows = restart-knows (requestAt qs q .kind) (begin (requestAt qs q) q .task)
+                (finding-begin (requestAt qs q) (inside q within));
             timed = record { unlinked = λ e. w .unlinked; linked = λ e. absurd (true≢false (sym e)); candidate = λ d. absurd (d refl) };
             begun = λ e. absurd (true≢false (sym e));
             unfinished = w .unfinished;
-            listed = w .unlisted ∙ sym (rw (eq-eqb (linkOf (headAt S h .task .request) past) 0 (w .unlinked)));
+            listed = w .unlisted ∙ sym (rw (eq-eqb (linkOf q past) 0 (w .unlinked)));
           }
 
       pub serving-ready : Serving qs n B S past h (ready qs (headAt S h))
@@ -127,24 +132,25 @@ module _ {qs : List Request} {n : ℕ} {B : Labels} {roots₀ : ℕ} {S : State}
           (λ t. subst (Serving qs n B S past h) (sym (chosen t)) (serving-begun t))
           (λ t. subst (Serving qs n B S past h) (sym (chosen t)) (serving-busy t))
         where
-          chosen : {b : Bool} → isResting (headAt S h) ≡ b
-              → ready qs (headAt S h) ≡ cond b (begin (requestAt qs (headAt S h .task .request)) (headAt S h .task .request)) (headAt S h)
-          chosen t = ap (λ b. cond b (begin (requestAt qs (headAt S h .task .request)) (headAt S h .task .request)) (headAt S h)) t
+          chosen : {b : Bool} → isResting (headAt S h) ≡ b → ready qs (headAt S h) ≡ cond b (begin (requestAt qs q) q) (headAt S h)
+          chosen t = ap (λ b. cond b (begin (requestAt qs q) q) (headAt S h)) t
 
-    present-now : (q : ℕ) → q < length qs → Present (momentOf qs n B S) (requestAt qs q)
-    present-now q within =
+    -- no entry is beyond this grant
+    present-now : (p : ℕ) → p < length qs → Present (momentOf qs n B S) (requestAt qs p)
+    present-now p within =
         record {
           nodes = inv .nodes;
-          inside = inside q within;
+          inside = inside p within;
           sound = inv .sound;
-          -- no entry is beyond this grant
           latest = labelsTo-all _ (suc (S .now)) B (S .entries) (λ e m. omega (arith, replayed-fact (inv .entries) e m .until, inv .clock));
         }
 
     served-outcome : {head : Head} → Serving qs n B S past h head
-        → Outcome (momentOf qs n B S) (touched (S .table) (accessOf head)) (requestAt qs (head .task .request)) (head .stage) (advanced S head)
+        → Outcome (momentOf qs n B S) (touched (S .table) (accessOf head)) (requestAt qs (head .task .request)) (head .stage)
+        (advanced S head)
     unfolding accessOf advanceOf
-    served-outcome {head} srv = step-outcome (present-now (head .task .request) (srv .within)) (head .task) (head .stage) (srv .busy) (srv .knows)
+    served-outcome {head} srv =
+        step-outcome (present-now (head .task .request) (srv .within)) (head .task) (head .stage) (srv .busy) (srv .knows)
 
     pub served-effect : {head : Head} → Serving qs n B S past h head
         → Effect qs n B roots₀ S (served qs S h head) (more S head past) (head .task .request) (advanced S head)
@@ -155,6 +161,6 @@ module _ {qs : List Request} {n : ℕ} {B : Labels} {roots₀ : ℕ} {S : State}
     step-invariant =
         split (hasWork qs (headAt S h))
         (λ t.
-        let serving = serving-ready (ltb-true (headAt S h .task .request) (length qs) t) in
+        let serving = serving-ready (ltb-true q (length qs) t) in
         rw t (effect-invariant present inside inv serving (served-effect serving)))
         (λ t. rw t idle-invariant)

@@ -26,7 +26,8 @@ use Rattle.rules.specs.Report.{isFinal, charge}
 use Rattle.rules.specs.Action.{Action, links}
 use Rattle.rules.specs.Run.{Happening}
 use Rattle.rules.specs.Run.Happening.{idle, serving}
-use Rattle.rules.specs.History.{firstWhere, lastWhere, lastButOne, countWhere, isOf, endsFindOf, linksFor, answerOf, rowOf, linkOf, pointOf}
+use Rattle.rules.specs.History.{firstWhere, lastWhere, lastButOne, countWhere, isOf, endsFindOf, linksFor}
+use Rattle.rules.specs.History.{answerOf, rowOf, linkOf, pointOf}
 
 -- A grant that was not used for q.
 abbrev pub Other : ℕ → Happening → Type 0

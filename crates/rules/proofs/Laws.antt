@@ -32,8 +32,9 @@ use Rattle.rules.specs.Laws.{some, isUnfinished, headsLeft, Lawful, Foll
 use Rattle.rules.proofs.History.{row-other}
 use Rattle.rules.proofs.Table.{fresh-start}
 use Rattle.rules.proofs.Invariant.{labels, Invariant}
-use Rattle.rules.proofs.Theorem.{length-heads, start-row, start-invariant, step-heads, run-invariant, run-prefix, playable-inside, started-invariant, fresh-startable}
-use Rattle.rules.proofs.Positions.{phase-begun, phase-passed, phase-anchored, phase-of, answer-is, work-left}
+use Rattle.rules.proofs.Theorem.{length-heads, start-row, start-invariant, step-heads, run-invariant, run-prefix}
+use Rattle.rules.proofs.Theorem.{playable-inside, started-invariant, fresh-startable}
+use Rattle.rules.proofs.Positions.{some-false, phase-begun, phase-passed, phase-anchored, phase-of, answer-is, work-left}
 use Rattle.rules.proofs.Layer.{run-layer, AllTruthful, truthful-layer, Counted, counted-layer, InTurn, in-turn-layer, later-layer}
 
 -- ---- at one moment
@@ -54,10 +55,6 @@ unused-row q (a ∷ past) none =
 
 -- ---- heads without a request have no work
 
-some-none : (test : ℕ → Bool) (n : ℕ) → ((q : ℕ) → q < n → test q ≡ false) → some test n ≡ false
-some-none test zero none = refl
-some-none test (suc n) none = rw (none n (omega arith)) (some-none test n (λ q l. none q (omega arith)))
-
 count-more : (test : ℕ → Bool) (n k : ℕ) → ((h : ℕ) → n ≤ h → test h ≡ false) → count test (n + k) ≡ count test n
 count-more test n zero none = let same : n + 0 ≡ n = omega arith in ap (count test) same
 count-more test n (suc k) none =
@@ -70,10 +67,11 @@ heads-left qs report heads m few served =
     let all : m ≡ heads + (m - heads) = omega arith in
     ap (headsLeft qs report) all
     ∙ count-more (λ h. some (isUnfinished qs report h) (length qs)) heads (m - heads)
-    (λ h l. some-none (isUnfinished qs report h) (length qs)
+    (λ h l. some-false (isUnfinished qs report h) (length qs)
     (λ q within. rw (ne-eqb (requestAt qs q .head) h (λ e. absurd (omega (arith, e, served q within)))) refl))
 
-module _ {qs : List Request} {n : ℕ} {B : Labels} {roots₀ : ℕ} {S : State} {past : List Happening} (inv : Invariant qs n B roots₀ S past) where
+module _ {qs : List Request} {n : ℕ} {B : Labels} {roots₀ : ℕ} {S : State} {past : List Happening}
+    (inv : Invariant qs n B roots₀ S past) where
   module _ (p q : ℕ) (earlier : p < q) (within : q < length qs) (one : requestAt qs p .head ≡ requestAt qs q .head)
       (begun : rowAt (S .report) q .first ≢ 0) where
     first-is : rowAt (S .report) q .first ≡ rowOf q past .first

@@ -122,7 +122,8 @@ restart-knows {n} {m} {q} kind k f =
     record { finding = subst (λ c. Finding n (m .labels) q c (k .x) (k .y)) (sym (first-kind kind)) f; find = tt }
 
 -- the node that a find has come to is one
-pub find-node : {n : ℕ} {B : ℕ → ℕ} {q : Request} {kind : Kind} (k : Task) → Finding n B q kind (k .x) (k .y) → (e : Errand) → nodeAt k e < n
+pub find-node : {n : ℕ} {B : ℕ → ℕ} {q : Request} {kind : Kind} (k : Task) → Finding n B q kind (k .x) (k .y)
+    → (e : Errand) → nodeAt k e < n
 find-node {n} k f e = go (servesX e)
   where
     go : (b : Bool) → cond b (k .x) (k .y) < n

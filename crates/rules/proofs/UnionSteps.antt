@@ -78,8 +78,8 @@ module _ {n : ℕ} {m : Moment n} {q : Request} (present : Present m q) (k : Tas
     read-rank-y =
         split (before (rank t (k .y)) (k .y) r (k .x))
         (λ e. rw e
-        (goes-on (ReadRankY r) (record { x = k .y; y = k .x; request = k .request; waits = k .waits }) (Link (rank t (k .y)) (eqb r (rank t (k .y))))
-        false false refl refl (unchanged present)
+        (goes-on (ReadRankY r) (record { x = k .y; y = k .x; request = k .request; waits = k .waits })
+        (Link (rank t (k .y)) (eqb r (rank t (k .y)))) false false refl refl (unchanged present)
         (exchanged (ltb-true (key (rank t (k .y)) (k .y)) (key r (k .x)) (sym (ranks-order r (a .finding)) ∙ e)))))
         (λ e. rw e
         (goes-on (ReadRankY r) k (Link r (eqb r (rank t (k .y)))) false false refl refl (unchanged present)
@@ -161,8 +161,8 @@ module _ {n : ℕ} {m : Moment n} {q : Request} (present : Present m q) (k : Tas
           weight = a .weight;
         }
 
-    pub raise-y : (w : Node)
-        → Gives (touched t (Cas (k .y) (record { rank = r; parent = k .y }) (record { rank = r + 1; parent = k .y }))) (Raise r) (raise k r w)
+    pub raise-y : (w : Node) → Gives (touched t (Cas (k .y) (record { rank = r; parent = k .y }) (record { rank = r + 1; parent = k .y })))
+        (Raise r) (raise k r w)
     raise-y w =
         split (same (at t (k .y)) (record { rank = r; parent = k .y }))
         (λ s. rw s (raise-ends w (raising-unlinked m (present .nodes) (present .sound) (may-raise s))))
