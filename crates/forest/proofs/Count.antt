@@ -1,6 +1,7 @@
 -- Laws of counting: how the count of a test changes with the test.
 --
 --   count-in, count-out   one number more: it passes, or it does not
+--   count-next            one number more counts no less
 --   count-le              at most every number passes
 --   count-all             every number passes
 --   count-positive        some number passes
@@ -14,6 +15,7 @@ use mathlib.Core.Bool.{Bool, true, false, true≢false}
 use Prim.Native.Nat.{ℕ, zero, suc, _+_, _≤_, _<_}
 use native.Mathlib.Omega.{arith}
 use native.Mathlib.Decide.{ℕ-discrete}
+use borrow.Table.Steps.{cases as split}
 use Rattle.forest.specs.Forest.{count}
 
 pub count-in : (t : ℕ → Bool) (n : ℕ) → t n ≡ true → count t (suc n) ≡ suc (count t n)
@@ -22,13 +24,13 @@ count-in t n e = rw e
 pub count-out : (t : ℕ → Bool) (n : ℕ) → t n ≡ false → count t (suc n) ≡ count t n
 count-out t n e = rw e
 
+pub count-next : (t : ℕ → Bool) (n : ℕ) → count t n ≤ count t (suc n)
+count-next t n = split (t n) (λ e. omega (arith, count-in t n e)) (λ e. omega (arith, count-out t n e))
+
 pub count-le : (t : ℕ → Bool) (n : ℕ) → count t n ≤ n
 count-le t zero = omega arith
-count-le t (suc n) = go (t n) refl (count-le t n)
-  where
-    go : (b : Bool) → t n ≡ b → count t n ≤ n → count t (suc n) ≤ suc n
-    go true e h = omega (arith, count-in t n e)
-    go false e h = omega (arith, count-out t n e)
+count-le t (suc n) =
+    split (t n) (λ e. omega (arith, count-in t n e, count-le t n)) (λ e. omega (arith, count-out t n e, count-le t n))
 
 pub count-all : (t : ℕ → Bool) (n : ℕ) → ((i : ℕ) → i < n → t i ≡ true) → count t n ≡ n
 count-all t zero h = refl
@@ -36,22 +38,18 @@ count-all t (suc n) h = count-in t n (h n (omega arith)) ∙ ap suc (count-all t
 
 pub count-positive : (t : ℕ → Bool) (n i : ℕ) → i < n → t i ≡ true → 1 ≤ count t n
 count-positive t zero i l e = absurd (omega arith)
-count-positive t (suc n) i l e = go (t n) refl (ℕ-discrete i n) (λ k. count-positive t n i k e)
-  where
-    go : (b : Bool) → t n ≡ b → Dec (i ≡ n) → (i < n → 1 ≤ count t n) → 1 ≤ count t (suc n)
-    go true f d m = omega (arith, count-in t n f)
-    go false f (yes d) m = absurd (true≢false (sym e ∙ ap t d ∙ f))
-    go false f (no d) m = omega (arith, count-out t n f, m (omega arith))
+count-positive t (suc n) i l e =
+    split (t n) (λ f. omega (arith, count-in t n f))
+    (λ f.
+    let other : i ≢ n = λ d. true≢false (sym e ∙ ap t d ∙ f) in
+    omega (arith, count-out t n f, count-positive t n i (omega (arith, other)) e))
 
 pub count-mono : (t u : ℕ → Bool) (n : ℕ) → ((i : ℕ) → i < n → t i ≡ true → u i ≡ true) → count t n ≤ count u n
 count-mono t u zero h = omega arith
-count-mono t u (suc n) h = go (t n) (u n) refl refl (count-mono t u n (λ i l. h i (omega arith)))
-  where
-    go : (a b : Bool) → t n ≡ a → u n ≡ b → count t n ≤ count u n → count t (suc n) ≤ count u (suc n)
-    go true true e f m = omega (arith, count-in t n e, count-in u n f)
-    go true false e f m = absurd (true≢false (sym (h n (omega arith) e) ∙ f))
-    go false true e f m = omega (arith, count-out t n e, count-in u n f)
-    go false false e f m = omega (arith, count-out t n e, count-out u n f)
+count-mono t u (suc n) h =
+    let below = count-mono t u n (λ i l. h i (omega arith)) in
+    split (t n) (λ e. omega (arith, below, count-in t n e, count-in u n (h n (omega arith) e)))
+    (λ e. omega (arith, below, count-out t n e, count-next u n))
 
 pub count-same : (t u : ℕ → Bool) (n : ℕ) → ((i : ℕ) → i < n → t i ≡ u i) → count t n ≡ count u n
 count-same t u n h =
@@ -63,39 +61,24 @@ pub count-less : (t u : ℕ → Bool) (n x : ℕ) → x < n → t x ≡ true →
 count-less t u zero x l e f h = absurd (omega arith)
 count-less t u (suc n) x l e f h = go (ℕ-discrete n x) (λ k. count-less t u n x k e f h)
   where
-    other : n ≢ x → (b : Bool) → t n ≡ b → suc (count u n) ≡ count t n → suc (count u (suc n)) ≡ count t (suc n)
-    other d true g m = omega (arith, count-in t n g, count-in u n (sym (h n d) ∙ g))
-    other d false g m = omega (arith, count-out t n g, count-out u n (sym (h n d) ∙ g))
-
     go : Dec (n ≡ x) → (x < n → suc (count u n) ≡ count t n) → suc (count u (suc n)) ≡ count t (suc n)
     go (yes d) m =
-        omega (
-          arith,
-          count-in t n (ap t d ∙ e),
-          count-out u n (ap u d ∙ f),
-          count-same t u n (λ i k. h i (λ q. absurd (omega arith))),
-        )
-    go (no d) m = other d (t n) refl (m (omega arith))
+        let below = count-same t u n (λ i k. h i (λ q. absurd (omega arith))) in
+        omega (arith, count-in t n (ap t d ∙ e), count-out u n (ap u d ∙ f), below)
+    go (no d) m =
+        split (t n)
+        (λ g. omega (arith, m (omega arith), count-in t n g, count-in u n (sym (h n d) ∙ g)))
+        (λ g. omega (arith, m (omega arith), count-out t n g, count-out u n (sym (h n d) ∙ g)))
 
 pub count-sum : (t u w : ℕ → Bool) (n : ℕ) → ((i : ℕ) → i < n → t i ≡ true → u i ≡ false)
     → ((i : ℕ) → i < n → t i ≡ true → w i ≡ true) → ((i : ℕ) → i < n → u i ≡ true → w i ≡ true)
     → count t n + count u n ≤ count w n
 count-sum t u w zero apart left right = omega arith
 count-sum t u w (suc n) apart left right =
-    go
-    (t n)
-    (u n)
-    refl
-    refl
-    (count-sum t u w n (λ i l. apart i (omega arith)) (λ i l. left i (omega arith)) (λ i l. right i (omega arith)))
-  where
-    neither : (b : Bool) → w n ≡ b → count w n ≤ count w (suc n)
-    neither true e = omega (arith, count-in w n e)
-    neither false e = omega (arith, count-out w n e)
-
-    go : (a b : Bool) → t n ≡ a → u n ≡ b → count t n + count u n ≤ count w n
-        → count t (suc n) + count u (suc n) ≤ count w (suc n)
-    go true b e f m =
-        omega (arith, count-in t n e, count-out u n (apart n (omega arith) e), count-in w n (left n (omega arith) e))
-    go false true e f m = omega (arith, count-out t n e, count-in u n f, count-in w n (right n (omega arith) f))
-    go false false e f m = omega (arith, count-out t n e, count-out u n f, neither (w n) refl)
+    let below = count-sum t u w n (λ i l. apart i (omega arith)) (λ i l. left i (omega arith)) (λ i l. right i (omega arith)) in
+    split (t n)
+    (λ e. omega (arith, below, count-in t n e, count-out u n (apart n (omega arith) e), count-in w n (left n (omega arith) e)))
+    (λ e.
+    split (u n)
+    (λ f. omega (arith, below, count-out t n e, count-in u n f, count-in w n (right n (omega arith) f)))
+    (λ f. omega (arith, below, count-out t n e, count-out u n f, count-next w n)))

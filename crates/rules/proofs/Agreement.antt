@@ -27,14 +27,14 @@ use Rattle.process.specs.declared.Task.{Task}
 use Rattle.process.specs.declared.Advanced.{Advanced}
 use Rattle.process.specs.Process.{servesX, nodeAt}
 use Rattle.process.specs.Access.{accessAt}
-use Rattle.process.specs.Advance.{ended, linked, advanceAt}
+use Rattle.process.specs.Advance.{ended, advanceAt}
 use Rattle.linearization.proofs.Tests.{split}
 use Rattle.rules.specs.Table.{at, parent, rank, seen}
 use Rattle.rules.specs.Action.{Agrees}
 use Rattle.rules.proofs.Table.{found-parent, found-rank}
 use Rattle.rules.proofs.Finds.{FindKnows}
 use Rattle.rules.proofs.Stages.{Moment, Linking, Knows}
-use Rattle.rules.proofs.Steps.{cond-both}
+use Rattle.rules.proofs.Steps.{cond-both, linked-event}
 
 abbrev Tells : Access → Node → Event → Type 0
 Tells access seen event = Agrees (record { access = access; seen = seen; event = event })
@@ -78,14 +78,6 @@ module _ {n : ℕ} (m : Moment n) (k : Task) where
     find-tells (ReadAgain u) a = record { failed = refl; linked = refl }
 
   module _ (r : ℕ) (e : Bool) where
-    linked-failed : (e : Bool) → linked k r e (suc (m .now)) .event .failed ≡ false
-    linked-failed true = refl
-    linked-failed false = refl
-
-    linked-linked : (e : Bool) → linked k r e (suc (m .now)) .event .linked ≡ true
-    linked-linked true = refl
-    linked-linked false = refl
-
     -- a link that writes has seen a root, and y is another node
     link-tells : {q : Request} → Linking m q (k .x) (k .y) r → Told (Link r e)
     link-tells a =
@@ -94,7 +86,8 @@ module _ {n : ℕ} (m : Moment n) (k : Task) where
         let rank-is = found-rank t (k .x) (record { rank = r; parent = k .x }) found in
         let root = eq-eqb (parent t (k .x)) (k .x) (found-parent t (k .x) (record { rank = r; parent = k .x }) found) in
         let other = ne-eqb (k .y) (k .x) (λ one. omega (arith, a .before, rank-is, ap (rank t) one)) in
-        record { failed = rw found (linked-failed e); linked = rw (found, root, other) (linked-linked e) })
+        let told = linked-event k r e (suc (m .now)) in
+        record { failed = rw found (told .failed); linked = rw (found, root, other) (told .linked) })
         (λ failed. record { failed = rw failed refl; linked = rw failed refl })
 
   -- a raise keeps its node a root

@@ -29,7 +29,6 @@ use Rattle.process.specs.declared.Advanced.{Advanced}
 use Rattle.process.specs.Process.{kindOf, servesX, nextErrand, nodeAt, movedTo, restart}
 use Rattle.process.specs.Find.{findAccess, walked}
 use Rattle.process.specs.Advance.{continue, together, compared, ended, followed, reread}
-use Rattle.linearization.specs.Partition.{Labels}
 use Rattle.linearization.proofs.Tests.{split}
 use Rattle.rules.specs.Table.{at, parent, rank, seen, touched}
 use Rattle.rules.proofs.Finds.{Walks, find-walks, find-halved}
@@ -50,14 +49,11 @@ module _ {n : ℕ} {m : Moment n} {q : Request} (present : Present m q) (k : Tas
   abbrev t : List Node
   t = m .table
 
-  abbrev B : Labels
-  B = m .labels
-
   abbrev Gives : List Node → Stage → Advanced → Type 0
   Gives t′ st a = Outcome m t′ q st a
 
   abbrev Here : Kind → Type 0
-  Here kind = Finding n B q kind (k .x) (k .y)
+  Here kind = Finding n (m .labels) q kind (k .x) (k .y)
 
   module _ (e : Errand) (s : Step) {t′ : List Node} (table : Unlinked m t′) where
     -- ---- both finds have ended
@@ -121,13 +117,13 @@ module _ {n : ℕ} {m : Moment n} {q : Request} (present : Present m q) (k : Tas
             (cond b (continue k (Find (nextErrand e) ReadNode)) (compared k (kindOf e) (suc (m .now))))
         go true root =
             goes-on (Find e s) k (Find (nextErrand e) ReadNode) false false refl refl table
-            (record { finding = subst (λ kind. Finding n B q kind (k .x) (k .y)) (sym (next-kind e)) f; find = tt })
+            (record { finding = subst Here (sym (next-kind e)) f; find = tt })
         go false root =
             split (eqb (k .x) (k .y)) (λ one. one-root (kindOf e) f one) (λ two. two-roots (kindOf e) f root two)
 
     -- ---- where the find goes
 
-    follows : (w : Walked) → Here (kindOf e) → Walks n t′ B (nodeAt k e) w → Gives t′ (Find e s) (followed k e (suc (m .now)) w)
+    follows : (w : Walked) → Here (kindOf e) → Walks n t′ (m .labels) (nodeAt k e) w → Gives t′ (Find e s) (followed k e (suc (m .now)) w)
     follows (On next) f a = goes-on (Find e s) k (Find e next) false false refl refl table (record { finding = f; find = a })
     follows (Failed next) f a = goes-on (Find e s) k (Find e next) true false refl refl table (record { finding = f; find = a })
     follows (Up v) f a =

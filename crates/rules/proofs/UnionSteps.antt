@@ -26,7 +26,6 @@ use Rattle.forest.proofs.Merge.{merged-ends}
 use Rattle.forest.proofs.Linking as linking
 use Rattle.forest.proofs.Raising as raising
 use Rattle.linearization.proofs.Tests.{split}
-use Rattle.linearization.specs.Partition.{Labels}
 use Rattle.rules.specs.Table.{at, parent, rank, touched}
 use Rattle.rules.proofs.Table.{found-parent, found-rank}
 use Rattle.rules.proofs.Finds.{stored}
@@ -35,14 +34,11 @@ use Rattle.rules.proofs.Outcomes.{afterGrant, united, united-merged, Un
 use Rattle.rules.proofs.Outcomes.Linked.{finished, raises}
 use Rattle.rules.proofs.Outcomes.Outcome.{joining, ending}
 use Rattle.rules.proofs.Writes.{linking-kept, linking-takes, linking-stays, raising-unlinked}
-use Rattle.rules.proofs.Steps.{ends-two, finding-exchange}
+use Rattle.rules.proofs.Steps.{linked-event, ends-two, finding-exchange}
 
 module _ {n : ℕ} {m : Moment n} {q : Request} (present : Present m q) (k : Task) where
   abbrev t : List Node
   t = m .table
-
-  abbrev B : Labels
-  B = m .labels
 
   abbrev Gives : List Node → Stage → Advanced → Type 0
   Gives t′ st a = Outcome m t′ q st a
@@ -55,7 +51,7 @@ module _ {n : ℕ} {m : Moment n} {q : Request} (present : Present m q) (k : Tas
       (record { finding = a .finding; distinct = a .distinct; rank = omega arith })
 
   -- the order of the ranks read is the order of keys
-  ranks-order : (r : ℕ) → Finding n B q Union (k .x) (k .y)
+  ranks-order : (r : ℕ) → Finding n (m .labels) q Union (k .x) (k .y)
       → before (rank t (k .y)) (k .y) r (k .x) ≡ ltb (key (rank t (k .y)) (k .y)) (key r (k .x))
   ranks-order r f =
       let few = present .sound .formed .limit in
@@ -63,10 +59,10 @@ module _ {n : ℕ} {m : Moment n} {q : Request} (present : Present m q) (k : Tas
 
   module _ (r : ℕ) (a : ReadingRanks m q (k .x) (k .y) r) where
     -- y comes before x: they are exchanged
-    exchanged : key (rank t (k .y)) (k .y) < key r (k .x) → Linking (afterGrant m t B) q (k .y) (k .x) (rank t (k .y))
+    exchanged : key (rank t (k .y)) (k .y) < key r (k .x) → Linking (afterGrant m t (m .labels)) q (k .y) (k .x) (rank t (k .y))
     exchanged order = record { finding = finding-exchange (a .finding); rank = omega arith; before = omega (arith, a .rank) }
 
-    straight : key r (k .x) ≤ key (rank t (k .y)) (k .y) → Linking (afterGrant m t B) q (k .x) (k .y) r
+    straight : key r (k .x) ≤ key (rank t (k .y)) (k .y) → Linking (afterGrant m t (m .labels)) q (k .x) (k .y) r
     straight order =
         record {
           finding = a .finding;
@@ -89,7 +85,7 @@ module _ {n : ℕ} {m : Moment n} {q : Request} (present : Present m q) (k : Tas
 
   module _ (r : ℕ) (a : Linking m q (k .x) (k .y) r) where
     module _ (found : same (at t (k .x)) (record { rank = r; parent = k .x }) ≡ true) where
-      may-link : linking.Linking n (parent t) (rank t) B (united m q) (k .x) r (k .y)
+      may-link : linking.Linking n (parent t) (rank t) (m .labels) (united m q) (k .x) r (k .y)
       may-link =
           let rank-is = found-rank t (k .x) (record { rank = r; parent = k .x }) found in
           record {
@@ -119,20 +115,12 @@ module _ {n : ℕ} {m : Moment n} {q : Request} (present : Present m q) (k : Tas
             roots = linking-takes m (present .nodes) (present .sound) may-link;
             unraised = refl;
             kind = a .finding .kind;
-            linked = by-case e;
-            point = at-case e;
+            linked = linked-event k r e (suc (m .now)) .linked;
+            point = linked-event k r e (suc (m .now)) .point;
             two-sets = ends-two (a .finding .ends) (linking.linking-apart (present .sound) may-link);
             after = after e;
           })
         where
-          by-case : (e : Bool) → linked k r e (suc (m .now)) .event .linked ≡ true
-          by-case true = refl
-          by-case false = refl
-
-          at-case : (e : Bool) → linked k r e (suc (m .now)) .event .point ≡ suc (m .now)
-          at-case true = refl
-          at-case false = refl
-
           after : (e : Bool) → Linked m (stored t (k .x) r (k .y)) q (linked k r e (suc (m .now)))
           after true = raises r refl refl to-raise
           after false = finished refl refl
@@ -152,7 +140,7 @@ module _ {n : ℕ} {m : Moment n} {q : Request} (present : Present m q) (k : Tas
     raise-ends w table =
         ending (record { table = table; raised = refl; kind = a .kind; unlinked = refl; answer = refl; unplaced = refl; rests = refl })
 
-    may-raise : same (at t (k .y)) (record { rank = r; parent = k .y }) ≡ true → raising.Raising n (parent t) (rank t) B (k .y) r
+    may-raise : same (at t (k .y)) (record { rank = r; parent = k .y }) ≡ true → raising.Raising n (parent t) (rank t) (m .labels) (k .y) r
     may-raise found =
         record {
           node = a .node;

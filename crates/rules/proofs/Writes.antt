@@ -29,43 +29,32 @@ module _ {n : ℕ} (m : Moment n) (nodes : length (m .table) ≡ n)
   abbrev t : List Node
   t = m .table
 
-  abbrev B : Labels
-  B = m .labels
-
-  halving-unlinked : {v k u : ℕ} → Halving n (parent t) (rank t) B v k u → Unlinked m (stored t v k u)
+  halving-unlinked : {v k u : ℕ} → Halving n (parent t) (rank t) (m .labels) v k u → Unlinked m (stored t v k u)
   halving-unlinked {v} {k} {u} halving =
+      let parents = parent-changed t v (record { rank = k; parent = u }) (omega (arith, halving .node)) in
+      let ranks = rank-changed t v (record { rank = k; parent = u }) (omega (arith, halving .node)) in
       record {
         kept = record { sound = halving-sound sound halving parents ranks; later = halving-later (sound .formed) halving parents ranks };
         roots = halving-roots (sound .formed) halving parents ranks;
       }
-    where
-      parents : Changed (parent t) (parent (stored t v k u)) v u
-      parents = parent-changed t v (record { rank = k; parent = u }) (omega (arith, halving .node))
-
-      ranks : Changed (rank t) (rank (stored t v k u)) v k
-      ranks = rank-changed t v (record { rank = k; parent = u }) (omega (arith, halving .node))
 
   -- what a find writes
-  pub find-unlinked : {t′ : List Node} {v : ℕ} → Halved n t t′ B v → Unlinked m t′
+  pub find-unlinked : {t′ : List Node} {v : ℕ} → Halved n t t′ (m .labels) v → Unlinked m t′
   find-unlinked (kept e) = subst (λ t′. Unlinked m t′) (sym e) (unwritten m sound)
   find-unlinked (written k u halving e) = subst (λ t′. Unlinked m t′) (sym e) (halving-unlinked halving)
 
-  pub raising-unlinked : {y k : ℕ} → Raising n (parent t) (rank t) B y k → Unlinked m (stored t y (k + 1) y)
+  pub raising-unlinked : {y k : ℕ} → Raising n (parent t) (rank t) (m .labels) y k → Unlinked m (stored t y (k + 1) y)
   raising-unlinked {y} {k} raising =
+      let parents = parent-changed t y (record { rank = k + 1; parent = y }) (omega (arith, raising .node)) in
+      let changed = rank-changed t y (record { rank = k + 1; parent = y }) (omega (arith, raising .node)) in
+      let ranks : Changed (rank t) (rank (stored t y (k + 1) y)) y (suc k) =
+      record { at = changed .at ∙ omega arith; other = changed .other } in
       record {
         kept = record { sound = raising-sound sound raising parents ranks; later = raising-later sound raising parents ranks };
         roots = raising-roots sound raising parents ranks;
       }
-    where
-      parents : Changed (parent t) (parent (stored t y (k + 1) y)) y y
-      parents = parent-changed t y (record { rank = k + 1; parent = y }) (omega (arith, raising .node))
 
-      ranks : Changed (rank t) (rank (stored t y (k + 1) y)) y (suc k)
-      ranks =
-          let change = rank-changed t y (record { rank = k + 1; parent = y }) (omega (arith, raising .node)) in
-          record { at = change .at ∙ omega arith; other = change .other }
-
-  module _ {B′ : Labels} {x k y : ℕ} (linking : Linking n (parent t) (rank t) B B′ x k y) where
+  module _ {B′ : Labels} {x k y : ℕ} (linking : Linking n (parent t) (rank t) (m .labels) B′ x k y) where
     parents : Changed (parent t) (parent (stored t x k y)) x y
     parents = parent-changed t x (record { rank = k; parent = y }) (omega (arith, linking .node))
 
