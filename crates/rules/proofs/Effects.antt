@@ -1,7 +1,7 @@
 -- What each of the five outcomes does to the table, to the entries and to its own request.
 --
 --   q, a, act, past′, t′   the request served, the head's step, the action, the history and the table after the grant
---   m, B₁             the moment before the grant, and its labels
+--   m                 the moment before the grant
 --   with-entries es   the state after the grant, with the entries es
 --   Does es           the effect of the grant, with the entries es
 --   entered           the entries with the request's own at this grant
@@ -49,7 +49,7 @@ use Rattle.rules.proofs.Stages.{Moment, Knows}
 use Rattle.rules.proofs.Outcomes.{united, Kept, Unlinked, Going, Closing, Linked, Joining, Ending, Denying, Outcome}
 use Rattle.rules.proofs.Outcomes.Linked.{finished, raises}
 use Rattle.rules.proofs.Outcomes.Outcome.{going, closing, joining, ending, denying}
-use Rattle.rules.proofs.Invariant.{labels, momentOf, claim, Candidate, Placed, Invariant}
+use Rattle.rules.proofs.Invariant.{momentOf, claim, Candidate, Placed, Invariant}
 use Rattle.rules.proofs.Others.{placed-other}
 use Rattle.rules.proofs.Own.{anchored-joined, anchored-found, anchored-no, finished-over, unfinished-current}
 use Rattle.rules.proofs.Own.{timed-on, timed-raising, placed-now, placed-pending, placed-still}
@@ -84,9 +84,6 @@ module _ (qs : List Request) (n : ℕ) (B : Labels) (roots₀ : ℕ) (S : State)
 
   abbrev m : Moment n
   m = momentOf qs n B S
-
-  abbrev B₁ : Labels
-  B₁ = labels qs B S
 
   abbrev with-entries : List Entry → State
   with-entries es =
@@ -190,7 +187,7 @@ module _ (qs : List Request) (n : ℕ) (B : Labels) (roots₀ : ℕ) (S : State)
   entered-last : entered ≡ S .entries ++ (own ∷ [])
   entered-last = insert-last (suc (S .now)) q (S .entries) entries-below
 
-  entered-labels : after (operationAt qs) B entered ≡ next B₁ (operationAt qs q)
+  entered-labels : after (operationAt qs) B entered ≡ next (m .labels) (operationAt qs q)
   entered-labels = ap (after (operationAt qs) B) entered-last ∙ after-snoc (operationAt qs) B (S .entries) own
 
   entered-settled : (point : ℕ) → point ≤ S .now
@@ -199,7 +196,7 @@ module _ (qs : List Request) (n : ℕ) (B : Labels) (roots₀ : ℕ) (S : State)
       ap (labelsTo (operationAt qs) point B) entered-last ∙ labelsTo-snoc (operationAt qs) point B (S .entries) own (omega arith)
 
   entered-replayed : traitsOf (head .stage) .linked ≡ false → suc (length past) ≡ pointOf (requestAt qs q .kind) q past′
-      → reply B₁ (operationAt qs q) ≡ claim past′ q → Replayed (operationAt qs) (Placed qs past′) (claim past′) B 0 entered
+      → reply (m .labels) (operationAt qs q) ≡ claim past′ q → Replayed (operationAt qs) (Placed qs past′) (claim past′) B 0 entered
   entered-replayed unraised point answered =
       let placed = subst (λ k. Placed qs past′ (entry (suc k) q)) (sym (inv .clock)) (placed-now q act past (srv .within) point) in
       subst (Replayed (operationAt qs) (Placed qs past′) (claim past′) B 0) (sym entered-last)
@@ -212,16 +209,16 @@ module _ (qs : List Request) (n : ℕ) (B : Labels) (roots₀ : ℕ) (S : State)
     closing-point Union = sym (point-unlinked q act past (still-unlinked (c .unraised) (c .unlinked)))
     closing-point SameSet = sym (point-same-set q past′ ∙ find-served q act past (c .found))
 
-    closing-answer : reply B₁ (operationAt qs q) ≡ claim past′ q
+    closing-answer : reply (m .labels) (operationAt qs q) ≡ claim past′ q
     closing-answer =
-        reply-together B₁ (operationAt qs q) (c .one-set) ∙ together-reply (requestAt qs q .kind)
+        reply-together (m .labels) (operationAt qs q) (c .one-set) ∙ together-reply (requestAt qs q .kind)
         ∙ ap (λ b. promised (answerNumber b)) (sym (c .answer)) ∙ ap promised (sym (served-answer q act past))
 
     closing-effect : Does entered
     closing-effect =
         let final = ap isFinal (c .answer) ∙ together-final (requestAt qs q .kind) in
         record {
-          kept = table-kept entered (entered-labels ∙ next-together B₁ (operationAt qs q) (c .one-set)) (c .table .kept);
+          kept = table-kept entered (entered-labels ∙ next-together (m .labels) (operationAt qs q) (c .one-set)) (c .table .kept);
           roots = roots-stay (c .unlinked) (c .table);
           settled = entered-settled;
           entries = entered-replayed (c .unraised) (closing-point (requestAt qs q .kind)) closing-answer;
@@ -235,7 +232,7 @@ module _ (qs : List Request) (n : ℕ) (B : Labels) (roots₀ : ℕ) (S : State)
 
   module _ (j : Joining m t′ (requestAt qs q) (head .stage) a) where
     joining-labels : after (operationAt qs) B entered ≡ united m (requestAt qs q)
-    joining-labels = entered-labels ∙ next-union B₁ (operationAt qs q) (j .kind)
+    joining-labels = entered-labels ∙ next-union (m .labels) (operationAt qs q) (j .kind)
 
     joining-link : linkOf q past′ ≡ suc (length past)
     joining-link = link-served q act past (tells (j .linked))
@@ -251,9 +248,9 @@ module _ (qs : List Request) (n : ℕ) (B : Labels) (roots₀ : ℕ) (S : State)
     joining-claim (finished answer rests) = sym (ap promised (served-answer q act past ∙ ap answerNumber answer))
     joining-claim (raises k answer stage r) = sym (ap promised (served-answer q act past ∙ ap answerNumber answer))
 
-    joining-answer : reply B₁ (operationAt qs q) ≡ claim past′ q
+    joining-answer : reply (m .labels) (operationAt qs q) ≡ claim past′ q
     joining-answer =
-        reply-apart B₁ (operationAt qs q) (j .two-sets) ∙ ap (λ k. replyTo k false) (j .kind) ∙ joining-claim (j .after)
+        reply-apart (m .labels) (operationAt qs q) (j .two-sets) ∙ ap (λ k. replyTo k false) (j .kind) ∙ joining-claim (j .after)
 
     joining-after : Linked m t′ (requestAt qs q) a → After qs n B (with-entries entered) past′ q a
     joining-after (finished answer rests) =
