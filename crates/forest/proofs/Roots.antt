@@ -8,9 +8,9 @@ use Prim.Native.Nat.{ℕ, suc}
 use native.Mathlib.Decide.{ℕ-discrete}
 use lib.Dec.{eqb}
 use borrow.Author.Tests.{eq-eqb, ne-eqb}
+use Rattle.basics.proofs.Counts.{count-all, count-same, count-less}
 use Rattle.forest.specs.Forest.{rootCount}
 use Rattle.forest.proofs.Forest.{WellFormed}
-use Rattle.forest.proofs.Count.{count-all, count-same, count-less}
 use Rattle.forest.proofs.Sound.{Sound, Start}
 use Rattle.forest.proofs.Writes.{Changed}
 use Rattle.forest.proofs.Halving.{Halving, halving-root}

@@ -9,8 +9,8 @@ use mathlib.Core.Logic.{_≢_}
 use Prim.Native.Nat.{ℕ, _+_, _≤_, _<_}
 use lib.Dec.{eqb}
 use borrow.Author.Tests.{eqb-true, eq-eqb, ne-eqb}
-use Rattle.forest.specs.Forest.{count}
-use Rattle.forest.proofs.Count.{count-le, count-mono, count-positive, count-sum}
+use Rattle.basics.specs.Count.{count}
+use Rattle.basics.proofs.Counts.{count-le, count-mono, count-positive, count-sum}
 
 unfoldable pub size : ℕ → (ℕ → ℕ) → ℕ → ℕ
 size n B l = count (λ i. eqb (B i) l) n

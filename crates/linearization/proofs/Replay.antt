@@ -11,10 +11,10 @@ use Prim.Native.Nat.{ℕ, suc, _<_}
 use native.Mathlib.Omega.{arith}
 use lib.Dec.{ltb}
 use borrow.Author.Tests.{ltb-true, ltb-false, lt-ltb, le-ltb}
+use Rattle.basics.proofs.Conditions.{split}
 use Rattle.job.specs.declared.Answer.{Answer}
 use Rattle.linearization.specs.Partition.{Labels, Operation, reply, next, replay, replies}
 use Rattle.linearization.specs.Entry.{Entry, insert, Rising, empty, rises, operations}
-use Rattle.linearization.proofs.Tests.{split}
 use Rattle.linearization.proofs.Partition.{Unjoined}
 use Rattle.linearization.proofs.Entries.{entry, Free, Below}
 

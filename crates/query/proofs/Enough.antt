@@ -21,7 +21,9 @@ use lib.Dec.{eqb, ltb}
 use lib.ListN.{set}
 use lib.Seq.{getD-set-other}
 use borrow.Author.Tests.{eqb-true, eqb-false, eq-eqb, ne-eqb, ltb-true, lt-ltb}
-use Rattle.linearization.proofs.Tests.{split}
+use Rattle.basics.specs.Count.{count}
+use Rattle.basics.proofs.Conditions.{split}
+use Rattle.basics.proofs.Counts.{count-le, count-positive, count-sum}
 use Rattle.job.specs.declared.Kind.{Kind}
 use Rattle.job.specs.declared.Kind.the-variants.{Union, SameSet}
 use Rattle.job.specs.declared.Answer.the-variants.{Unfinished}
@@ -40,8 +42,6 @@ use Rattle.process.specs.Process.{traitsOf, kindOf, servesX, nextErrand, nodeAt
 use Rattle.process.specs.Find.{findAccess, walked}
 use Rattle.process.specs.Access.{accessAt, accessOf}
 use Rattle.process.specs.Advance.{continue, compared, followed, reread, advanceAt, advanceOf}
-use Rattle.forest.specs.Forest.{count}
-use Rattle.forest.proofs.Count.{count-le, count-positive, count-sum}
 use Rattle.rules.specs.Report.{isFinal}
 use Rattle.rules.specs.Table.{noNode, at, parent, rank, seen, touched}
 use Rattle.rules.proofs.History.{final-number}

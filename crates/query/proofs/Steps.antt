@@ -16,6 +16,7 @@ use Prim.Native.Nat.{ℕ, suc, _<_}
 use native.Mathlib.Omega.{arith}
 use lib.Dec.{eqb}
 use borrow.Author.Tests.{eqb-true, eqb-false}
+use Rattle.basics.proofs.Conditions.{split}
 use Rattle.job.specs.declared.Kind.{Kind}
 use Rattle.job.specs.declared.Kind.the-variants.{Union, SameSet}
 use Rattle.job.specs.declared.Answer.{Answer}
@@ -37,7 +38,6 @@ use Rattle.process.specs.Find.{findAccess, walked}
 use Rattle.process.specs.Access.{accessAt, accessOf}
 use Rattle.process.specs.Advance.{continue, compared, followed, reread, advanceAt, advanceOf}
 use Rattle.forest.proofs.Forest.{Labelled}
-use Rattle.linearization.proofs.Tests.{split}
 use Rattle.rules.specs.Report.{isFinal}
 use Rattle.rules.specs.Table.{at, parent, rank, seen, touched}
 use Rattle.rules.proofs.Finds.{Walks, find-walks, find-halved}

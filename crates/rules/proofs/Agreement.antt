@@ -12,6 +12,7 @@ use Prim.Native.Nat.{ℕ, suc}
 use native.Mathlib.Omega.{arith}
 use lib.Dec.{eqb}
 use borrow.Author.Tests.{eq-eqb, ne-eqb}
+use Rattle.basics.proofs.Conditions.{split, cond-both}
 use Rattle.job.specs.declared.Request.{Request}
 use Rattle.word.specs.declared.Node.{Node}
 use Rattle.word.specs.Word.{same, before}
@@ -28,13 +29,12 @@ use Rattle.process.specs.declared.Advanced.{Advanced}
 use Rattle.process.specs.Process.{servesX, nodeAt}
 use Rattle.process.specs.Access.{accessAt}
 use Rattle.process.specs.Advance.{ended, advanceAt}
-use Rattle.linearization.proofs.Tests.{split}
 use Rattle.rules.specs.Table.{at, parent, rank, seen}
 use Rattle.rules.specs.Action.{Agrees}
 use Rattle.rules.proofs.Table.{found-parent, found-rank}
 use Rattle.rules.proofs.Finds.{FindKnows}
 use Rattle.rules.proofs.Stages.{Moment, Linking, Knows}
-use Rattle.rules.proofs.Steps.{cond-both, linked-event}
+use Rattle.rules.proofs.Steps.{linked-event}
 
 abbrev Tells : Access → Node → Event → Type 0
 Tells access seen event = Agrees (record { access = access; seen = seen; event = event })

@@ -20,6 +20,7 @@ use native.Mathlib.Decide.{ℕ-discrete}
 use lib.Dec.{eqb}
 use lib.ListN.{length, set}
 use borrow.Author.Tests.{eqb-true, eqb-false}
+use Rattle.basics.proofs.Conditions.{split}
 use Rattle.word.specs.declared.Node.{Node}
 use Rattle.word.specs.Word.{key, same}
 use Rattle.process.specs.declared.Step.{Step}
@@ -30,7 +31,6 @@ use Rattle.process.specs.Find.{findAccess, walked}
 use Rattle.forest.proofs.Forest.{WellFormed, Labelled}
 use Rattle.forest.proofs.Halving.{Halving}
 use Rattle.forest.proofs.Later.{Later, later-before, halving-later}
-use Rattle.linearization.proofs.Tests.{split}
 use Rattle.rules.specs.Table.{at, parent, rank, seen, touched}
 use Rattle.rules.proofs.Table.{parent-changed, rank-changed}
 

@@ -8,6 +8,7 @@ use Prim.Native.Nat.{ℕ, suc, _<_}
 use native.Mathlib.Omega.{arith}
 use lib.ListN.{length}
 use borrow.Author.Tests.{ltb-true, eq-eqb}
+use Rattle.basics.proofs.Conditions.{split}
 use Rattle.job.specs.declared.Request.{Request}
 use Rattle.process.specs.declared.Head.{Head}
 use Rattle.process.specs.Process.{isResting, begin}
@@ -16,7 +17,6 @@ use Rattle.process.specs.Advance.{advanceOf}
 use Rattle.forest.proofs.Later.{later-refl}
 use Rattle.linearization.specs.Partition.{Labels}
 use Rattle.linearization.specs.Entry.{occurrences}
-use Rattle.linearization.proofs.Tests.{split}
 use Rattle.linearization.proofs.Replay.{labelsTo-all, replayed-fact, replayed-map}
 use Rattle.rules.specs.Table.{parent, rank, touched}
 use Rattle.rules.specs.State.{State, requestAt, hasWork}

@@ -3,23 +3,23 @@
 -- Main laws: run-lawful, at every moment; run-follows, between any two.
 use mathlib.Core.Path.{_≡_, refl, sym, ap, _∙_, subst}
 use mathlib.Core.Logic.{_≢_}
-use mathlib.Core.Bool.{Bool, true, false}
+use mathlib.Core.Bool.{true}
 use mathlib.Core.List.{List, [], _∷_, _++_, List·Memᴰ, Memᴰ·append-left, Memᴰ·append-right}
-use Prim.Native.Nat.{ℕ, zero, suc, _+_, _-_, _≤_, _<_}
+use Prim.Native.Nat.{ℕ, suc, _+_, _-_, _≤_, _<_}
 use native.Mathlib.Omega.{arith}
 use lib.ListN.{length}
 use borrow.Author.Tests.{ne-eqb, lt-ltb}
+use Rattle.basics.proofs.Conditions.{split}
+use Rattle.basics.proofs.Counts.{count-more}
 use Rattle.job.specs.declared.Request.{Request}
 use Rattle.word.specs.declared.Node.{Node}
 use Rattle.word.specs.Word.{before, key}
 use Rattle.word.proofs.Laws.{before-key}
-use Rattle.forest.specs.Forest.{count}
 use Rattle.forest.proofs.Forest.{WellFormed, together-label, label-together}
 use Rattle.forest.proofs.Sound.{rank-bound}
 use Rattle.forest.proofs.Roots.{start-roots}
 use Rattle.forest.proofs.Later.{Later, later-refl}
 use Rattle.linearization.specs.Partition.{Labels, apart}
-use Rattle.linearization.proofs.Tests.{split}
 use Rattle.rules.specs.declared.Row.{Row}
 use Rattle.rules.specs.Table.{parent, rank, fresh}
 use Rattle.rules.specs.Report.{noRow}
@@ -54,12 +54,6 @@ unused-row q (a ∷ past) none =
     (λ f. row-other q a past f ∙ unused-row q past (rw f at none))
 
 -- ---- heads without a request have no work
-
-count-more : (test : ℕ → Bool) (n k : ℕ) → ((h : ℕ) → n ≤ h → test h ≡ false) → count test (n + k) ≡ count test n
-count-more test n zero none = let same : n + 0 ≡ n = omega arith in ap (count test) same
-count-more test n (suc k) none =
-    let more : n + suc k ≡ suc (n + k) = omega arith in
-    rw (more, none (n + k) (omega arith)) (count-more test n k none)
 
 heads-left : (qs : List Request) (report : List Row) (heads m : ℕ) → heads ≤ m → ((q : ℕ) → q < length qs → requestAt qs q .head < heads)
     → headsLeft qs report m ≡ headsLeft qs report heads

@@ -16,11 +16,11 @@ use native.Mathlib.Omega.{arith}
 use native.Mathlib.Decide.{ℕ-discrete}
 use lib.ListN.{length}
 use borrow.Author.Tests.{eq-eqb, ltb-true}
+use Rattle.basics.proofs.Conditions.{split}
 use Rattle.job.specs.declared.Request.{Request}
 use Rattle.process.specs.declared.Head.{Head}
 use Rattle.forest.proofs.Later.{Later, later-trans}
 use Rattle.linearization.specs.Partition.{Labels}
-use Rattle.linearization.proofs.Tests.{split}
 use Rattle.rules.specs.declared.Row.{Row}
 use Rattle.rules.specs.Table.{parent, rank}
 use Rattle.rules.specs.State.{State, requestAt, hasWork}

@@ -11,13 +11,13 @@ use native.Mathlib.Omega.{arith}
 use lib.Dec.{eqb}
 use lib.ListN.{length, getD}
 use borrow.Author.Tests.{eqb-true, eq-eqb, ne-eqb, ltb-true, ltb-false}
+use Rattle.basics.specs.Count.{count}
+use Rattle.basics.proofs.Conditions.{split}
+use Rattle.basics.proofs.Counts.{count-first, count-same}
 use Rattle.job.specs.declared.Request.{Request}
 use Rattle.process.specs.declared.Head.{Head}
-use Rattle.forest.specs.Forest.{count}
-use Rattle.forest.proofs.Count.{count-same}
 use Rattle.linearization.specs.Partition.{Labels}
 use Rattle.linearization.specs.Entry.{occurrences}
-use Rattle.linearization.proofs.Tests.{split, count-swap}
 use Rattle.rules.specs.State.{State, requestAt, resting, hasWork, working}
 use Rattle.rules.specs.Step.{headAt, plus}
 use Rattle.rules.specs.Run.{Happening}
@@ -69,12 +69,6 @@ some-true test (suc n) i l e =
 pub some-false : (test : ℕ → Bool) (n : ℕ) → ((i : ℕ) → i < n → test i ≡ false) → some test n ≡ false
 some-false test zero fails = refl
 some-false test (suc n) fails = rw (fails n (omega arith)) (some-false test n (λ i l. fails i (omega arith)))
-
--- counting may begin with the first number instead of the last
-count-first : (test : ℕ → Bool) (n : ℕ) → count test (suc n) ≡ plus (test 0) (count (λ i. test (suc i)) n)
-count-first test zero = refl
-count-first test (suc n) =
-    ap (plus (test (suc n))) (count-first test n) ∙ count-swap (test (suc n)) (test 0) (count (λ i. test (suc i)) n)
 
 working-count : (qs : List Request) (heads : List Head)
     → working qs heads ≡ count (λ h. hasWork qs (getD heads h (resting 0))) (length heads)

@@ -10,6 +10,7 @@ use mathlib.Core.Logic.{_≢_}
 use mathlib.Core.Bool.{Bool, true, false, cond}
 use Prim.Native.Nat.{ℕ}
 use lib.Dec.{eqb}
+use Rattle.basics.proofs.Conditions.{cond-both}
 use Rattle.job.specs.declared.Kind.{Kind}
 use Rattle.job.specs.declared.Request.{Request}
 use Rattle.word.specs.declared.Node.{Node}
@@ -31,10 +32,6 @@ use Rattle.rules.proofs.Finds.{Moved}
 use Rattle.rules.proofs.Stages.{Finding}
 
 -- ---- a head keeps its request
-
-pub cond-both : {A : Type 0} (P : A → Type 0) (b : Bool) {x y : A} → P x → P y → P (cond b x y)
-cond-both P true p q = p
-cond-both P false p q = q
 
 module _ (k : Task) where
   abbrev Keeps : Advanced → Type 0

@@ -15,6 +15,7 @@ use native.Mathlib.Decide.{decLt}
 use lib.Dec.{eqb}
 use lib.ListN.{length, getD, length-set, length-replicate, getD-replicate}
 use borrow.Author.Tests.{eq-eqb, ne-eqb}
+use Rattle.basics.proofs.Conditions.{split}
 use Rattle.job.specs.declared.Request.{Request}
 use Rattle.word.specs.declared.Node.{Node}
 use Rattle.word.specs.Word.{nodeLimit}
@@ -25,7 +26,6 @@ use Rattle.forest.proofs.Forest.{together-iff-label}
 use Rattle.forest.proofs.Sound.{Sound, start-sound}
 use Rattle.linearization.specs.Partition.{Labels, apart}
 use Rattle.linearization.specs.Entry.{Entry, occurrences}
-use Rattle.linearization.proofs.Tests.{split}
 use Rattle.linearization.proofs.Replay.{Replayed, ended, replayed-fact, replayed-rising, replayed-replies, replayed-map}
 use Rattle.rules.specs.Table.{parent, rank, fresh}
 use Rattle.rules.specs.Report.{noRow}

@@ -10,6 +10,7 @@ use Prim.Native.Nat.{ℕ, suc, _+_, _≤_, _<_}
 use native.Mathlib.Omega.{arith}
 use lib.Dec.{eqb, ltb}
 use borrow.Author.Tests.{ltb-true, ltb-false}
+use Rattle.basics.proofs.Conditions.{split}
 use Rattle.job.specs.declared.Kind.the-variants.{Union}
 use Rattle.job.specs.declared.Request.{Request}
 use Rattle.word.specs.declared.Node.{Node}
@@ -25,7 +26,6 @@ use Rattle.process.specs.Advance.{continue, rankBoth, linked, link, raise}
 use Rattle.forest.proofs.Merge.{merged-ends}
 use Rattle.forest.proofs.Linking as linking
 use Rattle.forest.proofs.Raising as raising
-use Rattle.linearization.proofs.Tests.{split}
 use Rattle.rules.specs.Table.{at, parent, rank, touched}
 use Rattle.rules.proofs.Table.{found-parent, found-rank}
 use Rattle.rules.proofs.Finds.{stored}

@@ -8,6 +8,7 @@ use Prim.Native.Nat.{ℕ, suc, _+_, _*_, _-_, _^_, _<_}
 use native.Mathlib.Omega.{arith}
 use lib.Dec.{eqb, ltb}
 use lib.ListN.{length, getD, set, drop}
+use Rattle.basics.proofs.Conditions.{split}
 use Rattle.job.specs.declared.Request.{Request}
 use Rattle.word.specs.Word.{decode, encode}
 use Rattle.process.specs.declared.Head.{Head}
@@ -18,7 +19,6 @@ use Rattle.process.specs.Advance.{advanceOf}
 use Rattle.forest.proofs.Sound.{rank-limit}
 use Rattle.linearization.specs.Partition.{apart}
 use Rattle.linearization.specs.Entry.{flat, inserted}
-use Rattle.linearization.proofs.Tests.{split}
 use Rattle.mask.specs.Mask.{maskOf}
 use Rattle.mask.proofs.Laws.{mask-kept, mask-left}
 use Rattle.rules.specs.Table.{parent, rank, seen, touched}

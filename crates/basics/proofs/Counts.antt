@@ -9,14 +9,17 @@
 --   count-same            tests that agree count the same
 --   count-less            one number ceases to pass
 --   count-sum             two tests that exclude each other, within a third
+--   count-first           the first number apart instead of the last
+--   count-more            numbers that do not pass add nothing
+--   count-swap            two tests are counted in either order
 use mathlib.Core.Path.{_≡_, refl, sym, ap, _∙_}
 use mathlib.Core.Logic.{_≢_}
-use mathlib.Core.Bool.{Bool, true, false, true≢false}
+use mathlib.Core.Bool.{Bool, true, false, cond, true≢false}
 use Prim.Native.Nat.{ℕ, zero, suc, _+_, _≤_, _<_}
 use native.Mathlib.Omega.{arith}
 use native.Mathlib.Decide.{ℕ-discrete}
-use borrow.Table.Steps.{cases as split}
-use Rattle.forest.specs.Forest.{count}
+use Rattle.basics.specs.Count.{count}
+use Rattle.basics.proofs.Conditions.{split}
 
 pub count-in : (t : ℕ → Bool) (n : ℕ) → t n ≡ true → count t (suc n) ≡ suc (count t n)
 count-in t n e = rw e
@@ -82,3 +85,22 @@ count-sum t u w (suc n) apart left right =
     split (u n)
     (λ f. omega (arith, below, count-out t n e, count-in u n f, count-in w n (right n (omega arith) f)))
     (λ f. omega (arith, below, count-out t n e, count-out u n f, count-next w n)))
+
+pub count-swap : (s t : Bool) (n : ℕ)
+    → cond s (suc (cond t (suc n) n)) (cond t (suc n) n) ≡ cond t (suc (cond s (suc n) n)) (cond s (suc n) n)
+count-swap true true n = refl
+count-swap true false n = refl
+count-swap false true n = refl
+count-swap false false n = refl
+
+pub count-first : (test : ℕ → Bool) (n : ℕ)
+    → count test (suc n) ≡ cond (test 0) (suc (count (λ i. test (suc i)) n)) (count (λ i. test (suc i)) n)
+count-first test zero = refl
+count-first test (suc n) =
+    ap (λ k. cond (test (suc n)) (suc k) k) (count-first test n) ∙ count-swap (test (suc n)) (test 0) (count (λ i. test (suc i)) n)
+
+pub count-more : (test : ℕ → Bool) (n k : ℕ) → ((h : ℕ) → n ≤ h → test h ≡ false) → count test (n + k) ≡ count test n
+count-more test n zero none = let same : n + 0 ≡ n = omega arith in ap (count test) same
+count-more test n (suc k) none =
+    let more : n + suc k ≡ suc (n + k) = omega arith in
+    rw (more, none (n + k) (omega arith)) (count-more test n k none)
