@@ -7,7 +7,7 @@ use lib.Dec.{ltb}
 use lib.ListN.{length, take}
 use lib.Seq.{length-take-le, take-all}
 use borrow.Author.Tests.{ltb-true, ltb-false, lt-ltb}
-use Rattle.linearization.proofs.Tests.{split}
+use Rattle.basics.proofs.Conditions.{split}
 use Rattle.jobfile.specs.Format.{mostBytes, lengthRefusal}
 use Rattle.jobfile.specs.Meaning.{fileRefusal, refused, meaning}
 use Rattle.player.specs.Player.{playRefusal, playedOf}

@@ -10,15 +10,15 @@ use lib.Dec.{eqb}
 use lib.ListN.{length, take, drop, replicate, length-append, length-map}
 use lib.Seq.{length-take-le}
 use borrow.Author.Tests.{eqb-true, le-ltb}
+use Rattle.basics.proofs.Conditions.{split}
 use Rattle.job.specs.Job.{Job}
 use Rattle.job.specs.declared.Played.{Played}
 use Rattle.word.specs.Word.{encode}
 use Rattle.linearization.specs.Entry.{flat}
 use Rattle.linearization.proofs.Numbers.{length-flat}
-use Rattle.linearization.proofs.Tests.{split}
 use Rattle.jobfile.specs.Meaning.{meaning}
 use Rattle.jobfile.specs.Admitted.{Admitted, Bytes}
-use Rattle.jobfile.proofs.Tests.{through}
+use Rattle.jobfile.proofs.Refusals.{through}
 use Rattle.jobfile.proofs.RoundTrip.{admitted-meaning}
 use Rattle.stepper.specs.Buffers.{flatRows}
 use Rattle.stepper.proofs.Lists.{length-rows}

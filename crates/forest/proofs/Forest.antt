@@ -93,13 +93,7 @@ module _ {n : ℕ} {p r : ℕ → ℕ} (formed : WellFormed n p r) where
     -- nodes with one label lead to one root
     pub leads-one : {x y a b : ℕ} → x < n → y < n → Leads p x a → Leads p y b → B x ≡ B y → a ≡ b
     leads-one {x} {y} {a} {b} lx ly left right e =
-        labelled .apart
-        a
-        b
-        (leads-inside left lx)
-        (leads-inside right ly)
-        (leads-root left)
-        (leads-root right)
+        labelled .apart a b (leads-inside left lx) (leads-inside right ly) (leads-root left) (leads-root right)
         (leads-label left lx ∙ e ∙ sym (leads-label right ly))
 
     pub label-together : (x y : ℕ) → x < n → y < n → B x ≡ B y → Together p x y

@@ -33,15 +33,7 @@ module _ {n : ℕ} {p r B B′ : ℕ → ℕ} {x k y : ℕ} (sound : Sound n p r
   -- the two nodes were in different sets
   pub linking-apart : B x ≢ B y
   linking-apart =
-      before-apart
-      (sound .formed)
-      (sound .labelled)
-      x
-      y
-      (linking .node)
-      (linking .target)
-      (linking .root)
-      (linking .before)
+      before-apart (sound .formed) (sound .labelled) x y (linking .node) (linking .target) (linking .root) (linking .before)
 
   -- x's rank is at most y's, so each of the two sets had 2 ^ k nodes
   pub linking-weight : 2 ^ suc k ≤ size n B′ (B′ y)
@@ -97,17 +89,11 @@ module _ {n : ℕ} {p r B B′ : ℕ → ℕ} {x k y : ℕ} (sound : Sound n p r
         lower : (i : ℕ) → i < n → p′ i ≢ i → Dec (i ≡ x) → 2 ^ suc (r i) ≤ size n B′ (B′ i)
         lower i l d (yes e) = rw (e, ← linking .rank, linking .labels .joined) linking-weight
         lower i l d (no e) =
-            omega (
-              arith,
-              sound .heavy .lower i l (λ f. d (parents .other i e ∙ f)),
-              merged-grows (linking .labels) n i,
-            )
+            omega (arith, sound .heavy .lower i l (λ f. d (parents .other i e ∙ f)), merged-grows (linking .labels) n i)
 
     pub linking-sound : Sound n p′ r′ B′
     linking-sound =
-        subst
-        (λ s. Sound n p′ s B′)
-        (sym (fun-ext linking-ranks))
+        subst (λ s. Sound n p′ s B′) (sym (fun-ext linking-ranks))
         (record {
           formed = moved-formed (sound .formed) parents (linking .target) (linking .before);
           labelled = linking-labelled;

@@ -51,27 +51,14 @@ module _ {B B′ : ℕ → ℕ} {a b : ℕ} (merged : Merged B B′ a b) where
 
   pub merged-ends : (x y : ℕ) → Ends B a b x y → Merged B B′ x y
   merged-ends x y ends =
-      record {
-        kept = merged .kept;
-        joined = merged-joined x y ends;
-        only = λ i j e. joint-change ends (merged .only i j e);
-      }
+      record { kept = merged .kept; joined = merged-joined x y ends; only = λ i j e. joint-change ends (merged .only i j e) }
 
   pub merged-grows : (n i : ℕ) → size n B (B i) ≤ size n B′ (B′ i)
   merged-grows n i = size-grows n B B′ (B i) (B′ i) (λ j l e. merged .kept j i e)
 
   pub merged-size : (n : ℕ) → B a ≢ B b → size n B (B a) + size n B (B b) ≤ size n B′ (B′ b)
   merged-size n apart =
-      size-sum
-      n
-      B
-      B′
-      (B a)
-      (B b)
-      (B′ b)
-      apart
-      (λ i l e. merged .kept i a e ∙ merged .joined)
-      (λ i l e. merged .kept i b e)
+      size-sum n B B′ (B a) (B b) (B′ b) apart (λ i l e. merged .kept i a e ∙ merged .joined) (λ i l e. merged .kept i b e)
 
 -- Relabelling: every node labelled as a gets the label of b, the others keep theirs.
 module _ (B B′ : ℕ → ℕ) (a b : ℕ) (relabelled : (i : ℕ) → B′ i ≡ cond (eqb (B i) (B a)) (B b) (B i)) where

@@ -59,7 +59,5 @@ module _ {n : ℕ} {p r B p′ r′ : ℕ → ℕ} {y k : ℕ} (sound : Sound n 
 
   pub raising-sound : Sound n p′ r′ B
   raising-sound =
-      subst
-      (λ q. Sound n q r′ B)
-      (sym (fun-ext raising-parents))
+      subst (λ q. Sound n q r′ B) (sym (fun-ext raising-parents))
       (record { formed = raising-formed; labelled = sound .labelled; heavy = raising-heavy })

@@ -8,9 +8,9 @@ use Prim.Native.Nat.{ℕ, suc}
 use native.Mathlib.Decide.{ℕ-discrete}
 use lib.Dec.{eqb}
 use borrow.Author.Tests.{eq-eqb, ne-eqb}
+use Rattle.basics.proofs.Counts.{count-all, count-same, count-less}
 use Rattle.forest.specs.Forest.{rootCount}
 use Rattle.forest.proofs.Forest.{WellFormed}
-use Rattle.forest.proofs.Count.{count-all, count-same, count-less}
 use Rattle.forest.proofs.Sound.{Sound, Start}
 use Rattle.forest.proofs.Writes.{Changed}
 use Rattle.forest.proofs.Halving.{Halving, halving-root}
@@ -38,12 +38,7 @@ halving-roots {n} {p} {r} {B} {p′} {r′} {v} formed halving parents ranks =
 pub linking-roots : {n : ℕ} {p r B B′ p′ r′ : ℕ → ℕ} {x k y : ℕ} → Sound n p r B → Linking n p r B B′ x k y
     → Changed p p′ x y → Changed r r′ x k → suc (rootCount p′ n) ≡ rootCount p n
 linking-roots {n} {p} {r} {B} {B′} {p′} {r′} {x} sound linking parents ranks =
-    count-less
-    (isRoot p)
-    (isRoot p′)
-    n
-    x
-    (linking .node)
+    count-less (isRoot p) (isRoot p′) n x (linking .node)
     (eq-eqb (p x) x (linking .root))
     (ne-eqb (p′ x) x (λ e. linking-other sound linking parents ranks x e refl))
     (λ i d. ap (λ q. eqb q i) (sym (parents .other i d)))

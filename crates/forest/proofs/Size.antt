@@ -9,8 +9,8 @@ use mathlib.Core.Logic.{_≢_}
 use Prim.Native.Nat.{ℕ, _+_, _≤_, _<_}
 use lib.Dec.{eqb}
 use borrow.Author.Tests.{eqb-true, eq-eqb, ne-eqb}
-use Rattle.forest.specs.Forest.{count}
-use Rattle.forest.proofs.Count.{count-le, count-mono, count-positive, count-sum}
+use Rattle.basics.specs.Count.{count}
+use Rattle.basics.proofs.Counts.{count-le, count-mono, count-positive, count-sum}
 
 unfoldable pub size : ℕ → (ℕ → ℕ) → ℕ → ℕ
 size n B l = count (λ i. eqb (B i) l) n
@@ -28,11 +28,7 @@ pub size-sum : (n : ℕ) (B B′ : ℕ → ℕ) (l m k : ℕ) → l ≢ m → ((
     → ((i : ℕ) → i < n → B i ≡ m → B′ i ≡ k) → size n B l + size n B m ≤ size n B′ k
 unfolding size
 size-sum n B B′ l m k apart left right =
-    count-sum
-    (λ i. eqb (B i) l)
-    (λ i. eqb (B i) m)
-    (λ i. eqb (B′ i) k)
-    n
+    count-sum (λ i. eqb (B i) l) (λ i. eqb (B i) m) (λ i. eqb (B′ i) k) n
     (λ i h e. ne-eqb (B i) m (λ f. apart (sym (eqb-true (B i) l e) ∙ f)))
     (λ i h e. eq-eqb (B′ i) k (left i h (eqb-true (B i) l e)))
     (λ i h e. eq-eqb (B′ i) k (right i h (eqb-true (B i) m e)))

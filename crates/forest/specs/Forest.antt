@@ -1,20 +1,14 @@
 -- Document 01, "Places, words, order" and "Whole runs and the plain book": roots and groups of a table, told by its
 -- parents alone: p i is the parent of node i.
 --
---   count test n    how many numbers below n pass the test
 --   rootCount p n   how many nodes below n are roots
 --   Leads p x r     following parents from x ends at the root r
 --   Together p x y  x and y share a set
 use mathlib.Core.Path.{_≡_}
 use mathlib.Core.Logic.{_≢_}
-use mathlib.Core.Bool.{Bool, cond}
-use Prim.Native.Nat.{ℕ, zero, suc}
+use Prim.Native.Nat.{ℕ}
 use lib.Dec.{eqb}
-
--- How many numbers below n pass the test.
-abbrev pub count : (ℕ → Bool) → ℕ → ℕ
-count test zero = zero
-count test (suc n) = cond (test n) (suc (count test n)) (count test n)
+use Rattle.basics.specs.Count.{count}
 
 -- A place is a root when it is its own parent. Roots plus successful links equal the place count.
 abbrev pub rootCount : (ℕ → ℕ) → ℕ → ℕ

@@ -17,7 +17,7 @@ use Rattle.jobfile.specs.Meaning.{sectionRefusal, nodesIn, headsIn, runA
 use Rattle.jobfile.specs.Meaning.{runRecords, closeStart, runsIn, jobIn}
 use Rattle.jobfile.specs.Written.{fileWith, balance, written}
 use Rattle.jobfile.specs.Admitted.{Admitted, Bytes}
-use Rattle.jobfile.proofs.Tests.{through}
+use Rattle.jobfile.proofs.Refusals.{through}
 use Rattle.jobfile.proofs.Passed.{requests-few, each-serves, run-passed, ClosePassed, FilePassed}
 use Rattle.jobfile.proofs.Records.{Section, records-section, bytes-drop, section-front}
 use Rattle.jobfile.proofs.Records.Section.{over, more}

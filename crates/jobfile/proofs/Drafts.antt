@@ -17,7 +17,7 @@ use Rattle.jobfile.specs.Format.{mostBytes, mostRequests, fieldsRefusal,
 use Rattle.jobfile.specs.Written.{written}
 use Rattle.jobfile.specs.Draft.{Draft, fieldsOf, jobOf, countRefusal, eachRefusal, grantsRefusal, draftRefusal, numbersOf, draftOf}
 use Rattle.jobfile.specs.Admitted.{Serves, Admitted}
-use Rattle.jobfile.proofs.Tests.{passed, through, sized, sized-passes, fit, fit-passes}
+use Rattle.jobfile.proofs.Refusals.{passed, through, sized, sized-passes, fit, fit-passes}
 use Rattle.jobfile.proofs.Runs.{Below, below-tail}
 use Rattle.jobfile.proofs.KindNumbers.{kind-back, some-kind, few-kinds}
 

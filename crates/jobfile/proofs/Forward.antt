@@ -20,7 +20,7 @@ use Rattle.jobfile.specs.Meaning.{granted, closeRefusal, balanceRefusal,
 use Rattle.jobfile.specs.Meaning.{fileRefusal, runsIn, jobIn, accepted, meaning}
 use Rattle.jobfile.specs.Written.{requestsBytes, runsBytes, longestRuns, fileWith, balance, written}
 use Rattle.jobfile.specs.Admitted.{Admitted}
-use Rattle.jobfile.proofs.Tests.{sized-passes}
+use Rattle.jobfile.proofs.Refusals.{sized-passes}
 use Rattle.jobfile.proofs.Runs.{granted-longest, longest-follow}
 use Rattle.jobfile.proofs.Records.{length-records, section-back, section-skip, section-passes}
 use Rattle.jobfile.proofs.Layouts.{word-back, requestLayout, runLayout, served-pass, following-pass}

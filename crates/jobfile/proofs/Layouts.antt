@@ -20,7 +20,7 @@ use Rattle.jobfile.specs.Meaning.{fieldsAt, requestAt, requestRefusal, r
 use Rattle.jobfile.specs.Written.{requestBytes, requestsBytes, runBytes, runsBytes}
 use Rattle.jobfile.specs.Admitted.{Serves, Bytes}
 use Rattle.jobfile.proofs.KindNumbers.{kind-back, kind-written, some-kind, few-kinds}
-use Rattle.jobfile.proofs.Tests.{Fit, fit-passes}
+use Rattle.jobfile.proofs.Refusals.{Fit, fit-passes}
 use Rattle.jobfile.proofs.Runs.{Following, Follows}
 use Rattle.jobfile.proofs.Passed.{RequestPassed, request-passed, run-passed}
 use Rattle.jobfile.proofs.Records.{Layout, Passes, bytes-drop}

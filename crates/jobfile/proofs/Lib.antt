@@ -1,5 +1,5 @@
 -- The laws of job files: words and their sum, what a refusal of 0 says, how records follow one another, runs, and the round trips.
-pub mod Tests
+pub mod Refusals
 pub mod KindNumbers
 mod Sums
 pub mod Records

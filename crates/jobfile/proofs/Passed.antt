@@ -19,7 +19,7 @@ use Rattle.jobfile.specs.Meaning.{sectionRefusal, nodesIn, headsIn, head
 use Rattle.jobfile.specs.Meaning.{requestsRefusal, runRefusal, runsRefusal, fullRun, closeRefusal, balanceRefusal, requestRecords}
 use Rattle.jobfile.specs.Meaning.{runRecords, closeStart, fileRefusal}
 use Rattle.jobfile.specs.Admitted.{Serves}
-use Rattle.jobfile.proofs.Tests.{passed, through, Sized, sized, Fit, fit}
+use Rattle.jobfile.proofs.Refusals.{passed, through, Sized, sized, Fit, fit}
 
 pub record RequestPassed (nodes heads number : ℕ) (t : List ℕ) : Type 0 where
   pub whole : requestSize ≤ length t

@@ -24,11 +24,12 @@ use lib.Dec.{eqb}
 use lib.ListN.{length, getD, drop, length-append, length-drop}
 use lib.Seq.{drop-drop, drop-at, getD-drop}
 use borrow.Author.Tests.{eqb-true, eqb-false, eq-eqb, ne-eqb}
+use Rattle.basics.proofs.Conditions.{split}
 use Rattle.jobfile.specs.Format.{word}
 use Rattle.jobfile.specs.Meaning.{recordsWithin, records, sectionRefusal}
 use Rattle.jobfile.specs.Written.{recordsBytes}
 use Rattle.jobfile.specs.Admitted.{Bytes}
-use Rattle.jobfile.proofs.Tests.{split, through}
+use Rattle.jobfile.proofs.Refusals.{through}
 
 pub data Section (size m : ℕ) : List ℕ → List (List ℕ) → List ℕ → Type 0 where
   over : {t : List ℕ} → Section size m t [] t

@@ -11,11 +11,11 @@ use mathlib.Core.List.{List}
 use Prim.Native.Nat.{ℕ}
 use lib.Dec.{eqb}
 use borrow.Author.Tests.{eqb-true, ne-eqb}
+use Rattle.basics.proofs.Conditions.{split}
 use Rattle.jobfile.specs.Meaning.{fileRefusal, jobIn, accepted, refused, meaning}
 use Rattle.jobfile.specs.Written.{written}
 use Rattle.jobfile.specs.Draft.{Draft, jobOf, draftRefusal, draftOf}
 use Rattle.jobfile.specs.Admitted.{Admitted, Bytes}
-use Rattle.jobfile.proofs.Tests.{split}
 use Rattle.jobfile.proofs.Forward.{meaning-written}
 use Rattle.jobfile.proofs.Passed.{file-passed}
 use Rattle.jobfile.proofs.Backward.{written-job, admitted-job}

@@ -19,11 +19,11 @@ use native.Mathlib.Nat.{add-zero}
 use lib.Dec.{eqb, ltb}
 use lib.ListN.{length, getD, replicate, length-append, length-replicate, getD-replicate}
 use borrow.Author.Tests.{eqb-true, eq-eqb, lt-ltb, ltb-true}
+use Rattle.basics.proofs.Conditions.{split}
 use Rattle.jobfile.specs.declared.Run.{Run}
 use Rattle.jobfile.specs.Format.{mostGrants, extends}
 use Rattle.jobfile.specs.Meaning.{granted}
 use Rattle.jobfile.specs.Written.{runsFrom, longestRuns}
-use Rattle.jobfile.proofs.Tests.{split}
 
 -- A run of n grants for the head h.
 abbrev run : ℕ → ℕ → Run

@@ -12,8 +12,9 @@ use native.Mathlib.Omega.{arith}
 use lib.Dec.{eqb, ltb}
 use lib.ListN.{length, take, drop}
 use borrow.Author.Tests.{eq-eqb, ne-eqb, lt-ltb, le-ltb}
+use Rattle.basics.proofs.Conditions.{split}
+use Rattle.basics.proofs.Counts.{count-swap}
 use Rattle.linearization.specs.Entry.{Entry, insert, earlier, Rising, empty, rises, occurrences}
-use Rattle.linearization.proofs.Tests.{split, count-swap}
 
 abbrev pub entry : ℕ → ℕ → Entry
 entry point request = record { point = point; request = request }

@@ -1,5 +1,4 @@
 -- The laws of the sequential specification, of entries, of their numbers and of replays.
-pub mod Tests
 pub mod Partition
 pub mod Entries
 pub mod Numbers

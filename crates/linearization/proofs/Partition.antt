@@ -12,11 +12,11 @@ use Prim.Native.Nat.{ℕ}
 use native.Mathlib.Omega.{arith}
 use lib.Dec.{eqb}
 use borrow.Author.Tests.{eqb-true, eqb-false, eq-eqb, ne-eqb}
+use Rattle.basics.proofs.Conditions.{split}
 use Rattle.job.specs.declared.Kind.{Kind}
 use Rattle.job.specs.declared.Kind.the-variants.{Union, SameSet}
 use Rattle.job.specs.declared.Answer.the-variants.{Joined}
 use Rattle.linearization.specs.Partition.{Labels, Operation, join, replyTo, reply, nextOf, next}
-use Rattle.linearization.proofs.Tests.{split}
 
 pub reply-together : (B : Labels) (o : Operation) → B (o .x) ≡ B (o .y) → reply B o ≡ replyTo (o .kind) true
 unfolding reply

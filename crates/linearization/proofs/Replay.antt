@@ -11,10 +11,10 @@ use Prim.Native.Nat.{ℕ, suc, _<_}
 use native.Mathlib.Omega.{arith}
 use lib.Dec.{ltb}
 use borrow.Author.Tests.{ltb-true, ltb-false, lt-ltb, le-ltb}
+use Rattle.basics.proofs.Conditions.{split}
 use Rattle.job.specs.declared.Answer.{Answer}
 use Rattle.linearization.specs.Partition.{Labels, Operation, reply, next, replay, replies}
 use Rattle.linearization.specs.Entry.{Entry, insert, Rising, empty, rises, operations}
-use Rattle.linearization.proofs.Tests.{split}
 use Rattle.linearization.proofs.Partition.{Unjoined}
 use Rattle.linearization.proofs.Entries.{entry, Free, Below}
 
@@ -66,7 +66,8 @@ module _ (operation : ℕ → Operation) where
 
   -- a later entry does not change them
   pub labelsTo-snoc :
-      (m : ℕ) (B : Labels) (es : List Entry) (e : Entry) → m < e .point → labelsTo operation m B (es ++ (e ∷ [])) ≡ labelsTo operation m B es
+      (m : ℕ) (B : Labels) (es : List Entry) (e : Entry) → m < e .point
+      → labelsTo operation m B (es ++ (e ∷ [])) ≡ labelsTo operation m B es
   labelsTo-snoc m B [] e later = rw (lt-ltb m (e .point) later)
   labelsTo-snoc m B (f ∷ es) e later =
       split (ltb m (f .point)) (λ t. rw t) (λ t. rw t (labelsTo-snoc m (next B (operation (f .request))) es e later))
@@ -81,7 +82,7 @@ module _ (operation : ℕ → Operation) (point request : ℕ) where
   after-insert B (e ∷ es) same =
       split (ltb point (e .point))
       (λ t.
-      let same-here : Unjoined B (operation request) = subst (λ C. Unjoined C (operation request)) (labelsTo-stop operation point B e es t) same in
+      let same-here = subst (λ C. Unjoined C (operation request)) (labelsTo-stop operation point B e es t) same in
       rw t (ap (λ C. after operation C (e ∷ es)) same-here))
       (λ t.
       let same-on = subst (λ C. Unjoined C (operation request)) (labelsTo-pass operation point B e es t) same in
@@ -89,12 +90,13 @@ module _ (operation : ℕ → Operation) (point request : ℕ) where
 
   pub labelsTo-insert :
       (m : ℕ) (B : Labels) (es : List Entry) →
-      Unjoined (labelsTo operation point B es) (operation request) → labelsTo operation m B (insert point request es) ≡ labelsTo operation m B es
+      Unjoined (labelsTo operation point B es) (operation request) →
+      labelsTo operation m B (insert point request es) ≡ labelsTo operation m B es
   labelsTo-insert m B [] same = split (ltb m point) (λ t. rw t) (λ t. rw t same)
   labelsTo-insert m B (e ∷ es) same =
       split (ltb point (e .point))
       (λ t.
-      let same-here : Unjoined B (operation request) = subst (λ C. Unjoined C (operation request)) (labelsTo-stop operation point B e es t) same in
+      let same-here = subst (λ C. Unjoined C (operation request)) (labelsTo-stop operation point B e es t) same in
       rw t
       (split (ltb m point)
       (λ u. rw (u, lt-ltb m (e .point) (omega (arith, ltb-true m point u, ltb-true point (e .point) t))))
@@ -150,7 +152,8 @@ module _ {operation : ℕ → Operation} {P : Entry → Type 0} {claim : ℕ →
       (λ t.
       let here = subst (λ C. Silent operation claim C request) (labelsTo-stop operation point B e es t) silent in
       let later = placed (ltb-true point (e .point) t) fact answered rest in
-      rw t (placed above fact-new (here .answered) (subst (λ C. Replayed operation P claim C point (e ∷ es)) (sym (here .unchanged)) later)))
+      let still = subst (λ C. Replayed operation P claim C point (e ∷ es)) (sym (here .unchanged)) later in
+      rw t (placed above fact-new (here .answered) still))
       (λ t.
       let distinct = free e (List·Memᴰ·head refl) in
       let behind : e .point < point = omega (arith, ltb-false point (e .point) t) in

@@ -9,11 +9,12 @@ use native.Mathlib.Omega.{arith}
 use lib.Dec.{eqb, ltb}
 use lib.ListN.{length, getD}
 use borrow.Author.Tests.{ltb-false}
+use Rattle.basics.proofs.Lists.{length-three}
 use Rattle.job.specs.declared.Played.{Played}
 use Rattle.word.specs.Word.{rankOf, parentOf}
 use Rattle.text.specs.Text.{each}
 use Rattle.text.specs.Writing.{lastPosition}
-use Rattle.text.proofs.Text.{Narrow, line-short, each-short, length-three}
+use Rattle.text.proofs.Text.{Narrow, line-short, each-short}
 use Rattle.listing.specs.declared.Section.{Section}
 use Rattle.listing.specs.declared.Section.the-variants.{Words, Requests, Entries}
 use Rattle.listing.specs.Listing.{wordName, requestName, lineName, jobName, tallyName, refusedName, row, rowSize}

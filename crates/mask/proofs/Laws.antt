@@ -16,8 +16,8 @@ use lib.Dec.{eqb}
 use lib.Count.{ones, ones-step}
 use lib.ListN.{length, getD, set, length-map}
 use lib.Seq.{map-set-same}
+use Rattle.basics.proofs.Lists.{getD-mapped, set-mapped}
 use Rattle.mask.specs.Mask.{bitOf, maskOf, countOf}
-use Rattle.mask.proofs.Lists.{getD-mapped, set-mapped}
 
 -- ---- one flag more below a mask
 

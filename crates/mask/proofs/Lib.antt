@@ -1,3 +1,2 @@
 -- The laws of masks that other crates cite.
-pub mod Lists
 pub mod Laws

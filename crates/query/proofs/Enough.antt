@@ -21,7 +21,9 @@ use lib.Dec.{eqb, ltb}
 use lib.ListN.{set}
 use lib.Seq.{getD-set-other}
 use borrow.Author.Tests.{eqb-true, eqb-false, eq-eqb, ne-eqb, ltb-true, lt-ltb}
-use Rattle.linearization.proofs.Tests.{split}
+use Rattle.basics.specs.Count.{count}
+use Rattle.basics.proofs.Conditions.{split}
+use Rattle.basics.proofs.Counts.{count-le, count-positive, count-sum}
 use Rattle.job.specs.declared.Kind.{Kind}
 use Rattle.job.specs.declared.Kind.the-variants.{Union, SameSet}
 use Rattle.job.specs.declared.Answer.the-variants.{Unfinished}
@@ -40,8 +42,6 @@ use Rattle.process.specs.Process.{traitsOf, kindOf, servesX, nextErrand, nodeAt
 use Rattle.process.specs.Find.{findAccess, walked}
 use Rattle.process.specs.Access.{accessAt, accessOf}
 use Rattle.process.specs.Advance.{continue, compared, followed, reread, advanceAt, advanceOf}
-use Rattle.forest.specs.Forest.{count}
-use Rattle.forest.proofs.Count.{count-le, count-positive, count-sum}
 use Rattle.rules.specs.Report.{isFinal}
 use Rattle.rules.specs.Table.{noNode, at, parent, rank, seen, touched}
 use Rattle.rules.proofs.History.{final-number}
@@ -49,7 +49,7 @@ use Rattle.rules.proofs.Finds.{Above, FindKnows}
 use Rattle.rules.proofs.Stages.{Knows}
 use Rattle.table.specs.Admitted.{Admitted}
 use Rattle.query.specs.Query.{granted, steps, sameSet}
-use Rattle.query.proofs.Steps.{Serving, no-union, serving-goes-on, serving-ranks}
+use Rattle.query.proofs.Steps.{momentHere, Serving, no-union, serving-goes-on, serving-ranks}
 
 -- the find from y follows the find from x
 next-serves : (e : Errand) → servesX e ≡ true → servesX (nextErrand e) ≡ false
@@ -261,7 +261,7 @@ module _ {n : ℕ} {t : List Node} (r : ℕ → ℕ) (admitted : Admitted n t) (
       λ f. moved-enough (servesX e) (parent t u) (2 * higher n r (nodeAt k e)) needs (moved-need (nodeAt k e) u knows)
 
   stage-enough : (B : ℕ → ℕ) (a b : ℕ) (stage : Stage) → traitsOf stage .resting ≡ false
-      → Knows n (parent t) (rank t) B (λ point. B a ≢ B b) used (sameSet a b) k stage → Enough n (parent t) r k stage (suc m)
+      → Knows (momentHere n t B used) (sameSet a b) k stage → Enough n (parent t) r k stage (suc m)
       → Goes (touched t (accessAt k stage)) (advanceAt k (seen t (accessAt k stage)) (suc used) stage)
   stage-enough B a b Resting busy knows needs = absurd (true≢false busy)
   stage-enough B a b (Find e s) busy knows needs = find-enough B e s (knows .finding .kind) (knows .find) needs
@@ -274,16 +274,16 @@ module _ {n : ℕ} {t : List Node} (r : ℕ → ℕ) (admitted : Admitted n t) (
 -- ---- the whole enquiry
 
 -- a head that has not answered needs a grant
-enough-positive : (n : ℕ) (p r : ℕ → ℕ) (B : ℕ → ℕ) (a b used : ℕ) (ranks : ℕ → ℕ) (k : Task) (stage : Stage)
-    → traitsOf stage .resting ≡ false → Knows n p ranks B (λ point. B a ≢ B b) used (sameSet a b) k stage → Enough n p r k stage 0 → ⊥
-enough-positive n p r B a b used ranks k Resting busy knows needs = true≢false busy
-enough-positive n p r B a b used ranks k (Find e s) busy knows needs =
-    omega (arith, step-least n p r (nodeAt k e) s (tailNeed n r (k .y) (servesX e)) (tail-least n p r (k .y) (servesX e)), needs .enough)
-enough-positive n p r B a b used ranks k (RereadX point) busy knows needs = absurd (omega (arith, needs .enough))
-enough-positive n p r B a b used ranks k ReadRankX busy knows needs = no-union (knows .finding .kind)
-enough-positive n p r B a b used ranks k (ReadRankY rank) busy knows needs = no-union (knows .finding .kind)
-enough-positive n p r B a b used ranks k (Link rank e) busy knows needs = no-union (knows .finding .kind)
-enough-positive n p r B a b used ranks k (Raise rank) busy knows needs = no-union (knows .kind)
+enough-positive : (n : ℕ) (t : List Node) (r B : ℕ → ℕ) (a b used : ℕ) (k : Task) (stage : Stage)
+    → traitsOf stage .resting ≡ false → Knows (momentHere n t B used) (sameSet a b) k stage → Enough n (parent t) r k stage 0 → ⊥
+enough-positive n t r B a b used k Resting busy knows needs = true≢false busy
+enough-positive n t r B a b used k (Find e s) busy knows needs =
+    omega (arith, step-least n (parent t) r (nodeAt k e) s (tailNeed n r (k .y) (servesX e)) (tail-least n (parent t) r (k .y) (servesX e)), needs .enough)
+enough-positive n t r B a b used k (RereadX point) busy knows needs = absurd (omega (arith, needs .enough))
+enough-positive n t r B a b used k ReadRankX busy knows needs = no-union (knows .finding .kind)
+enough-positive n t r B a b used k (ReadRankY rank) busy knows needs = no-union (knows .finding .kind)
+enough-positive n t r B a b used k (Link rank e) busy knows needs = no-union (knows .finding .kind)
+enough-positive n t r B a b used k (Raise rank) busy knows needs = no-union (knows .kind)
 
 module _ {n : ℕ} {B : ℕ → ℕ} {a b : ℕ} (r : ℕ → ℕ) where
   step-enough : {t : List Node} (used : ℕ) (h : Head) (m : ℕ) → Serving n B a b t used h Unfinished → ((i : ℕ) → rank t i ≡ r i)
@@ -296,7 +296,7 @@ module _ {n : ℕ} {B : ℕ → ℕ} {a b : ℕ} (r : ℕ → ℕ) where
   pub steps-enough : (budget used : ℕ) (h : Head) (t : List Node) → Serving n B a b t used h Unfinished
       → ((i : ℕ) → rank t i ≡ r i) → Enough n (parent t) r (h .task) (h .stage) budget → steps budget used h t .queried .answer ≢ 0
   steps-enough zero used h t serving ranks needs =
-      absurd (enough-positive n (parent t) r B a b used (rank t) (h .task) (h .stage) (serving .rests) (serving .knows) needs)
+      absurd (enough-positive n t r B a b used (h .task) (h .stage) (serving .rests) (serving .knows) needs)
   steps-enough (suc m) used h t serving ranks needs =
       split (isFinal (granted h t used .event .answer))
       (λ e. rw e (final-number (granted h t used .event .answer) e))

@@ -13,6 +13,7 @@ use mathlib.Core.List.{List, map}
 use Prim.Native.Nat.{ℕ, suc, _/_, _%_, _≤_}
 use native.Mathlib.Omega.{arith}
 use borrow.Author.Tests.{eq-eqb, ne-eqb}
+use Rattle.basics.proofs.Conditions.{split}
 use Rattle.job.specs.declared.Answer.{Answer}
 use Rattle.job.specs.declared.Answer.the-variants.{Unfinished, Joined, Together, Yes, No}
 use Rattle.job.specs.Job.{answerNumber}
@@ -25,7 +26,6 @@ use Rattle.process.specs.declared.Head.{Head}
 use Rattle.process.specs.Access.{accessOf}
 use Rattle.process.specs.Advance.{advanceOf}
 use Rattle.rules.specs.Table.{at, parent, touched}
-use Rattle.linearization.proofs.Tests.{split}
 use Rattle.table.specs.Admitted.{Admitted}
 use Rattle.table.proofs.Admitted.{words-kept}
 use Rattle.query.specs.Query.{answered, steps}

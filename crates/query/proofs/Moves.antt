@@ -9,8 +9,8 @@ use Prim.Native.Nat.{ℕ, _+_, _-_, _≤_, _<_}
 use native.Mathlib.Omega.{arith}
 use lib.ListN.{set}
 use borrow.Author.Tests.{eq-eqb}
-use Rattle.linearization.proofs.Tests.{split}
-use Rattle.mask.proofs.Lists.{set-mapped}
+use Rattle.basics.proofs.Conditions.{split}
+use Rattle.basics.proofs.Lists.{set-mapped}
 use Rattle.job.specs.declared.Answer.the-variants.{Unfinished}
 use Rattle.word.specs.declared.Node.{Node}
 use Rattle.word.specs.Word.{rankOf, parentOf, decode, encode, same, mostNodes, mostRank}

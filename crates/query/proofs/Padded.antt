@@ -11,7 +11,7 @@ use native.Mathlib.Omega.{arith}
 use native.Mathlib.Decide.{decLt}
 use lib.ListN.{length, length-append, List·getD-append}
 use lib.Seq.{getD-append-add, set-append-left}
-use Rattle.linearization.proofs.Tests.{split}
+use Rattle.basics.proofs.Conditions.{split}
 use Rattle.job.specs.declared.Answer.{Answer}
 use Rattle.job.specs.declared.Answer.the-variants.{Unfinished}
 use Rattle.word.specs.declared.Node.{Node}
@@ -22,7 +22,7 @@ use Rattle.process.specs.declared.Head.{Head}
 use Rattle.process.specs.Access.{accessOf}
 use Rattle.rules.specs.Report.{isFinal}
 use Rattle.rules.specs.Table.{noNode, at, parent, rank, freshFrom, seen, touched}
-use Rattle.rules.proofs.Table.{length-fresh}
+use Rattle.rules.proofs.Table.{length-fresh, fresh-at}
 use Rattle.table.specs.Admitted.{Admitted}
 use Rattle.table.specs.Touch.{Within}
 use Rattle.table.proofs.Admitted.{admitted-worded, words-kept}
@@ -32,13 +32,6 @@ use Rattle.query.proofs.Copies.{padded}
 use Rattle.query.proofs.Steps.{Serving, serving-within, serving-goes-on}
 
 -- ---- the array is admitted
-
-fresh-at : (i n j : ℕ) → j < n → at (freshFrom i n) j ≡ record { rank = 0; parent = i + j }
-fresh-at i zero j l = absurd (omega arith)
-fresh-at i (suc n) zero l = let e : i ≡ i + 0 = omega arith in ap (λ k. record { rank = 0; parent = k }) e
-fresh-at i (suc n) (suc j) l =
-    let e : suc i + j ≡ i + suc j = omega arith in
-    fresh-at (suc i) n j (omega arith) ∙ ap (λ k. record { rank = 0; parent = k }) e
 
 module _ {n : ℕ} {t : List Node} (admitted : Admitted n t) (k : ℕ) (room : n + k ≤ mostNodes) where
   abbrev longer : List Node

@@ -2,6 +2,7 @@
 --
 -- B gives each node a label: two nodes have one label when they share a set.
 --
+--   momentHere n t B used       the moment that a head's knowledge is told against, after so many grants on the table t
 --   Says B x y answer           the answer is right about the sets of x and y
 --   Serving n B x y t used h    what holds of the enquiry about x and y after so many grants, on the table t of n nodes
 --   Next t′ next                what holds of the enquiry after the grant that led to `next`, on the table t′
@@ -15,6 +16,7 @@ use Prim.Native.Nat.{ℕ, suc, _<_}
 use native.Mathlib.Omega.{arith}
 use lib.Dec.{eqb}
 use borrow.Author.Tests.{eqb-true, eqb-false}
+use Rattle.basics.proofs.Conditions.{split}
 use Rattle.job.specs.declared.Kind.{Kind}
 use Rattle.job.specs.declared.Kind.the-variants.{Union, SameSet}
 use Rattle.job.specs.declared.Answer.{Answer}
@@ -35,11 +37,10 @@ use Rattle.process.specs.Find.Walked.{On, Failed, Up, Ended}
 use Rattle.process.specs.Access.{accessAt, accessOf}
 use Rattle.process.specs.Advance.{continue, compared, followed, reread, advanceAt, advanceOf}
 use Rattle.forest.proofs.Forest.{Labelled}
-use Rattle.linearization.proofs.Tests.{split}
 use Rattle.rules.specs.Report.{isFinal}
 use Rattle.rules.specs.Table.{at, parent, rank, seen, touched}
 use Rattle.rules.proofs.Finds.{Walks, find-walks, find-halved}
-use Rattle.rules.proofs.Stages.{Inside, Finding, Searching, Rereading, Knows, find-node, finding-begin, restart-knows}
+use Rattle.rules.proofs.Stages.{Moment, Inside, Finding, Searching, Rereading, Knows, find-node, finding-begin, restart-knows}
 use Rattle.rules.proofs.Steps.{ends-one, ends-two, finding-moved}
 use Rattle.rules.proofs.FindSteps.{next-kind}
 use Rattle.table.specs.Admitted.{Admitted}
@@ -48,6 +49,10 @@ use Rattle.table.proofs.Admitted.{admitted-formed}
 use Rattle.table.proofs.Within.{access-within}
 use Rattle.query.specs.Query.{granted, sameSet}
 use Rattle.query.proofs.Halving.{Kept, unwritten, halved-keeps}
+
+-- Nobody else writes, so the sets are the same at every point.
+abbrev pub momentHere : (n : ℕ) → List Node → (ℕ → ℕ) → ℕ → Moment n
+momentHere n t B used = record { table = t; labels = B; labelsAt = λ point. B; now = used }
 
 abbrev pub Says : (ℕ → ℕ) → ℕ → ℕ → Answer → Type 0
 Says B x y Unfinished = Unit {0}
@@ -61,8 +66,8 @@ pub record Serving (n : ℕ) (B : ℕ → ℕ) (x y : ℕ) (t : List Node) (used
   pub labelled : Labelled n (parent t) B
   -- the enquiry is about nodes
   pub inside : Inside n (sameSet x y)
-  -- what the head knows at its stage; nobody else writes, so the two sets are apart at every point or at none
-  pub knows : Knows n (parent t) (rank t) B (λ point. B x ≢ B y) used (sameSet x y) (h .task) (h .stage)
+  -- what the head knows at its stage
+  pub knows : Knows (momentHere n t B used) (sameSet x y) (h .task) (h .stage)
   -- the head rests when it has answered
   pub rests : isResting h ≡ isFinal answer
   pub says : Says B x y answer
@@ -86,7 +91,7 @@ module _ {n : ℕ} (B : ℕ → ℕ) {a b : ℕ} (inside : Inside n (sameSet a b
   module _ {t t′ : List Node} (after : Kept n t t′ B) where
     -- the enquiry goes on
     goes-on : (k′ : Task) (next : Stage) → traitsOf next .resting ≡ false
-        → Knows n (parent t′) (rank t′) B (λ point. B a ≢ B b) (suc used) (sameSet a b) k′ next
+        → Knows (momentHere n t′ B (suc used)) (sameSet a b) k′ next
         → Serving n B a b t′ (suc used) (record { stage = next; task = k′ }) Unfinished
     goes-on k′ next busy knows =
         record { admitted = after .admitted; labelled = after .labelled; inside = inside; knows = knows; rests = busy; says = tt }
@@ -138,7 +143,7 @@ module _ {n : ℕ} (B : ℕ → ℕ) {a b : ℕ} (inside : Inside n (sameSet a b
   -- ---- one grant
 
   module _ {t : List Node} (admitted : Admitted n t) (labelled : Labelled n (parent t) B) where
-    module _ (e : Errand) (s : Step) (knows : Searching n (parent t) (rank t) B (sameSet a b) k e s) where
+    module _ (e : Errand) (s : Step) (knows : Searching (momentHere n t B used) (sameSet a b) k e s) where
       node : nodeAt k e < n
       node = find-node k (knows .finding) e
 
@@ -151,7 +156,7 @@ module _ {n : ℕ} (B : ℕ → ℕ) {a b : ℕ} (inside : Inside n (sameSet a b
           follows find-keeps e (knows .finding) (walked (nodeAt k e) (seen t (findAccess (nodeAt k e) s)) s)
           (find-walks t (admitted .nodes) (admitted-formed admitted) labelled node s (knows .find))
 
-    reread-x : (point : ℕ) → Rereading n (parent t) B (λ point. B a ≢ B b) used (sameSet a b) (k .x) (k .y) point
+    reread-x : (point : ℕ) → Rereading (momentHere n t B used) (sameSet a b) (k .x) (k .y) point
         → Next t (reread k point (at t (k .x)))
     reread-x point knows =
         let same = unwritten admitted labelled in
@@ -161,7 +166,7 @@ module _ {n : ℕ} (B : ℕ → ℕ) {a b : ℕ} (inside : Inside n (sameSet a b
 
     -- every stage; a same-set has none of a union's
     stage-step : (stage : Stage) → traitsOf stage .resting ≡ false
-        → Knows n (parent t) (rank t) B (λ point. B a ≢ B b) used (sameSet a b) k stage
+        → Knows (momentHere n t B used) (sameSet a b) k stage
         → Next (touched t (accessAt k stage)) (advanceAt k (seen t (accessAt k stage)) (suc used) stage)
     stage-step Resting busy knows = absurd (true≢false busy)
     stage-step (Find e s) busy knows = find-step e s knows
@@ -171,7 +176,7 @@ module _ {n : ℕ} (B : ℕ → ℕ) {a b : ℕ} (inside : Inside n (sameSet a b
     stage-step (Link r e) busy knows = no-union (knows .finding .kind)
     stage-step (Raise r) busy knows = no-union (knows .kind)
 
-    stage-ranks : (stage : Stage) → Knows n (parent t) (rank t) B (λ point. B a ≢ B b) used (sameSet a b) k stage
+    stage-ranks : (stage : Stage) → Knows (momentHere n t B used) (sameSet a b) k stage
         → (i : ℕ) → rank (touched t (accessAt k stage)) i ≡ rank t i
     stage-ranks Resting knows i = refl
     stage-ranks (Find e s) knows i = find-keeps e s knows .ranks i
@@ -200,7 +205,7 @@ module _ {n : ℕ} {t : List Node} {B : ℕ → ℕ} {a b used : ℕ} {h : Head}
   pub serving-within : Within n (accessOf h)
   unfolding accessOf
   serving-within =
-      access-within n (parent t) (rank t) B (λ point. B a ≢ B b) used (sameSet a b) (h .task) (h .stage) (serving .knows)
+      access-within (momentHere n t B used) (sameSet a b) (h .task) (h .stage) (serving .knows)
 
 -- the enquiry goes on where the step gave no answer
 pub serving-goes-on : {n : ℕ} {t : List Node} {B : ℕ → ℕ} {a b used : ℕ} {h : Head} → Serving n B a b t used h Unfinished

@@ -1,7 +1,7 @@
 -- What the steps say of a grant is what its access and the word seen tell: a failed swap, and a link.
 --
 --   Tells access seen event   the event's two flags are those of the access
---   Quiet e                   the event e tells of no failed swap and no link
+--   Quiet w i a               the step a, which read the word w of node i, tells of no failed swap and no link
 --
 -- Main law: stage-agrees, whatever the stage; so a find's swaps link nothing, and a link that wrote has linked.
 use mathlib.Core.Path.{_≡_, refl, ap}
@@ -12,6 +12,7 @@ use Prim.Native.Nat.{ℕ, suc}
 use native.Mathlib.Omega.{arith}
 use lib.Dec.{eqb}
 use borrow.Author.Tests.{eq-eqb, ne-eqb}
+use Rattle.basics.proofs.Conditions.{split, cond-both}
 use Rattle.job.specs.declared.Request.{Request}
 use Rattle.word.specs.declared.Node.{Node}
 use Rattle.word.specs.Word.{same, before}
@@ -27,44 +28,39 @@ use Rattle.process.specs.declared.Task.{Task}
 use Rattle.process.specs.declared.Advanced.{Advanced}
 use Rattle.process.specs.Process.{servesX, nodeAt}
 use Rattle.process.specs.Access.{accessAt}
-use Rattle.process.specs.Advance.{ended, linked, advanceAt}
-use Rattle.linearization.proofs.Tests.{split}
+use Rattle.process.specs.Advance.{ended, advanceAt}
 use Rattle.rules.specs.Table.{at, parent, rank, seen}
 use Rattle.rules.specs.Action.{Agrees}
 use Rattle.rules.proofs.Table.{found-parent, found-rank}
 use Rattle.rules.proofs.Finds.{FindKnows}
-use Rattle.rules.proofs.Stages.{Linking, Knows}
-use Rattle.rules.proofs.Steps.{cond-both}
+use Rattle.rules.proofs.Stages.{Moment, Linking, Knows}
+use Rattle.rules.proofs.Steps.{linked-event}
 
 abbrev Tells : Access → Node → Event → Type 0
 Tells access seen event = Agrees (record { access = access; seen = seen; event = event })
 
--- a read fails nothing and links nothing
-pub record Quiet (e : Event) : Type 0 where
-  pub failed : e .failed ≡ false
-  pub linked : e .linked ≡ false
+-- a read fails nothing and links nothing, wherever it leads
+abbrev Quiet : Node → ℕ → Advanced → Type 0
+Quiet w i a = Tells (Load i) w (a .event)
 
-read-tells : {e : Event} (i : ℕ) (w : Node) → Quiet e → Tells (Load i) w e
-read-tells i w quiet = record { failed = quiet .failed; linked = quiet .linked }
+ended-quiet : (k : Task) (e : Errand) (now : ℕ) (w : Node) (i : ℕ) → Quiet w i (ended k e now)
+ended-quiet k e now w i =
+    cond-both (Quiet w i) (servesX e) (record { failed = refl; linked = refl })
+    (cond-both (Quiet w i) (eqb (k .x) (k .y)) (record { failed = refl; linked = refl }) (record { failed = refl; linked = refl }))
 
-abbrev QuietStep : Advanced → Type 0
-QuietStep a = Quiet (a .event)
+module _ {n : ℕ} (m : Moment n) (k : Task) where
+  abbrev t : List Node
+  t = m .table
 
-ended-quiet : (k : Task) (e : Errand) (now : ℕ) → QuietStep (ended k e now)
-ended-quiet k e now =
-    cond-both QuietStep (servesX e) (record { failed = refl; linked = refl })
-    (cond-both QuietStep (eqb (k .x) (k .y)) (record { failed = refl; linked = refl }) (record { failed = refl; linked = refl }))
-
-module _ (now : ℕ) (t : List Node) (k : Task) where
   abbrev Told : Stage → Type 0
-  Told st = Tells (accessAt k st) (seen t (accessAt k st)) (advanceAt k (seen t (accessAt k st)) (suc now) st .event)
+  Told st = Tells (accessAt k st) (seen t (accessAt k st)) (advanceAt k (seen t (accessAt k st)) (suc (m .now)) st .event)
 
   module _ (e : Errand) where
     -- the node's word was read: the find ends, or goes on
     node-tells : Told (Find e ReadNode)
     node-tells =
         split (eqb (parent t (nodeAt k e)) (nodeAt k e))
-        (λ root. rw root (read-tells (nodeAt k e) (at t (nodeAt k e)) (ended-quiet k e (suc now))))
+        (λ root. rw root (ended-quiet k e (suc (m .now)) (at t (nodeAt k e)) (nodeAt k e)))
         (λ none. rw none (record { failed = refl; linked = refl }))
 
     -- a find swaps the word of a node that is no root
@@ -75,30 +71,23 @@ module _ (now : ℕ) (t : List Node) (k : Task) where
         (λ found. record { failed = rw found refl; linked = rw (found, none) refl })
         (λ failed. record { failed = rw failed refl; linked = rw failed refl })
 
-    find-tells : (n : ℕ) (B : ℕ → ℕ) (s : Step) → FindKnows n (parent t) (rank t) B (nodeAt k e) s → Told (Find e s)
-    find-tells n B ReadNode a = node-tells
-    find-tells n B (ReadParent r u) a = record { failed = refl; linked = refl }
-    find-tells n B (Halve r u w) a = halve-tells r u w (a .parent .lower)
-    find-tells n B (ReadAgain u) a = record { failed = refl; linked = refl }
+    find-tells : (s : Step) → FindKnows n (parent t) (rank t) (m .labels) (nodeAt k e) s → Told (Find e s)
+    find-tells ReadNode a = node-tells
+    find-tells (ReadParent r u) a = record { failed = refl; linked = refl }
+    find-tells (Halve r u w) a = halve-tells r u w (a .parent .lower)
+    find-tells (ReadAgain u) a = record { failed = refl; linked = refl }
 
   module _ (r : ℕ) (e : Bool) where
-    linked-failed : (e : Bool) → linked k r e (suc now) .event .failed ≡ false
-    linked-failed true = refl
-    linked-failed false = refl
-
-    linked-linked : (e : Bool) → linked k r e (suc now) .event .linked ≡ true
-    linked-linked true = refl
-    linked-linked false = refl
-
     -- a link that writes has seen a root, and y is another node
-    link-tells : {n : ℕ} {B : ℕ → ℕ} {q : Request} → Linking n (rank t) B q (k .x) (k .y) r → Told (Link r e)
+    link-tells : {q : Request} → Linking m q (k .x) (k .y) r → Told (Link r e)
     link-tells a =
         split (same (at t (k .x)) (record { rank = r; parent = k .x }))
         (λ found.
         let rank-is = found-rank t (k .x) (record { rank = r; parent = k .x }) found in
         let root = eq-eqb (parent t (k .x)) (k .x) (found-parent t (k .x) (record { rank = r; parent = k .x }) found) in
         let other = ne-eqb (k .y) (k .x) (λ one. omega (arith, a .before, rank-is, ap (rank t) one)) in
-        record { failed = rw found (linked-failed e); linked = rw (found, root, other) (linked-linked e) })
+        let told = linked-event k r e (suc (m .now)) in
+        record { failed = rw found (told .failed); linked = rw (found, root, other) (told .linked) })
         (λ failed. record { failed = rw failed refl; linked = rw failed refl })
 
   -- a raise keeps its node a root
@@ -106,7 +95,8 @@ module _ (now : ℕ) (t : List Node) (k : Task) where
   raise-tells r =
       record {
         failed = refl;
-        linked = rw (eq-eqb (k .y) (k .y) refl) (stays (same (at t (k .y)) (record { rank = r; parent = k .y })) (eqb (parent t (k .y)) (k .y)));
+        linked = rw (eq-eqb (k .y) (k .y) refl)
+            (stays (same (at t (k .y)) (record { rank = r; parent = k .y })) (eqb (parent t (k .y)) (k .y)));
       }
     where
       stays : (b c : Bool) → false ≡ cond b (cond c (not true) false) false
@@ -114,16 +104,15 @@ module _ (now : ℕ) (t : List Node) (k : Task) where
       stays true false = refl
       stays false c = refl
 
-  pub stage-agrees : (n : ℕ) (B : ℕ → ℕ) (Apart : ℕ → Type 0) (q : Request) (st : Stage)
-      → Knows n (parent t) (rank t) B Apart now q k st → Told st
-  stage-agrees n B Apart q Resting a = record { failed = refl; linked = refl }
-  stage-agrees n B Apart q (Find e s) a = find-tells e n B s (a .find)
-  stage-agrees n B Apart q (RereadX point) a =
-      read-tells (k .x) (at t (k .x))
-      (cond-both QuietStep (eqb (parent t (k .x)) (k .x)) (record { failed = refl; linked = refl }) (record { failed = refl; linked = refl }))
-  stage-agrees n B Apart q ReadRankX a = record { failed = refl; linked = refl }
-  stage-agrees n B Apart q (ReadRankY r) a =
-      read-tells (k .y) (at t (k .y))
-      (cond-both QuietStep (before (rank t (k .y)) (k .y) r (k .x)) (record { failed = refl; linked = refl }) (record { failed = refl; linked = refl }))
-  stage-agrees n B Apart q (Link r e) a = link-tells r e a
-  stage-agrees n B Apart q (Raise r) a = raise-tells r
+  pub stage-agrees : (q : Request) (st : Stage) → Knows m q k st → Told st
+  stage-agrees q Resting a = record { failed = refl; linked = refl }
+  stage-agrees q (Find e s) a = find-tells e s (a .find)
+  stage-agrees q (RereadX point) a =
+      cond-both (Quiet (at t (k .x)) (k .x)) (eqb (parent t (k .x)) (k .x))
+      (record { failed = refl; linked = refl }) (record { failed = refl; linked = refl })
+  stage-agrees q ReadRankX a = record { failed = refl; linked = refl }
+  stage-agrees q (ReadRankY r) a =
+      cond-both (Quiet (at t (k .y)) (k .y)) (before (rank t (k .y)) (k .y) r (k .x))
+      (record { failed = refl; linked = refl }) (record { failed = refl; linked = refl })
+  stage-agrees q (Link r e) a = link-tells r e a
+  stage-agrees q (Raise r) a = raise-tells r

@@ -1,7 +1,7 @@
 -- What each of the five outcomes does to the table, to the entries and to its own request.
 --
 --   q, a, act, past′, t′   the request served, the head's step, the action, the history and the table after the grant
---   B₁, united        the labels before the grant, and what a union of the request makes of them
+--   m                 the moment before the grant
 --   with-entries es   the state after the grant, with the entries es
 --   Does es           the effect of the grant, with the entries es
 --   entered           the entries with the request's own at this grant
@@ -11,7 +11,7 @@ use mathlib.Core.Path.{_≡_, refl, sym, ap, _∙_, subst}
 use mathlib.Core.Logic.{_≢_}
 use mathlib.Core.Bool.{Bool, true, false}
 use mathlib.Core.List.{List, [], _∷_, _++_}
-use Prim.Native.Nat.{ℕ, suc, _+_, _≤_}
+use Prim.Native.Nat.{ℕ, suc, _+_, _^_, _≤_}
 use native.Mathlib.Omega.{arith}
 use native.Mathlib.Decide.{ℕ-discrete}
 use lib.ListN.{length}
@@ -28,12 +28,14 @@ use Rattle.process.specs.Process.{traitsOf}
 use Rattle.process.specs.Access.{accessOf}
 use Rattle.process.specs.Advance.{together}
 use Rattle.forest.specs.Forest.{rootCount}
-use Rattle.linearization.specs.Partition.{Labels, join, replyTo, reply, next}
+use Rattle.forest.proofs.Size.{size}
+use Rattle.linearization.specs.Partition.{Labels, replyTo, reply, next}
 use Rattle.linearization.specs.Entry.{Entry, insert, occurrences}
 use Rattle.linearization.proofs.Partition.{reply-together, reply-apart, next-same-set, next-union, next-together}
 use Rattle.linearization.proofs.Entries.{entry, Below, Free, insert-last, occurrences-inserted, occurrences-other, occurrences-absent}
-use Rattle.linearization.proofs.Replay.{after, labelsTo, Replayed, Silent, after-snoc, after-insert, labelsTo-snoc, labelsTo-insert, replayed-fact, replayed-map, replayed-snoc, replayed-insert}
-use Rattle.rules.specs.Table.{parent, rank, touched}
+use Rattle.linearization.proofs.Replay.{after, labelsTo, Replayed, Silent, after-snoc, after-insert, labelsTo-snoc, labelsTo-insert}
+use Rattle.linearization.proofs.Replay.{replayed-fact, replayed-map, replayed-snoc, replayed-insert}
+use Rattle.rules.specs.Table.{parent, touched}
 use Rattle.rules.specs.Report.{isFinal}
 use Rattle.rules.specs.State.{State, requestAt}
 use Rattle.rules.specs.Step.{advanced, served}
@@ -41,14 +43,16 @@ use Rattle.rules.specs.Action.{Action, Agrees, links}
 use Rattle.rules.specs.Run.{Happening, actionOf}
 use Rattle.rules.specs.History.{linkOf, pointOf}
 use Rattle.rules.specs.Linearized.{operationAt, promised}
-use Rattle.rules.proofs.History.{other-served, row-other, served-answer, link-served, link-unserved, find-served, point-unlinked, point-same-set, point-union, usedFor}
-use Rattle.rules.proofs.Stages.{Raising, Knows}
-use Rattle.rules.proofs.Outcomes.{Kept, Unlinked, Going, Closing, Linked, Joining, Ending, Denying, Outcome}
+use Rattle.rules.proofs.History.{usedFor, other-served, row-other, served-answer, link-served, link-unserved, find-served}
+use Rattle.rules.proofs.History.{point-unlinked, point-same-set, point-union}
+use Rattle.rules.proofs.Stages.{Moment, Knows}
+use Rattle.rules.proofs.Outcomes.{united, Kept, Unlinked, Going, Closing, Linked, Joining, Ending, Denying, Outcome}
 use Rattle.rules.proofs.Outcomes.Linked.{finished, raises}
 use Rattle.rules.proofs.Outcomes.Outcome.{going, closing, joining, ending, denying}
-use Rattle.rules.proofs.Invariant.{labels, ApartAt, claim, Candidate, Placed, Invariant}
+use Rattle.rules.proofs.Invariant.{momentOf, claim, Candidate, Placed, Invariant}
 use Rattle.rules.proofs.Others.{placed-other}
-use Rattle.rules.proofs.Own.{anchored-joined, anchored-found, anchored-no, finished-over, unfinished-current, timed-on, timed-raising, placed-now, placed-pending, placed-still}
+use Rattle.rules.proofs.Own.{anchored-joined, anchored-found, anchored-no, finished-over, unfinished-current}
+use Rattle.rules.proofs.Own.{timed-on, timed-raising, placed-now, placed-pending, placed-still}
 use Rattle.rules.proofs.Serving.{Serving, serving-of, more, served-agrees, After, Effect}
 use Rattle.rules.proofs.Serving.After.{continues, finishes}
 
@@ -78,8 +82,8 @@ module _ (qs : List Request) (n : ℕ) (B : Labels) (roots₀ : ℕ) (S : State)
   abbrev t′ : List Node
   t′ = touched (S .table) (accessOf head)
 
-  abbrev B₁ : Labels
-  B₁ = labels qs B S
+  abbrev m : Moment n
+  m = momentOf qs n B S
 
   abbrev with-entries : List Entry → State
   with-entries es =
@@ -100,7 +104,8 @@ module _ (qs : List Request) (n : ℕ) (B : Labels) (roots₀ : ℕ) (S : State)
   unplaced : a .event .point ≡ 0 → Does (S .entries) → Effect qs n B roots₀ S (served qs S h head) past′ q a
   unplaced z does = subst Does (sym (rw (eq-eqb (a .event .point) 0 z) refl)) does
 
-  placed-at : (point : ℕ) → a .event .point ≡ point → 1 ≤ point → Does (insert point q (S .entries)) → Effect qs n B roots₀ S (served qs S h head) past′ q a
+  placed-at : (point : ℕ) → a .event .point ≡ point → 1 ≤ point → Does (insert point q (S .entries))
+      → Effect qs n B roots₀ S (served qs S h head) past′ q a
   placed-at point e positive does = subst Does (sym entries) does
     where
       entries : served qs S h head .entries ≡ insert point q (S .entries)
@@ -116,11 +121,10 @@ module _ (qs : List Request) (n : ℕ) (B : Labels) (roots₀ : ℕ) (S : State)
   -- ---- the table
 
   -- the table shows the labels that the entries make
-  table-kept : {B′ : Labels} (es : List Entry) → after (operationAt qs) B es ≡ B′ → Kept n (S .table) t′ B₁ B′
-      → Kept n (S .table) t′ B₁ (after (operationAt qs) B es)
-  table-kept es e kept = subst (λ C. Kept n (S .table) t′ B₁ C) (sym e) kept
+  table-kept : {B′ : Labels} (es : List Entry) → after (operationAt qs) B es ≡ B′ → Kept m t′ B′ → Kept m t′ (after (operationAt qs) B es)
+  table-kept es e kept = subst (Kept m t′) (sym e) kept
 
-  roots-stay : a .event .linked ≡ false → Unlinked n (S .table) t′ B₁ → rootCount (parent t′) n + served qs S h head .links ≡ roots₀
+  roots-stay : a .event .linked ≡ false → Unlinked m t′ → rootCount (parent t′) n + served qs S h head .links ≡ roots₀
   roots-stay unlinked table = rw unlinked (ap (λ k. k + S .links) (table .roots) ∙ inv .roots)
 
   -- ---- entries that stand
@@ -154,7 +158,7 @@ module _ (qs : List Request) (n : ℕ) (B : Labels) (roots₀ : ℕ) (S : State)
 
   -- ---- going on
 
-  going-effect : Going n (S .now) (S .table) t′ B₁ (ApartAt qs B (S .entries) q) (requestAt qs q) (head .stage) a → Does (S .entries)
+  going-effect : Going m t′ (requestAt qs q) (head .stage) a → Does (S .entries)
   going-effect g =
       let unlinked = still-unlinked (g .unraised) (g .unlinked) in
       record {
@@ -183,15 +187,16 @@ module _ (qs : List Request) (n : ℕ) (B : Labels) (roots₀ : ℕ) (S : State)
   entered-last : entered ≡ S .entries ++ (own ∷ [])
   entered-last = insert-last (suc (S .now)) q (S .entries) entries-below
 
-  entered-labels : after (operationAt qs) B entered ≡ next B₁ (operationAt qs q)
+  entered-labels : after (operationAt qs) B entered ≡ next (m .labels) (operationAt qs q)
   entered-labels = ap (after (operationAt qs) B) entered-last ∙ after-snoc (operationAt qs) B (S .entries) own
 
-  entered-settled : (point : ℕ) → point ≤ S .now → labelsTo (operationAt qs) point B entered ≡ labelsTo (operationAt qs) point B (S .entries)
+  entered-settled : (point : ℕ) → point ≤ S .now
+      → labelsTo (operationAt qs) point B entered ≡ labelsTo (operationAt qs) point B (S .entries)
   entered-settled point l =
       ap (labelsTo (operationAt qs) point B) entered-last ∙ labelsTo-snoc (operationAt qs) point B (S .entries) own (omega arith)
 
   entered-replayed : traitsOf (head .stage) .linked ≡ false → suc (length past) ≡ pointOf (requestAt qs q .kind) q past′
-      → reply B₁ (operationAt qs q) ≡ claim past′ q → Replayed (operationAt qs) (Placed qs past′) (claim past′) B 0 entered
+      → reply (m .labels) (operationAt qs q) ≡ claim past′ q → Replayed (operationAt qs) (Placed qs past′) (claim past′) B 0 entered
   entered-replayed unraised point answered =
       let placed = subst (λ k. Placed qs past′ (entry (suc k) q)) (sym (inv .clock)) (placed-now q act past (srv .within) point) in
       subst (Replayed (operationAt qs) (Placed qs past′) (claim past′) B 0) (sym entered-last)
@@ -199,36 +204,35 @@ module _ (qs : List Request) (n : ℕ) (B : Labels) (roots₀ : ℕ) (S : State)
 
   -- ---- the two finds ended at one root
 
-  module _ (c : Closing n (S .now) (S .table) t′ B₁ (requestAt qs q) (head .stage) a) where
+  module _ (c : Closing m t′ (requestAt qs q) (head .stage) a) where
     closing-point : (k : Kind) → suc (length past) ≡ pointOf k q past′
     closing-point Union = sym (point-unlinked q act past (still-unlinked (c .unraised) (c .unlinked)))
     closing-point SameSet = sym (point-same-set q past′ ∙ find-served q act past (c .found))
 
-    closing-answer : reply B₁ (operationAt qs q) ≡ claim past′ q
+    closing-answer : reply (m .labels) (operationAt qs q) ≡ claim past′ q
     closing-answer =
-        reply-together B₁ (operationAt qs q) (c .one-set) ∙ together-reply (requestAt qs q .kind)
+        reply-together (m .labels) (operationAt qs q) (c .one-set) ∙ together-reply (requestAt qs q .kind)
         ∙ ap (λ b. promised (answerNumber b)) (sym (c .answer)) ∙ ap promised (sym (served-answer q act past))
 
     closing-effect : Does entered
     closing-effect =
         let final = ap isFinal (c .answer) ∙ together-final (requestAt qs q .kind) in
         record {
-          kept = table-kept entered (entered-labels ∙ next-together B₁ (operationAt qs q) (c .one-set)) (c .table .kept);
+          kept = table-kept entered (entered-labels ∙ next-together (m .labels) (operationAt qs q) (c .one-set)) (c .table .kept);
           roots = roots-stay (c .unlinked) (c .table);
           settled = entered-settled;
           entries = entered-replayed (c .unraised) (closing-point (requestAt qs q .kind)) closing-answer;
           others = others-stay (suc (S .now));
-          after = finishes final (c .rests) (finished-over q act past final (anchored-found q act past (requestAt qs q .kind) (c .answer) (c .found) final) (listed-once (c .unraised) (suc (S .now))));
+          after = finishes final (c .rests)
+              (finished-over q act past final (anchored-found q act past (requestAt qs q .kind) (c .answer) (c .found) final)
+              (listed-once (c .unraised) (suc (S .now))));
         }
 
   -- ---- the link was written
 
-  abbrev united : Labels
-  united = join B₁ (requestAt qs q .x) (requestAt qs q .y)
-
-  module _ (j : Joining n (S .now) (S .table) t′ B₁ united (requestAt qs q) (head .stage) a) where
-    joining-labels : after (operationAt qs) B entered ≡ united
-    joining-labels = entered-labels ∙ next-union B₁ (operationAt qs q) (j .kind)
+  module _ (j : Joining m t′ (requestAt qs q) (head .stage) a) where
+    joining-labels : after (operationAt qs) B entered ≡ united m (requestAt qs q)
+    joining-labels = entered-labels ∙ next-union (m .labels) (operationAt qs q) (j .kind)
 
     joining-link : linkOf q past′ ≡ suc (length past)
     joining-link = link-served q act past (tells (j .linked))
@@ -240,22 +244,27 @@ module _ (qs : List Request) (n : ℕ) (B : Labels) (roots₀ : ℕ) (S : State)
     joining-point = sym (ap (λ k. pointOf k q past′) (j .kind) ∙ point-union q past′ linked-now ∙ joining-link)
 
     -- joined is promised to a listed union, finished or not
-    joining-claim : Linked n t′ united (requestAt qs q) a → Joined ≡ claim past′ q
+    joining-claim : Linked m t′ (requestAt qs q) a → Joined ≡ claim past′ q
     joining-claim (finished answer rests) = sym (ap promised (served-answer q act past ∙ ap answerNumber answer))
     joining-claim (raises k answer stage r) = sym (ap promised (served-answer q act past ∙ ap answerNumber answer))
 
-    joining-answer : reply B₁ (operationAt qs q) ≡ claim past′ q
+    joining-answer : reply (m .labels) (operationAt qs q) ≡ claim past′ q
     joining-answer =
-        reply-apart B₁ (operationAt qs q) (j .two-sets) ∙ ap (λ k. replyTo k false) (j .kind) ∙ joining-claim (j .after)
+        reply-apart (m .labels) (operationAt qs q) (j .two-sets) ∙ ap (λ k. replyTo k false) (j .kind) ∙ joining-claim (j .after)
 
-    joining-after : Linked n t′ united (requestAt qs q) a → After qs n B (with-entries entered) past′ q a
+    joining-after : Linked m t′ (requestAt qs q) a → After qs n B (with-entries entered) past′ q a
     joining-after (finished answer rests) =
         finishes (ap isFinal answer) rests
         (finished-over q act past (ap isFinal answer) (anchored-joined q act past answer) (listed-once (j .unraised) (suc (S .now))))
     joining-after (raises k answer stage r) =
         continues answer (ap (λ st. traitsOf st .resting) stage)
-        (subst (Knows n (parent t′) (rank t′) (after (operationAt qs) B entered) (ApartAt qs B entered q) (suc (S .now)) (requestAt qs q) (a .head .task)) (sym stage)
-        (subst (λ C. Raising n (rank t′) C (requestAt qs q) (a .head .task .y) k) (sym joining-labels) r))
+        (subst (Knows (momentOf qs n B (with-entries entered)) (requestAt qs q) (a .head .task)) (sym stage)
+        (record {
+          node = r .node;
+          kind = r .kind;
+          rank = r .rank;
+          weight = subst (λ C. 2 ^ suc k ≤ size n C (C (a .head .task .y))) (sym joining-labels) (r .weight);
+        }))
         (timed-raising q act past (ap (λ st. traitsOf st .linked) stage) (ap (λ st. traitsOf st .pending) stage) linked-now)
         (unfinished-current q act past answer
         (listed-once (j .unraised) (suc (S .now)) ∙ sym (rw (ne-eqb (linkOf q past′) 0 linked-now))))
@@ -273,7 +282,7 @@ module _ (qs : List Request) (n : ℕ) (B : Labels) (roots₀ : ℕ) (S : State)
 
   -- ---- the raise was tried
 
-  module _ (d : Ending n (S .table) t′ B₁ (requestAt qs q) (head .stage) a) where
+  module _ (d : Ending m t′ (requestAt qs q) (head .stage) a) where
     was-linked : linkOf q past ≢ 0
     was-linked = srv .timed .linked (d .raised)
 
@@ -299,15 +308,17 @@ module _ (qs : List Request) (n : ℕ) (B : Labels) (roots₀ : ℕ) (S : State)
           kept = d .table .kept;
           roots = roots-stay (d .unlinked) (d .table);
           settled = λ point l. refl;
-          entries = replayed-map (inv .entries) (λ e m. ending-placed e (ℕ-discrete (e .request) q)) (λ e m. ending-claim (e .request) (ℕ-discrete (e .request) q));
+          entries = replayed-map (inv .entries) (λ e m. ending-placed e (ℕ-discrete (e .request) q))
+              (λ e m. ending-claim (e .request) (ℕ-discrete (e .request) q));
           others = λ p e. refl;
           after = finishes final (d .rests)
-              (finished-over q act past final (anchored-joined q act past (d .answer)) (srv .listed ∙ rw (ne-eqb (linkOf q past) 0 was-linked)));
+              (finished-over q act past final (anchored-joined q act past (d .answer))
+              (srv .listed ∙ rw (ne-eqb (linkOf q past) 0 was-linked)));
         }
 
   -- ---- x was still a root
 
-  module _ (d : Denying n (S .now) (S .table) t′ B₁ (ApartAt qs B (S .entries) q) (requestAt qs q) (head .stage) a) where
+  module _ (d : Denying m t′ (requestAt qs q) (head .stage) a) where
     abbrev point : ℕ
     point = traitsOf (head .stage) .pending
 
@@ -336,19 +347,21 @@ module _ (qs : List Request) (n : ℕ) (B : Labels) (roots₀ : ℕ) (S : State)
         let final = ap isFinal (d .answer) in
         let until : point ≤ length past = omega (arith, d .until, inv .clock) in
         record {
-          kept = table-kept (insert point q (S .entries)) (after-insert (operationAt qs) point q B (S .entries) (silent .unchanged)) (d .table .kept);
+          kept = table-kept (insert point q (S .entries))
+              (after-insert (operationAt qs) point q B (S .entries) (silent .unchanged)) (d .table .kept);
           roots = roots-stay (d .unlinked) (d .table);
           settled = λ m l. labelsTo-insert (operationAt qs) point q m B (S .entries) (silent .unchanged);
           entries = replayed-insert point q (entries-stand (not-listed (d .unraised))) (omega (arith, d .positive)) point-free
               (placed-pending q act past (srv .within) (d .kind) (d .unfound) until candidate) silent;
           others = others-stay point;
           after = finishes final (d .rests)
-              (finished-over q act past final (anchored-no q act past (d .answer) (d .unfound) candidate) (listed-once (d .unraised) point));
+              (finished-over q act past final (anchored-no q act past (d .answer) (d .unfound) candidate)
+              (listed-once (d .unraised) point));
         }
 
   -- ---- any outcome
 
-  pub outcome-effect : Outcome n (S .now) (S .table) t′ B₁ united (ApartAt qs B (S .entries) q) (requestAt qs q) (head .stage) a
+  pub outcome-effect : Outcome m t′ (requestAt qs q) (head .stage) a
       → Effect qs n B roots₀ S (served qs S h head) past′ q a
   outcome-effect (going g) = unplaced (g .unplaced) (going-effect g)
   outcome-effect (closing c) = placed-at (suc (S .now)) (c .point) (omega arith) (closing-effect c)

@@ -1,6 +1,7 @@
 -- A find's grants and a same-set's last read: each leads to one of the five outcomes.
 --
 --   Gives t′ st a   the step a at stage st, which leaves the table t′, is one of the outcomes
+--   Here kind       x and y stand for the request's two nodes, and the request is of that kind
 --
 -- Laws: find-step, whatever the errand and the step; reread-x.
 use mathlib.Core.Path.{_≡_, refl, sym, ap, subst}
@@ -11,6 +12,7 @@ use Prim.Native.Nat.{ℕ, suc}
 use native.Mathlib.Omega.{arith}
 use lib.Dec.{eqb}
 use borrow.Author.Tests.{eqb-true, eqb-false}
+use Rattle.basics.proofs.Conditions.{split}
 use Rattle.job.specs.declared.Kind.{Kind}
 use Rattle.job.specs.declared.Kind.the-variants.{Union, SameSet}
 use Rattle.job.specs.declared.Request.{Request}
@@ -28,10 +30,9 @@ use Rattle.process.specs.declared.Advanced.{Advanced}
 use Rattle.process.specs.Process.{kindOf, servesX, nextErrand, nodeAt, movedTo, restart}
 use Rattle.process.specs.Find.{findAccess, walked}
 use Rattle.process.specs.Advance.{continue, together, compared, ended, followed, reread}
-use Rattle.linearization.proofs.Tests.{split}
 use Rattle.rules.specs.Table.{at, parent, rank, seen, touched}
 use Rattle.rules.proofs.Finds.{Walks, find-walks, find-halved}
-use Rattle.rules.proofs.Stages.{Finding, Searching, Rereading, find-node, restart-knows}
+use Rattle.rules.proofs.Stages.{Moment, Apart, Finding, Searching, Rereading, find-node, restart-knows}
 use Rattle.rules.proofs.Outcomes.{Unlinked, Outcome, Present, unchanged, goes-on}
 use Rattle.rules.proofs.Outcomes.Outcome.{going, closing, denying}
 use Rattle.rules.proofs.Writes.{find-unlinked}
@@ -44,15 +45,21 @@ next-kind UnionY = refl
 next-kind SameX = refl
 next-kind SameY = refl
 
-module _ {n now : ℕ} {t : List Node} {B B′ : ℕ → ℕ} {Apart : ℕ → Type 0} {q : Request} (present : Present n now t B B′ Apart q) (k : Task) where
-  abbrev Gives : List Node → Stage → Advanced → Type 0
-  Gives t′ st a = Outcome n now t t′ B B′ Apart q st a
+module _ {n : ℕ} {m : Moment n} {q : Request} (present : Present m q) (k : Task) where
+  abbrev t : List Node
+  t = m .table
 
-  module _ (e : Errand) (s : Step) {t′ : List Node} (table : Unlinked n t t′ B) where
+  abbrev Gives : List Node → Stage → Advanced → Type 0
+  Gives t′ st a = Outcome m t′ q st a
+
+  abbrev Here : Kind → Type 0
+  Here kind = Finding n (m .labels) q kind (k .x) (k .y)
+
+  module _ (e : Errand) (s : Step) {t′ : List Node} (table : Unlinked m t′) where
     -- ---- both finds have ended
 
     -- at one root: already together, or yes
-    one-root : (kind : Kind) → Finding n B q kind (k .x) (k .y) → eqb (k .x) (k .y) ≡ true → Gives t′ (Find e s) (compared k kind (suc now))
+    one-root : (kind : Kind) → Here kind → eqb (k .x) (k .y) ≡ true → Gives t′ (Find e s) (compared k kind (suc (m .now)))
     one-root kind f one =
         rw one
         (closing (record {
@@ -67,14 +74,15 @@ module _ {n now : ℕ} {t : List Node} {B B′ : ℕ → ℕ} {Apart : ℕ → T
         }))
 
     -- y is a root, so that if x is one, too, the two are in two sets
-    roots-apart : {kind : Kind} → Finding n B q kind (k .x) (k .y) → parent t′ (k .y) ≡ k .y → k .x ≢ k .y → parent t′ (k .x) ≡ k .x
-        → Apart (suc now)
+    roots-apart : {kind : Kind} → Here kind → parent t′ (k .y) ≡ k .y → k .x ≢ k .y → parent t′ (k .x) ≡ k .x
+        → Apart m q (suc (m .now))
     roots-apart f root d r =
-        present .apart (ends-two (f .ends) (λ s. d (table .kept .sound .labelled .apart (k .x) (k .y) (f .left) (f .right) r root s)))
+        subst (λ C. C (q .x) ≢ C (q .y)) (sym (present .latest))
+        (ends-two (f .ends) (λ s. d (table .kept .sound .labelled .apart (k .x) (k .y) (f .left) (f .right) r root s)))
 
     -- at two: a union reads x's rank, a same-set reads x again, with this grant as its point
-    two-roots : (kind : Kind) → Finding n B q kind (k .x) (k .y) → parent t′ (k .y) ≡ k .y → eqb (k .x) (k .y) ≡ false
-        → Gives t′ (Find e s) (compared k kind (suc now))
+    two-roots : (kind : Kind) → Here kind → parent t′ (k .y) ≡ k .y → eqb (k .x) (k .y) ≡ false
+        → Gives t′ (Find e s) (compared k kind (suc (m .now)))
     two-roots Union f root two =
         rw two
         (goes-on (Find e s) k ReadRankX false true refl refl table
@@ -91,26 +99,31 @@ module _ {n now : ℕ} {t : List Node} {B B′ : ℕ → ℕ} {Apart : ℕ → T
           still = refl;
           proposed = λ z. refl;
           found = λ z. refl;
-          knows = record { finding = f; positive = omega arith; until = omega arith; apart = roots-apart f root (eqb-false (k .x) (k .y) two) };
+          knows = record {
+            finding = f;
+            positive = omega arith;
+            until = omega arith;
+            apart = roots-apart f root (eqb-false (k .x) (k .y) two);
+          };
         }))
 
     -- ---- one of them has
 
-    find-ended : Finding n B q (kindOf e) (k .x) (k .y) → parent t′ (nodeAt k e) ≡ nodeAt k e → Gives t′ (Find e s) (ended k e (suc now))
+    find-ended : Here (kindOf e) → parent t′ (nodeAt k e) ≡ nodeAt k e → Gives t′ (Find e s) (ended k e (suc (m .now)))
     find-ended f root = go (servesX e) root
       where
         go : (b : Bool) → parent t′ (cond b (k .x) (k .y)) ≡ cond b (k .x) (k .y)
             → Gives t′ (Find e s)
-            (cond b (continue k (Find (nextErrand e) ReadNode)) (compared k (kindOf e) (suc now)))
+            (cond b (continue k (Find (nextErrand e) ReadNode)) (compared k (kindOf e) (suc (m .now))))
         go true root =
             goes-on (Find e s) k (Find (nextErrand e) ReadNode) false false refl refl table
-            (record { finding = subst (λ kind. Finding n B q kind (k .x) (k .y)) (sym (next-kind e)) f; find = tt })
+            (record { finding = subst Here (sym (next-kind e)) f; find = tt })
         go false root =
             split (eqb (k .x) (k .y)) (λ one. one-root (kindOf e) f one) (λ two. two-roots (kindOf e) f root two)
 
     -- ---- where the find goes
 
-    follows : (w : Walked) → Finding n B q (kindOf e) (k .x) (k .y) → Walks n t′ B (nodeAt k e) w → Gives t′ (Find e s) (followed k e (suc now) w)
+    follows : (w : Walked) → Here (kindOf e) → Walks n t′ (m .labels) (nodeAt k e) w → Gives t′ (Find e s) (followed k e (suc (m .now)) w)
     follows (On next) f a = goes-on (Find e s) k (Find e next) false false refl refl table (record { finding = f; find = a })
     follows (Failed next) f a = goes-on (Find e s) k (Find e next) true false refl refl table (record { finding = f; find = a })
     follows (Up v) f a =
@@ -118,18 +131,20 @@ module _ {n now : ℕ} {t : List Node} {B B′ : ℕ → ℕ} {Apart : ℕ → T
         (record { finding = finding-moved k e v f a; find = tt })
     follows Ended f a = find-ended f a
 
-  pub find-step : (e : Errand) (s : Step) → Searching n (parent t) (rank t) B q k e s
-      → Gives (touched t (findAccess (nodeAt k e) s)) (Find e s) (followed k e (suc now) (walked (nodeAt k e) (seen t (findAccess (nodeAt k e) s)) s))
+  pub find-step : (e : Errand) (s : Step) → Searching m q k e s
+      → Gives (touched t (findAccess (nodeAt k e) s)) (Find e s)
+      (followed k e (suc (m .now)) (walked (nodeAt k e) (seen t (findAccess (nodeAt k e) s)) s))
   find-step e s a =
       let node = find-node k (a .finding) e in
       let sound = present .sound in
-      follows e s (find-unlinked t (present .nodes) sound (find-halved t (present .nodes) (sound .formed) (sound .labelled) node s (a .find)))
+      follows e s
+      (find-unlinked m (present .nodes) sound (find-halved t (present .nodes) (sound .formed) (sound .labelled) node s (a .find)))
       (walked (nodeAt k e) (seen t (findAccess (nodeAt k e) s)) s) (a .finding)
       (find-walks t (present .nodes) (sound .formed) (sound .labelled) node s (a .find))
 
   -- ---- a same-set's last read
 
-  pub reread-x : (point : ℕ) → Rereading n (parent t) B Apart now q (k .x) (k .y) point → Gives t (RereadX point) (reread k point (at t (k .x)))
+  pub reread-x : (point : ℕ) → Rereading m q (k .x) (k .y) point → Gives t (RereadX point) (reread k point (at t (k .x)))
   reread-x point a =
       split (eqb (parent t (k .x)) (k .x))
       (λ e. rw e
@@ -146,4 +161,5 @@ module _ {n now : ℕ} {t : List Node} {B B′ : ℕ → ℕ} {Apart : ℕ → T
         until = a .until;
         two-sets = a .apart (eqb-true (parent t (k .x)) (k .x) e);
       })))
-      (λ e. rw e (goes-on (RereadX point) k (restart SameSet) false false refl refl (unchanged present) (restart-knows SameSet k (a .finding))))
+      (λ e. rw e
+      (goes-on (RereadX point) k (restart SameSet) false false refl refl (unchanged present) (restart-knows SameSet k (a .finding))))

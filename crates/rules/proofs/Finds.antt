@@ -20,6 +20,7 @@ use native.Mathlib.Decide.{ℕ-discrete}
 use lib.Dec.{eqb}
 use lib.ListN.{length, set}
 use borrow.Author.Tests.{eqb-true, eqb-false}
+use Rattle.basics.proofs.Conditions.{split}
 use Rattle.word.specs.declared.Node.{Node}
 use Rattle.word.specs.Word.{key, same}
 use Rattle.process.specs.declared.Step.{Step}
@@ -28,10 +29,8 @@ use Rattle.process.specs.Find.{Walked}
 use Rattle.process.specs.Find.Walked.{On, Failed, Up, Ended}
 use Rattle.process.specs.Find.{findAccess, walked}
 use Rattle.forest.proofs.Forest.{WellFormed, Labelled}
-use Rattle.forest.proofs.Writes.{Changed}
 use Rattle.forest.proofs.Halving.{Halving}
 use Rattle.forest.proofs.Later.{Later, later-before, halving-later}
-use Rattle.linearization.proofs.Tests.{split}
 use Rattle.rules.specs.Table.{at, parent, rank, seen, touched}
 use Rattle.rules.proofs.Table.{parent-changed, rank-changed}
 
@@ -134,17 +133,13 @@ module _ {n : ℕ} (t : List Node) {B : ℕ → ℕ} (nodes : length t ≡ n) (f
           before = a .grandparent .before;
         }
 
-    halved-parents : Changed (parent t) (parent (stored t v k w)) v w
-    halved-parents = parent-changed t v (record { rank = k; parent = w }) (omega (arith, nodes, node))
-
-    halved-ranks : Changed (rank t) (rank (stored t v k w)) v k
-    halved-ranks = rank-changed t v (record { rank = k; parent = w }) (omega (arith, nodes, node))
-
     -- written or not, t's word is read again
     swap-walks : Walks n (touched t (findAccess v (Halve k u w))) B v (walked v (at t v) (Halve k u w))
     swap-walks =
+        let parents = parent-changed t v (record { rank = k; parent = w }) (omega (arith, nodes, node)) in
+        let ranks = rank-changed t v (record { rank = k; parent = w }) (omega (arith, nodes, node)) in
         split (same (at t v) (record { rank = k; parent = u }))
-        (λ e. rw e (find-later (halving-later formed may-halve halved-parents halved-ranks) node (ReadAgain u) (a .parent)))
+        (λ e. rw e (find-later (halving-later formed may-halve parents ranks) node (ReadAgain u) (a .parent)))
         (λ e. rw e (a .parent))
 
     swap-halved : Halved n t (touched t (findAccess v (Halve k u w))) B v

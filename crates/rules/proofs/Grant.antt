@@ -1,26 +1,22 @@
 -- One grant keeps the invariant: idle, or serving a head that goes on with its request or begins its next one.
 --
---   united q   what a union of request q would make of the sets
---
 -- Main laws: served-effect, what the grant does to a head that it serves; step-invariant.
 use mathlib.Core.Path.{_≡_, refl, sym, ap, _∙_, subst}
-use mathlib.Core.Logic.{_≢_}
 use mathlib.Core.Bool.{Bool, true, false, cond, true≢false}
 use mathlib.Core.List.{List, _∷_}
-use Prim.Native.Nat.{ℕ, suc, _≤_, _<_}
+use Prim.Native.Nat.{ℕ, suc, _<_}
 use native.Mathlib.Omega.{arith}
 use lib.ListN.{length}
 use borrow.Author.Tests.{ltb-true, eq-eqb}
+use Rattle.basics.proofs.Conditions.{split}
 use Rattle.job.specs.declared.Request.{Request}
 use Rattle.process.specs.declared.Head.{Head}
-use Rattle.process.specs.Process.{traitsOf, isResting, begin}
+use Rattle.process.specs.Process.{isResting, begin}
 use Rattle.process.specs.Access.{accessOf}
 use Rattle.process.specs.Advance.{advanceOf}
-use Rattle.forest.proofs.Merge.{Merged, relabelled-merged}
 use Rattle.forest.proofs.Later.{later-refl}
-use Rattle.linearization.specs.Partition.{Labels, join}
+use Rattle.linearization.specs.Partition.{Labels}
 use Rattle.linearization.specs.Entry.{occurrences}
-use Rattle.linearization.proofs.Tests.{split}
 use Rattle.linearization.proofs.Replay.{labelsTo-all, replayed-fact, replayed-map}
 use Rattle.rules.specs.Table.{parent, rank, touched}
 use Rattle.rules.specs.State.{State, requestAt, hasWork}
@@ -30,10 +26,10 @@ use Rattle.rules.specs.Run.Happening.{idle}
 use Rattle.rules.specs.History.{linkOf}
 use Rattle.rules.specs.Linearized.{promised}
 use Rattle.rules.proofs.History.{row-other}
-use Rattle.rules.proofs.Stages.{Inside, finding-begin, restart-knows, knows-later, pending-until}
+use Rattle.rules.proofs.Stages.{Inside, Onward, finding-begin, restart-knows, knows-later}
 use Rattle.rules.proofs.Outcomes.{Outcome, Present}
 use Rattle.rules.proofs.StepOutcome.{step-outcome}
-use Rattle.rules.proofs.Invariant.{labels, ApartAt, Current, Waiting, Phase, Invariant}
+use Rattle.rules.proofs.Invariant.{labels, momentOf, head-until, Current, Waiting, Phase, Invariant}
 use Rattle.rules.proofs.Invariant.Phase.{over, current, waiting}
 use Rattle.rules.proofs.Others.{timed-other, phase-other, placed-other}
 use Rattle.rules.proofs.Positions.{phase-of}
@@ -67,27 +63,35 @@ module _ {qs : List Request} {n : ℕ} {B : Labels} {roots₀ : ℕ} {S : State}
         roots = inv .roots;
         own = inv .own;
         busy = inv .busy;
-        knows = λ h b. knows-later (later-refl n (parent (S .table)) (rank (S .table)) (labels qs B S)) (inside (headAt S h .task .request) (inv .busy h b .within))
-            {Apart = ApartAt qs B (S .entries) (headAt S h .task .request)} {Apart′ = ApartAt qs B (S .entries) (headAt S h .task .request)}
-            {now = S .now} {now′ = suc (S .now)} (omega arith) (λ point l apart. apart) (headAt S h .task) (headAt S h .stage) (inv .knows h b);
-        timed = λ h b. timed-other idle refl (omega (arith, inv .clock, until h b)) (inv .timed h b);
-        entries = replayed-map (inv .entries) (λ e m p. placed-other idle refl p) (λ e m. ap (λ r. promised (r .answer)) (sym (row-other (e .request) idle past refl)));
+        knows = λ h b. knows-later onward (inside (headAt S h .task .request) (inv .busy h b .within))
+            (headAt S h .task) (headAt S h .stage) (inv .knows h b);
+        timed = λ h b. timed-other idle refl (omega (arith, inv .clock, head-until qs n B S (headAt S h) (inv .knows h b)))
+            (inv .timed h b);
+        entries = replayed-map (inv .entries) (λ e m p. placed-other idle refl p)
+            (λ e m. ap (λ r. promised (r .answer)) (sym (row-other (e .request) idle past refl)));
         phases = λ q l. phase-other q past idle refl refl (inv .phases q l);
       }
     where
-      until : (h : ℕ) (b : isResting (headAt S h) ≡ false) → traitsOf (headAt S h .stage) .pending ≤ S .now
-      until h b = pending-until n (parent (S .table)) (rank (S .table)) (labels qs B S) (ApartAt qs B (S .entries) (headAt S h .task .request)) (S .now)
-          (requestAt qs (headAt S h .task .request)) (headAt S h .task) (headAt S h .stage) (inv .knows h b)
+      onward : Onward (momentOf qs n B S) (momentOf qs n B (passed S))
+      onward =
+          record {
+            table = later-refl n (parent (S .table)) (rank (S .table)) (labels qs B S);
+            passes = omega arith;
+            settled = λ point l. refl;
+          }
 
   -- ---- a grant that serves a head
 
   module _ (h : ℕ) (present : h < length (S .heads)) where
-    module _ (within : headAt S h .task .request < length qs) where
-      own-head : requestAt qs (headAt S h .task .request) .head ≡ h
+    abbrev q : ℕ
+    q = headAt S h .task .request
+
+    module _ (within : q < length qs) where
+      own-head : requestAt qs q .head ≡ h
       own-head = inv .own h present within
 
-      own-phase : Phase (headAt S h) (headAt S h .task .request) past (occurrences (headAt S h .task .request) (S .entries))
-      own-phase = phase-of inv h (headAt S h .task .request) within own-head
+      own-phase : Phase (headAt S h) q past (occurrences q (S .entries))
+      own-phase = phase-of inv h q within own-head
 
       -- the head goes on
       serving-busy : isResting (headAt S h) ≡ false → Serving qs n B S past h (headAt S h)
@@ -106,7 +110,7 @@ module _ {qs : List Request} {n : ℕ} {B : Labels} {roots₀ : ℕ} {S : State}
           }
 
       -- it begins its next request
-      serving-begun : isResting (headAt S h) ≡ true → Serving qs n B S past h (begin (requestAt qs (headAt S h .task .request)) (headAt S h .task .request))
+      serving-begun : isResting (headAt S h) ≡ true → Serving qs n B S past h (begin (requestAt qs q) q)
       serving-begun rests =
           let w = phase-waiting own-phase rests in
           record {
@@ -114,12 +118,12 @@ module _ {qs : List Request} {n : ℕ} {B : Labels} {roots₀ : ℕ} {S : State}
             own = own-head;
             position = refl;
             busy = refl;
-            knows = restart-knows (requestAt qs (headAt S h .task .request) .kind) (begin (requestAt qs (headAt S h .task .request)) (headAt S h .task .request) .task)
-                (finding-begin (requestAt qs (headAt S h .task .request)) (inside (headAt S h .task .request) within));
+            knows = restart-knows (requestAt qs q .kind) (begin (requestAt qs q) q .task)
+                (finding-begin (requestAt qs q) (inside q within));
             timed = record { unlinked = λ e. w .unlinked; linked = λ e. absurd (true≢false (sym e)); candidate = λ d. absurd (d refl) };
             begun = λ e. absurd (true≢false (sym e));
             unfinished = w .unfinished;
-            listed = w .unlisted ∙ sym (rw (eq-eqb (linkOf (headAt S h .task .request) past) 0 (w .unlinked)));
+            listed = w .unlisted ∙ sym (rw (eq-eqb (linkOf q past) 0 (w .unlinked)));
           }
 
       pub serving-ready : Serving qs n B S past h (ready qs (headAt S h))
@@ -128,33 +132,25 @@ module _ {qs : List Request} {n : ℕ} {B : Labels} {roots₀ : ℕ} {S : State}
           (λ t. subst (Serving qs n B S past h) (sym (chosen t)) (serving-begun t))
           (λ t. subst (Serving qs n B S past h) (sym (chosen t)) (serving-busy t))
         where
-          chosen : {b : Bool} → isResting (headAt S h) ≡ b
-              → ready qs (headAt S h) ≡ cond b (begin (requestAt qs (headAt S h .task .request)) (headAt S h .task .request)) (headAt S h)
-          chosen t = ap (λ b. cond b (begin (requestAt qs (headAt S h .task .request)) (headAt S h .task .request)) (headAt S h)) t
-
-    -- what the request's union would make of the sets
-    abbrev united : ℕ → Labels
-    united q = join (labels qs B S) (requestAt qs q .x) (requestAt qs q .y)
-
-    union-merged : (q : ℕ) → Merged (labels qs B S) (united q) (requestAt qs q .x) (requestAt qs q .y)
-    unfolding join
-    union-merged q = relabelled-merged (labels qs B S) (united q) (requestAt qs q .x) (requestAt qs q .y) (λ i. refl)
+          chosen : {b : Bool} → isResting (headAt S h) ≡ b → ready qs (headAt S h) ≡ cond b (begin (requestAt qs q) q) (headAt S h)
+          chosen t = ap (λ b. cond b (begin (requestAt qs q) q) (headAt S h)) t
 
     -- no entry is beyond this grant
-    apart-now : (q : ℕ) → labels qs B S (requestAt qs q .x) ≢ labels qs B S (requestAt qs q .y) → ApartAt qs B (S .entries) q (suc (S .now))
-    apart-now q =
-        subst (λ C. C (requestAt qs q .x) ≢ C (requestAt qs q .y))
-        (sym (labelsTo-all _ (suc (S .now)) B (S .entries) (λ e m. omega (arith, replayed-fact (inv .entries) e m .until, inv .clock))))
-
-    present-now : (q : ℕ) → q < length qs → Present n (S .now) (S .table) (labels qs B S) (united q) (ApartAt qs B (S .entries) q) (requestAt qs q)
-    present-now q within =
-        record { nodes = inv .nodes; inside = inside q within; sound = inv .sound; merged = union-merged q; apart = apart-now q }
+    present-now : (p : ℕ) → p < length qs → Present (momentOf qs n B S) (requestAt qs p)
+    present-now p within =
+        record {
+          nodes = inv .nodes;
+          inside = inside p within;
+          sound = inv .sound;
+          latest = labelsTo-all _ (suc (S .now)) B (S .entries) (λ e m. omega (arith, replayed-fact (inv .entries) e m .until, inv .clock));
+        }
 
     served-outcome : {head : Head} → Serving qs n B S past h head
-        → Outcome n (S .now) (S .table) (touched (S .table) (accessOf head)) (labels qs B S) (united (head .task .request))
-        (ApartAt qs B (S .entries) (head .task .request)) (requestAt qs (head .task .request)) (head .stage) (advanced S head)
+        → Outcome (momentOf qs n B S) (touched (S .table) (accessOf head)) (requestAt qs (head .task .request)) (head .stage)
+        (advanced S head)
     unfolding accessOf advanceOf
-    served-outcome {head} srv = step-outcome (present-now (head .task .request) (srv .within)) (head .task) (head .stage) (srv .busy) (srv .knows)
+    served-outcome {head} srv =
+        step-outcome (present-now (head .task .request) (srv .within)) (head .task) (head .stage) (srv .busy) (srv .knows)
 
     pub served-effect : {head : Head} → Serving qs n B S past h head
         → Effect qs n B roots₀ S (served qs S h head) (more S head past) (head .task .request) (advanced S head)
@@ -165,6 +161,6 @@ module _ {qs : List Request} {n : ℕ} {B : Labels} {roots₀ : ℕ} {S : State}
     step-invariant =
         split (hasWork qs (headAt S h))
         (λ t.
-        let serving = serving-ready (ltb-true (headAt S h .task .request) (length qs) t) in
+        let serving = serving-ready (ltb-true q (length qs) t) in
         rw t (effect-invariant present inside inv serving (served-effect serving)))
         (λ t. rw t idle-invariant)

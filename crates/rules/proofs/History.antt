@@ -16,17 +16,18 @@ use native.Mathlib.Decide.{ℕ-discrete}
 use lib.Dec.{eqb}
 use lib.ListN.{length}
 use borrow.Author.Tests.{eq-eqb, ne-eqb}
+use Rattle.basics.proofs.Conditions.{split}
 use Rattle.job.specs.declared.Kind.{Kind}
 use Rattle.job.specs.declared.Kind.the-variants.{Union, SameSet}
 use Rattle.job.specs.declared.Answer.{Answer}
 use Rattle.job.specs.declared.Answer.the-variants.{Unfinished, Joined, Together, Yes, No}
 use Rattle.job.specs.Job.{answerNumber}
-use Rattle.linearization.proofs.Tests.{split}
 use Rattle.rules.specs.Report.{isFinal, charge}
 use Rattle.rules.specs.Action.{Action, links}
 use Rattle.rules.specs.Run.{Happening}
 use Rattle.rules.specs.Run.Happening.{idle, serving}
-use Rattle.rules.specs.History.{firstWhere, lastWhere, lastButOne, countWhere, isOf, endsFindOf, linksFor, answerOf, rowOf, linkOf, pointOf}
+use Rattle.rules.specs.History.{firstWhere, lastWhere, lastButOne, countWhere, isOf, endsFindOf, linksFor}
+use Rattle.rules.specs.History.{answerOf, rowOf, linkOf, pointOf}
 
 -- A grant that was not used for q.
 abbrev pub Other : ℕ → Happening → Type 0

@@ -1,7 +1,8 @@
 -- The invariant of a run: what holds of the state and of its history between any two grants.
 --
 --   labels qs B S           the sets after the replay of the entries so far
---   ApartAt qs B es q p     the two nodes of request q are in two sets after the entries up to point p
+--   momentOf qs n B S       the moment that a head's knowledge is told against
+--   HeadKnows q head        what a head knows of request q
 --   claim past q            what the sequential specification is to answer to request q
 --   Candidate q past p      what the history says of a pending point
 --   Timed q past st         what the history says of a request whose head is at stage st
@@ -36,13 +37,22 @@ use Rattle.rules.specs.History.{lastWhere, isOf, endsFindOf, rowOf, link
 use Rattle.rules.specs.Linearized.{operationAt, promised}
 use Rattle.rules.specs.Laws.{Anchored}
 use Rattle.rules.proofs.History.{usedFor}
-use Rattle.rules.proofs.Stages.{Knows}
+use Rattle.rules.proofs.Stages.{Moment, Knows, pending-until}
 
 abbrev pub labels : List Request → Labels → State → Labels
 labels qs B S = after (operationAt qs) B (S .entries)
 
-abbrev pub ApartAt : List Request → Labels → List Entry → ℕ → ℕ → Type 0
-ApartAt qs B es q point = labelsTo (operationAt qs) point B es (requestAt qs q .x) ≢ labelsTo (operationAt qs) point B es (requestAt qs q .y)
+abbrev pub momentOf : List Request → (n : ℕ) → Labels → State → Moment n
+momentOf qs n B S =
+    record { table = S .table; labels = labels qs B S; labelsAt = λ point. labelsTo (operationAt qs) point B (S .entries); now = S .now }
+
+abbrev pub HeadKnows : List Request → ℕ → Labels → State → ℕ → Head → Type 0
+HeadKnows qs n B S q head = Knows (momentOf qs n B S) (requestAt qs q) (head .task) (head .stage)
+
+-- a pending point is not beyond the present grant
+pub head-until : (qs : List Request) (n : ℕ) (B : Labels) (S : State) (head : Head) → HeadKnows qs n B S (head .task .request) head
+    → traitsOf (head .stage) .pending ≤ S .now
+head-until qs n B S head = pending-until (momentOf qs n B S) (requestAt qs (head .task .request)) (head .task) (head .stage)
 
 abbrev pub claim : List Happening → ℕ → Answer
 claim past q = promised (rowOf q past .answer)
@@ -112,9 +122,7 @@ pub record Invariant (qs : List Request) (n : ℕ) (B : Labels) (roots₀ : ℕ)
   -- a head serves its own requests, and knows what its stage says
   pub own : (h : ℕ) → h < length (S .heads) → headAt S h .task .request < length qs → requestAt qs (headAt S h .task .request) .head ≡ h
   pub busy : (h : ℕ) → isResting (headAt S h) ≡ false → Busy qs h (headAt S h .task .request)
-  pub knows : (h : ℕ) → isResting (headAt S h) ≡ false
-      → Knows n (parent (S .table)) (rank (S .table)) (labels qs B S) (ApartAt qs B (S .entries) (headAt S h .task .request)) (S .now)
-      (requestAt qs (headAt S h .task .request)) (headAt S h .task) (headAt S h .stage)
+  pub knows : (h : ℕ) → isResting (headAt S h) ≡ false → HeadKnows qs n B S (headAt S h .task .request) (headAt S h)
   pub timed : (h : ℕ) → isResting (headAt S h) ≡ false → Timed (headAt S h .task .request) past (headAt S h .stage)
   -- entries rise, stand at their points and are answered as reported
   pub entries : Replayed (operationAt qs) (Placed qs past) (claim past) B 0 (S .entries)

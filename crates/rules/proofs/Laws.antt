@@ -3,23 +3,23 @@
 -- Main laws: run-lawful, at every moment; run-follows, between any two.
 use mathlib.Core.Path.{_≡_, refl, sym, ap, _∙_, subst}
 use mathlib.Core.Logic.{_≢_}
-use mathlib.Core.Bool.{Bool, true, false}
+use mathlib.Core.Bool.{true}
 use mathlib.Core.List.{List, [], _∷_, _++_, List·Memᴰ, Memᴰ·append-left, Memᴰ·append-right}
-use Prim.Native.Nat.{ℕ, zero, suc, _+_, _-_, _≤_, _<_}
+use Prim.Native.Nat.{ℕ, suc, _+_, _-_, _≤_, _<_}
 use native.Mathlib.Omega.{arith}
 use lib.ListN.{length}
 use borrow.Author.Tests.{ne-eqb, lt-ltb}
+use Rattle.basics.proofs.Conditions.{split}
+use Rattle.basics.proofs.Counts.{count-more}
 use Rattle.job.specs.declared.Request.{Request}
 use Rattle.word.specs.declared.Node.{Node}
 use Rattle.word.specs.Word.{before, key}
 use Rattle.word.proofs.Laws.{before-key}
-use Rattle.forest.specs.Forest.{count}
 use Rattle.forest.proofs.Forest.{WellFormed, together-label, label-together}
 use Rattle.forest.proofs.Sound.{rank-bound}
 use Rattle.forest.proofs.Roots.{start-roots}
 use Rattle.forest.proofs.Later.{Later, later-refl}
 use Rattle.linearization.specs.Partition.{Labels, apart}
-use Rattle.linearization.proofs.Tests.{split}
 use Rattle.rules.specs.declared.Row.{Row}
 use Rattle.rules.specs.Table.{parent, rank, fresh}
 use Rattle.rules.specs.Report.{noRow}
@@ -32,8 +32,9 @@ use Rattle.rules.specs.Laws.{some, isUnfinished, headsLeft, Lawful, Foll
 use Rattle.rules.proofs.History.{row-other}
 use Rattle.rules.proofs.Table.{fresh-start}
 use Rattle.rules.proofs.Invariant.{labels, Invariant}
-use Rattle.rules.proofs.Theorem.{length-heads, start-row, start-invariant, step-heads, run-invariant, run-prefix, playable-inside, started-invariant, fresh-startable}
-use Rattle.rules.proofs.Positions.{phase-begun, phase-passed, phase-anchored, phase-of, answer-is, work-left}
+use Rattle.rules.proofs.Theorem.{length-heads, start-row, start-invariant, step-heads, run-invariant, run-prefix}
+use Rattle.rules.proofs.Theorem.{playable-inside, started-invariant, fresh-startable}
+use Rattle.rules.proofs.Positions.{some-false, phase-begun, phase-passed, phase-anchored, phase-of, answer-is, work-left}
 use Rattle.rules.proofs.Layer.{run-layer, AllTruthful, truthful-layer, Counted, counted-layer, InTurn, in-turn-layer, later-layer}
 
 -- ---- at one moment
@@ -54,26 +55,17 @@ unused-row q (a ∷ past) none =
 
 -- ---- heads without a request have no work
 
-some-none : (test : ℕ → Bool) (n : ℕ) → ((q : ℕ) → q < n → test q ≡ false) → some test n ≡ false
-some-none test zero none = refl
-some-none test (suc n) none = rw (none n (omega arith)) (some-none test n (λ q l. none q (omega arith)))
-
-count-more : (test : ℕ → Bool) (n k : ℕ) → ((h : ℕ) → n ≤ h → test h ≡ false) → count test (n + k) ≡ count test n
-count-more test n zero none = let same : n + 0 ≡ n = omega arith in ap (count test) same
-count-more test n (suc k) none =
-    let more : n + suc k ≡ suc (n + k) = omega arith in
-    rw (more, none (n + k) (omega arith)) (count-more test n k none)
-
 heads-left : (qs : List Request) (report : List Row) (heads m : ℕ) → heads ≤ m → ((q : ℕ) → q < length qs → requestAt qs q .head < heads)
     → headsLeft qs report m ≡ headsLeft qs report heads
 heads-left qs report heads m few served =
     let all : m ≡ heads + (m - heads) = omega arith in
     ap (headsLeft qs report) all
     ∙ count-more (λ h. some (isUnfinished qs report h) (length qs)) heads (m - heads)
-    (λ h l. some-none (isUnfinished qs report h) (length qs)
+    (λ h l. some-false (isUnfinished qs report h) (length qs)
     (λ q within. rw (ne-eqb (requestAt qs q .head) h (λ e. absurd (omega (arith, e, served q within)))) refl))
 
-module _ {qs : List Request} {n : ℕ} {B : Labels} {roots₀ : ℕ} {S : State} {past : List Happening} (inv : Invariant qs n B roots₀ S past) where
+module _ {qs : List Request} {n : ℕ} {B : Labels} {roots₀ : ℕ} {S : State} {past : List Happening}
+    (inv : Invariant qs n B roots₀ S past) where
   module _ (p q : ℕ) (earlier : p < q) (within : q < length qs) (one : requestAt qs p .head ≡ requestAt qs q .head)
       (begun : rowAt (S .report) q .first ≢ 0) where
     first-is : rowAt (S .report) q .first ≡ rowOf q past .first

@@ -16,11 +16,11 @@ use native.Mathlib.Omega.{arith}
 use native.Mathlib.Decide.{ℕ-discrete}
 use lib.ListN.{length}
 use borrow.Author.Tests.{eq-eqb, ltb-true}
+use Rattle.basics.proofs.Conditions.{split}
 use Rattle.job.specs.declared.Request.{Request}
 use Rattle.process.specs.declared.Head.{Head}
 use Rattle.forest.proofs.Later.{Later, later-trans}
 use Rattle.linearization.specs.Partition.{Labels}
-use Rattle.linearization.proofs.Tests.{split}
 use Rattle.rules.specs.declared.Row.{Row}
 use Rattle.rules.specs.Table.{parent, rank}
 use Rattle.rules.specs.State.{State, requestAt, hasWork}
@@ -135,7 +135,8 @@ before-served p q act past apart before begun = go (ℕ-discrete (rowOf q past .
     go (no d) = omega (arith, last, served-settled q act past d, before d)
 
 module _ {qs : List Request} {n : ℕ} {B : Labels} {roots₀ : ℕ} where
-  module _ {S : State} {past : List Happening} {h : ℕ} {head : Head} (inv : Invariant qs n B roots₀ S past) (srv : Serving qs n B S past h head)
+  module _ {S : State} {past : List Happening} {h : ℕ} {head : Head}
+      (inv : Invariant qs n B roots₀ S past) (srv : Serving qs n B S past h head)
       (p q : ℕ) (earlier : p < q) (within : q < length qs) (one : requestAt qs p .head ≡ requestAt qs q .head)
       (holds : Before (rowOf p past) (rowOf q past)) where
     -- while the earlier one is being served, the later one waits
@@ -144,14 +145,18 @@ module _ {qs : List Request} {n : ℕ} {B : Labels} {roots₀ : ℕ} where
         let there : requestAt qs q .head ≡ h = sym one ∙ ap (λ k. requestAt qs k .head) is ∙ srv .own in
         omega (arith, phase-begun (inv .phases q within) begun, ap (λ k. headAt S k .task .request) there, srv .position)
 
-    before-step : Dec (p ≡ head .task .request) → Dec (q ≡ head .task .request) → Before (rowOf p (more S head past)) (rowOf q (more S head past))
+    other : {k : ℕ} → k ≢ head .task .request → Other k (serving-of S head)
+    other {k} d = other-served k (head .task .request) (actionOf S head) d
+
+    before-step : Dec (p ≡ head .task .request) → Dec (q ≡ head .task .request)
+        → Before (rowOf p (more S head past)) (rowOf q (more S head past))
     before-step (yes is) _ =
-        let row = row-other q (serving-of S head) past (other-served q (head .task .request) (actionOf S head) (λ e. omega arith)) in
+        let row = row-other q (serving-of S head) past (other (λ e. omega arith)) in
         λ begun. absurd (not-begun is (λ z. begun (ap (λ r. r .first) row ∙ z)))
     before-step (no d) (yes is) =
         subst (λ k. Before (rowOf p past) (rowOf k past) → Before (rowOf p (more S head past)) (rowOf k (more S head past))) (sym is)
-        (before-served p (head .task .request) (actionOf S head) past (other-served p (head .task .request) (actionOf S head) d)) holds
-    before-step (no d) (no c) = before-other p q (serving-of S head) past (other-served p (head .task .request) (actionOf S head) d) (other-served q (head .task .request) (actionOf S head) c) holds
+        (before-served p (head .task .request) (actionOf S head) past (other d)) holds
+    before-step (no d) (no c) = before-other p q (serving-of S head) past (other d) (other c) holds
 
   pub in-turn-layer : Layer qs n B roots₀ (λ S past. InTurn qs past)
   in-turn-layer =

@@ -22,7 +22,8 @@ use Rattle.rules.proofs.History.{Other, last-kept, but-one-kept, row-ot
 use Rattle.rules.proofs.Invariant.{Candidate, Timed, Over, Current, Waiting, Phase, Placed}
 use Rattle.rules.proofs.Invariant.Phase.{over, current, waiting}
 
-pub timed-other : {q : ℕ} {past : List Happening} {st : Stage} (a : Happening) → Other q a → traitsOf st .pending ≤ length past → Timed q past st → Timed q (a ∷ past) st
+pub timed-other : {q : ℕ} {past : List Happening} {st : Stage} (a : Happening) → Other q a → traitsOf st .pending ≤ length past
+    → Timed q past st → Timed q (a ∷ past) st
 timed-other {q} {past} {st} a o until timed =
     record {
       unlinked = λ e. link-other q a past o ∙ timed .unlinked e;
@@ -87,7 +88,8 @@ module _ (q : ℕ) (past : List Happening) {times times′ : ℕ} (a : Happening
   phase-other (waiting l r p) = waiting l r (waiting-other p)
 
 -- An entry of another request stands at its point.
-pub placed-other : {qs : List Request} {past : List Happening} {e : Entry} (a : Happening) → Other (e .request) a → Placed qs past e → Placed qs (a ∷ past) e
+pub placed-other : {qs : List Request} {past : List Happening} {e : Entry} (a : Happening) → Other (e .request) a
+    → Placed qs past e → Placed qs (a ∷ past) e
 placed-other {qs} {past} {e} a o p =
     let row = row-other (e .request) a past o in
     record {

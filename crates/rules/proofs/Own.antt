@@ -31,7 +31,9 @@ use Rattle.rules.specs.Run.{Happening}
 use Rattle.rules.specs.Run.Happening.{serving}
 use Rattle.rules.specs.History.{isOf, rowOf, linkOf, pointOf}
 use Rattle.rules.specs.Laws.{Anchored}
-use Rattle.rules.proofs.History.{last-new, but-one-new, final-number, of-itself, served-answer, served-last, served-ended, served-first, served-settled, row-first-bound, row-last-bound, link-unserved, find-served, find-unserved, point-same-set, point-union, usedFor, used-now, used-kept}
+use Rattle.rules.proofs.History.{last-new, but-one-new, final-number, of-itself, served-answer, served-last, served-ended}
+use Rattle.rules.proofs.History.{served-first, served-settled, row-first-bound, row-last-bound, link-unserved}
+use Rattle.rules.proofs.History.{find-served, find-unserved, point-same-set, point-union, usedFor, used-now, used-kept}
 use Rattle.rules.proofs.Invariant.{Candidate, Timed, Over, Current, Placed}
 
 -- no is not told to nodes in one set
@@ -64,7 +66,8 @@ module _ (q : ℕ) (act : Action) (past : List Happening) where
       }
 
   -- it ended with the grant before
-  pub anchored-no : {point : ℕ} → act .event .answer ≡ No → act .event .found ≡ false → Candidate q past point → Anchored q (rowOf q past′) past′
+  pub anchored-no : {point : ℕ} → act .event .answer ≡ No → act .event .found ≡ false → Candidate q past point
+      → Anchored q (rowOf q past′) past′
   anchored-no answer unfound candidate =
       record {
         yes = λ e. absurd (omega (arith, answered-now answer e));
@@ -100,7 +103,8 @@ module _ (q : ℕ) (act : Action) (past : List Happening) where
       }
 
   pub timed-on : {st : Stage} → traitsOf st .linked ≡ false → linkOf q past′ ≡ 0
-      → (traitsOf st .pending ≢ 0 → traitsOf st .pending ≡ suc (length past)) → (traitsOf st .pending ≢ 0 → act .event .found ≡ true) → Timed q past′ st
+      → (traitsOf st .pending ≢ 0 → traitsOf st .pending ≡ suc (length past)) → (traitsOf st .pending ≢ 0 → act .event .found ≡ true)
+      → Timed q past′ st
   timed-on still unlinked proposed found =
       record {
         unlinked = λ r. unlinked;
@@ -134,8 +138,8 @@ module _ (q : ℕ) (act : Action) (past : List Happening) where
         }
 
     -- a no stands where the find from y ended
-    pub placed-pending : {point : ℕ} → requestAt qs q .kind ≡ SameSet → act .event .found ≡ false → point ≤ length past → Candidate q past point
-        → Placed qs past′ (entry point q)
+    pub placed-pending : {point : ℕ} → requestAt qs q .kind ≡ SameSet → act .event .found ≡ false → point ≤ length past
+        → Candidate q past point → Placed qs past′ (entry point q)
     placed-pending {point} kind unfound until candidate =
         record {
           known = known;
@@ -146,8 +150,8 @@ module _ (q : ℕ) (act : Action) (past : List Happening) where
           used = used-kept (serving q act) past point until ∙ candidate .used;
         }
 
-    pub placed-still : {point : ℕ} → requestAt qs q .kind ≡ Union → links (act .access) (act .seen) ≡ false → linkOf q past ≢ 0 → rowOf q past .first ≢ 0
-        → Placed qs past (entry point q) → Placed qs past′ (entry point q)
+    pub placed-still : {point : ℕ} → requestAt qs q .kind ≡ Union → links (act .access) (act .seen) ≡ false → linkOf q past ≢ 0
+        → rowOf q past .first ≢ 0 → Placed qs past (entry point q) → Placed qs past′ (entry point q)
     placed-still {point} kind unlinked linked begun p =
         record {
           known = known;

@@ -11,13 +11,13 @@ use native.Mathlib.Omega.{arith}
 use lib.Dec.{eqb}
 use lib.ListN.{length, getD}
 use borrow.Author.Tests.{eqb-true, eq-eqb, ne-eqb, ltb-true, ltb-false}
+use Rattle.basics.specs.Count.{count}
+use Rattle.basics.proofs.Conditions.{split}
+use Rattle.basics.proofs.Counts.{count-first, count-same}
 use Rattle.job.specs.declared.Request.{Request}
 use Rattle.process.specs.declared.Head.{Head}
-use Rattle.forest.specs.Forest.{count}
-use Rattle.forest.proofs.Count.{count-same}
 use Rattle.linearization.specs.Partition.{Labels}
 use Rattle.linearization.specs.Entry.{occurrences}
-use Rattle.linearization.proofs.Tests.{split, count-swap}
 use Rattle.rules.specs.State.{State, requestAt, resting, hasWork, working}
 use Rattle.rules.specs.Step.{headAt, plus}
 use Rattle.rules.specs.Run.{Happening}
@@ -66,17 +66,12 @@ some-true test (suc n) i l e =
     split (test n) (λ t. rw t refl)
     (λ f. let d : i ≢ n = λ is. true≢false (sym e ∙ ap test is ∙ f) in rw f (some-true test n i (omega (arith, d)) e))
 
-some-false : (test : ℕ → Bool) (n : ℕ) → ((i : ℕ) → i < n → test i ≡ false) → some test n ≡ false
+pub some-false : (test : ℕ → Bool) (n : ℕ) → ((i : ℕ) → i < n → test i ≡ false) → some test n ≡ false
 some-false test zero fails = refl
 some-false test (suc n) fails = rw (fails n (omega arith)) (some-false test n (λ i l. fails i (omega arith)))
 
--- counting may begin with the first number instead of the last
-count-first : (test : ℕ → Bool) (n : ℕ) → count test (suc n) ≡ plus (test 0) (count (λ i. test (suc i)) n)
-count-first test zero = refl
-count-first test (suc n) =
-    ap (plus (test (suc n))) (count-first test n) ∙ count-swap (test (suc n)) (test 0) (count (λ i. test (suc i)) n)
-
-working-count : (qs : List Request) (heads : List Head) → working qs heads ≡ count (λ h. hasWork qs (getD heads h (resting 0))) (length heads)
+working-count : (qs : List Request) (heads : List Head)
+    → working qs heads ≡ count (λ h. hasWork qs (getD heads h (resting 0))) (length heads)
 working-count qs [] = refl
 working-count qs (head ∷ heads) =
     ap (plus (hasWork qs head)) (working-count qs heads)
@@ -84,7 +79,8 @@ working-count qs (head ∷ heads) =
 
 -- ---- all requests of a head
 
-module _ {qs : List Request} {n : ℕ} {B : Labels} {roots₀ : ℕ} {S : State} {past : List Happening} (inv : Invariant qs n B roots₀ S past) where
+module _ {qs : List Request} {n : ℕ} {B : Labels} {roots₀ : ℕ} {S : State} {past : List Happening}
+    (inv : Invariant qs n B roots₀ S past) where
   pub phase-of : (h q : ℕ) → q < length qs → requestAt qs q .head ≡ h → Phase (headAt S h) q past (occurrences q (S .entries))
   phase-of h q l own = subst (λ k. Phase (headAt S k) q past (occurrences q (S .entries))) own (inv .phases q l)
 
@@ -92,6 +88,9 @@ module _ {qs : List Request} {n : ℕ} {B : Labels} {roots₀ : ℕ} {S : State}
   answer-is q l = ap (λ r. r .answer) (inv .rows q l)
 
   module _ (h : ℕ) where
+    abbrev q : ℕ
+    q = headAt S h .task .request
+
     unfinished-yes : (q : ℕ) → requestAt qs q .head ≡ h → rowAt (S .report) q .answer ≡ 0 → isUnfinished qs (S .report) h q ≡ true
     unfinished-yes q own none = rw (eq-eqb (requestAt qs q .head) h own) (eq-eqb (rowAt (S .report) q .answer) 0 none)
 
@@ -102,25 +101,22 @@ module _ {qs : List Request} {n : ℕ} {B : Labels} {roots₀ : ℕ} {S : State}
         (λ f. rw f refl)
 
     -- a head's position is an unfinished request of its own
-    work-here : h < length (S .heads) → headAt S h .task .request < length qs → isUnfinished qs (S .report) h (headAt S h .task .request) ≡ true
+    work-here : h < length (S .heads) → q < length qs → isUnfinished qs (S .report) h q ≡ true
     work-here present within =
-        let q = headAt S h .task .request in
         let own = inv .own h present within in
         unfinished-yes q own (answer-is q within ∙ phase-left (phase-of h q within own) (omega arith))
 
     -- and a head beyond the requests has finished all of its own
-    no-work : length qs ≤ headAt S h .task .request → (q : ℕ) → q < length qs → isUnfinished qs (S .report) h q ≡ false
-    no-work beyond q l =
-        unfinished-no q (λ own z. phase-passed (phase-of h q l own) (omega arith) (sym (answer-is q l) ∙ z))
+    no-work : length qs ≤ q → (p : ℕ) → p < length qs → isUnfinished qs (S .report) h p ≡ false
+    no-work beyond p l = unfinished-no p (λ own z. phase-passed (phase-of h p l own) (omega arith) (sym (answer-is p l) ∙ z))
 
     has-work : h < length (S .heads) → hasWork qs (headAt S h) ≡ some (isUnfinished qs (S .report) h) (length qs)
     has-work present =
         split (hasWork qs (headAt S h))
-        (λ t. t ∙ sym (any (ltb-true (headAt S h .task .request) (length qs) t)))
-        (λ f. f ∙ sym (some-false (isUnfinished qs (S .report) h) (length qs) (no-work (ltb-false (headAt S h .task .request) (length qs) f))))
-      where
-        any : headAt S h .task .request < length qs → some (isUnfinished qs (S .report) h) (length qs) ≡ true
-        any within = some-true (isUnfinished qs (S .report) h) (length qs) (headAt S h .task .request) within (work-here present within)
+        (λ t.
+        let within = ltb-true q (length qs) t in
+        t ∙ sym (some-true (isUnfinished qs (S .report) h) (length qs) q within (work-here present within)))
+        (λ f. f ∙ sym (some-false (isUnfinished qs (S .report) h) (length qs) (no-work (ltb-false q (length qs) f))))
 
   pub work-left : working qs (S .heads) ≡ headsLeft qs (S .report) (length (S .heads))
   work-left =

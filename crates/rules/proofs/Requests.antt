@@ -11,8 +11,8 @@ use lib.Dec.{eqb}
 use lib.ListN.{length, getD, drop, length-drop}
 use lib.Seq.{getD-drop}
 use borrow.Author.Tests.{eqb-true, eq-eqb}
+use Rattle.basics.proofs.Conditions.{split}
 use Rattle.job.specs.declared.Request.{Request}
-use Rattle.linearization.proofs.Tests.{split}
 use Rattle.rules.specs.State.{noRequest, requestAt, seekIn, seek}
 
 module _ (h : ℕ) where

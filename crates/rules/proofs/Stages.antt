@@ -1,23 +1,27 @@
 -- What a head knows at each stage of its request, and why other heads' grants leave it so (invariants 4 and 5).
--- Everywhere p gives each node's parent, r its rank, B its label; a point is Apart when the request's two nodes are in
--- two sets there; now is the number of grants so far; k is the head's task.
+-- Everywhere m is the moment at which it knows it, q its request and k its task.
 --
+--   Moment n            what stands between two grants of a run on n nodes
+--   Apart m q point     the request's two nodes were in two sets at that point
 --   Inside n q          the request's two nodes are nodes
 --   Finding kind x y    x and y stand for the request's two nodes, and the request is of that kind
 --   Searching k e s     what is known at step s of a find on errand e: the request's part and the find's,
 --   Rereading           at a same-set's last read,
 --   ReadingRanks, Linking, Raising   and at a union's stages after its finds
---   Knows k stage       which of these a head with the task k knows at that stage
+--   Knows m q k stage   which of these a head with the task k knows at that stage
+--   Onward m m′         m′ is a later moment than m
 --
--- Main laws: finding-begin and restart-knows, at the start of a request; knows-later, what is known survives any later state.
+-- Main laws: finding-begin and restart-knows, at the start of a request; knows-later, what is known survives any later moment.
 use mathlib.Core.Path.{_≡_, refl, sym, subst}
 use mathlib.Core.Logic.{_≢_}
 use mathlib.Core.Bool.{Bool, true, false, cond}
+use mathlib.Core.List.{List}
 use Prim.Native.Nat.{ℕ, suc, _^_, _≤_, _<_}
 use native.Mathlib.Omega.{arith}
 use Rattle.job.specs.declared.Kind.{Kind}
 use Rattle.job.specs.declared.Kind.the-variants.{Union, SameSet}
 use Rattle.job.specs.declared.Request.{Request}
+use Rattle.word.specs.declared.Node.{Node}
 use Rattle.word.specs.Word.{key}
 use Rattle.process.specs.declared.Step.{Step}
 use Rattle.process.specs.declared.Step.the-variants.{ReadNode}
@@ -30,7 +34,22 @@ use Rattle.forest.proofs.Size.{size}
 use Rattle.forest.proofs.Merge.{Ends}
 use Rattle.forest.proofs.Merge.Ends.{straight}
 use Rattle.forest.proofs.Later.{Later, later-ends}
+use Rattle.linearization.specs.Partition.{Labels}
+use Rattle.rules.specs.Table.{parent, rank}
 use Rattle.rules.proofs.Finds.{FindKnows, find-later}
+
+-- What stands between two grants of a run on n nodes.
+pub record Moment (n : ℕ) : Type 0 where
+  pub table : List Node
+  -- the labels of the sets, now and as they were at each point
+  pub labels : Labels
+  pub labelsAt : ℕ → Labels
+  -- the number of grants so far
+  pub now : ℕ
+
+-- The request's two nodes were in two sets at the point.
+abbrev pub Apart : {n : ℕ} → Moment n → Request → ℕ → Type 0
+Apart m q point = m .labelsAt point (q .x) ≢ m .labelsAt point (q .y)
 
 -- The request's two nodes are nodes.
 pub record Inside (n : ℕ) (request : Request) : Type 0 where
@@ -46,48 +65,48 @@ pub record Finding (n : ℕ) (B : ℕ → ℕ) (request : Request) (wanted : Kin
   pub kind : request .kind ≡ wanted
 
 -- Some step of a find.
-pub record Searching (n : ℕ) (p r B : ℕ → ℕ) (request : Request) (k : Task) (e : Errand) (s : Step) : Type 0 where
-  pub finding : Finding n B request (kindOf e) (k .x) (k .y)
-  pub find : FindKnows n p r B (nodeAt k e) s
+pub record Searching {n : ℕ} (m : Moment n) (request : Request) (k : Task) (e : Errand) (s : Step) : Type 0 where
+  pub finding : Finding n (m .labels) request (kindOf e) (k .x) (k .y)
+  pub find : FindKnows n (parent (m .table)) (rank (m .table)) (m .labels) (nodeAt k e) s
 
 -- About to read x's word again, with a point at which the answer no would stand.
-pub record Rereading (n : ℕ) (p B : ℕ → ℕ) (Apart : ℕ → Type 0) (now : ℕ) (request : Request) (x y point : ℕ) : Type 0 where
-  pub finding : Finding n B request SameSet x y
+pub record Rereading {n : ℕ} (m : Moment n) (request : Request) (x y point : ℕ) : Type 0 where
+  pub finding : Finding n (m .labels) request SameSet x y
   pub positive : 1 ≤ point
-  pub until : point ≤ now
+  pub until : point ≤ m .now
   -- if x is a root now, it was one at the point, and the two nodes were apart there
-  pub apart : p x ≡ x → Apart point
+  pub apart : parent (m .table) x ≡ x → Apart m request point
 
 -- About to read x's rank, and then y's.
-pub record ReadingRanks (n : ℕ) (r B : ℕ → ℕ) (request : Request) (x y low : ℕ) : Type 0 where
-  pub finding : Finding n B request Union x y
+pub record ReadingRanks {n : ℕ} (m : Moment n) (request : Request) (x y low : ℕ) : Type 0 where
+  pub finding : Finding n (m .labels) request Union x y
   pub distinct : x ≢ y
   -- the rank read of x, if any, has not fallen
-  pub rank : low ≤ r x
+  pub rank : low ≤ rank (m .table) x
 
 -- About to swap x's parent to y.
-pub record Linking (n : ℕ) (r B : ℕ → ℕ) (request : Request) (x y k : ℕ) : Type 0 where
-  pub finding : Finding n B request Union x y
-  pub rank : k ≤ r x
+pub record Linking {n : ℕ} (m : Moment n) (request : Request) (x y k : ℕ) : Type 0 where
+  pub finding : Finding n (m .labels) request Union x y
   -- x with the rank read comes before y
-  pub before : key k x < key (r y) y
+  pub before : key k x < key (rank (m .table) y) y
+  pub rank : k ≤ rank (m .table) x
 
 -- About to raise y's rank.
-pub record Raising (n : ℕ) (r B : ℕ → ℕ) (request : Request) (y k : ℕ) : Type 0 where
+pub record Raising {n : ℕ} (m : Moment n) (request : Request) (y k : ℕ) : Type 0 where
   pub node : y < n
   pub kind : request .kind ≡ Union
-  pub rank : k ≤ r y
+  pub rank : k ≤ rank (m .table) y
   -- y's set has the nodes that the higher rank asks for
-  pub weight : 2 ^ suc k ≤ size n B (B y)
+  pub weight : 2 ^ suc k ≤ size n (m .labels) (m .labels y)
 
-abbrev pub Knows : (n : ℕ) (p r B : ℕ → ℕ) (Apart : ℕ → Type 0) (now : ℕ) → Request → Task → Stage → Type 0
-Knows n p r B Apart now q k Resting = Unit {0}
-Knows n p r B Apart now q k (Find e s) = Searching n p r B q k e s
-Knows n p r B Apart now q k (RereadX point) = Rereading n p B Apart now q (k .x) (k .y) point
-Knows n p r B Apart now q k ReadRankX = ReadingRanks n r B q (k .x) (k .y) 0
-Knows n p r B Apart now q k (ReadRankY rank) = ReadingRanks n r B q (k .x) (k .y) rank
-Knows n p r B Apart now q k (Link rank e) = Linking n r B q (k .x) (k .y) rank
-Knows n p r B Apart now q k (Raise rank) = Raising n r B q (k .y) rank
+abbrev pub Knows : {n : ℕ} → Moment n → Request → Task → Stage → Type 0
+Knows m q k Resting = Unit {0}
+Knows m q k (Find e s) = Searching m q k e s
+Knows m q k (RereadX point) = Rereading m q (k .x) (k .y) point
+Knows m q k ReadRankX = ReadingRanks m q (k .x) (k .y) 0
+Knows m q k (ReadRankY rank) = ReadingRanks m q (k .x) (k .y) rank
+Knows m q k (Link rank e) = Linking m q (k .x) (k .y) rank
+Knows m q k (Raise rank) = Raising m q (k .y) rank
 
 -- A head begins its request, or tries again, with x and y that stand for its two nodes.
 pub finding-begin : {n : ℕ} {B : ℕ → ℕ} (q : Request) → Inside n q → Finding n B q (q .kind) (q .x) (q .y)
@@ -97,13 +116,14 @@ first-kind : (kind : Kind) → kindOf (firstErrand kind) ≡ kind
 first-kind Union = refl
 first-kind SameSet = refl
 
-pub restart-knows : {n : ℕ} {p r B : ℕ → ℕ} {q : Request} (kind : Kind) (k : Task)
-    → Finding n B q kind (k .x) (k .y) → Searching n p r B q k (firstErrand kind) ReadNode
-restart-knows {n} {B = B} {q = q} kind k f =
-    record { finding = subst (λ c. Finding n B q c (k .x) (k .y)) (sym (first-kind kind)) f; find = tt }
+pub restart-knows : {n : ℕ} {m : Moment n} {q : Request} (kind : Kind) (k : Task)
+    → Finding n (m .labels) q kind (k .x) (k .y) → Searching m q k (firstErrand kind) ReadNode
+restart-knows {n} {m} {q} kind k f =
+    record { finding = subst (λ c. Finding n (m .labels) q c (k .x) (k .y)) (sym (first-kind kind)) f; find = tt }
 
 -- the node that a find has come to is one
-pub find-node : {n : ℕ} {B : ℕ → ℕ} {q : Request} {kind : Kind} (k : Task) → Finding n B q kind (k .x) (k .y) → (e : Errand) → nodeAt k e < n
+pub find-node : {n : ℕ} {B : ℕ → ℕ} {q : Request} {kind : Kind} (k : Task) → Finding n B q kind (k .x) (k .y)
+    → (e : Errand) → nodeAt k e < n
 find-node {n} k f e = go (servesX e)
   where
     go : (b : Bool) → cond b (k .x) (k .y) < n
@@ -111,8 +131,8 @@ find-node {n} k f e = go (servesX e)
     go false = f .right
 
 -- a pending point is not beyond the present grant
-module _ (n : ℕ) (p r B : ℕ → ℕ) (Apart : ℕ → Type 0) (now : ℕ) (q : Request) (k : Task) where
-  pub pending-until : (st : Stage) → Knows n p r B Apart now q k st → traitsOf st .pending ≤ now
+module _ {n : ℕ} (m : Moment n) (q : Request) (k : Task) where
+  pub pending-until : (st : Stage) → Knows m q k st → traitsOf st .pending ≤ m .now
   pending-until Resting a = omega arith
   pending-until (Find e s) a = omega arith
   pending-until (RereadX point) a = a .until
@@ -121,64 +141,68 @@ module _ (n : ℕ) (p r B : ℕ → ℕ) (Apart : ℕ → Type 0) (now : ℕ) (q
   pending-until (Link rank e) a = omega arith
   pending-until (Raise rank) a = omega arith
 
--- ---- what survives a later state
+-- ---- what survives a later moment
 
-module _ {n : ℕ} {p r B p′ r′ B′ : ℕ → ℕ} (later : Later n p r B p′ r′ B′) where
-  raising-later : {q : Request} {y k : ℕ} → Raising n r B q y k → Raising n r′ B′ q y k
-  raising-later {q} {y} a =
+pub record Onward {n : ℕ} (m m′ : Moment n) : Type 0 where
+  pub table : Later n (parent (m .table)) (rank (m .table)) (m .labels) (parent (m′ .table)) (rank (m′ .table)) (m′ .labels)
+  pub passes : m .now ≤ m′ .now
+  -- the sets up to an earlier point stay
+  pub settled : (point : ℕ) → point ≤ m .now → m′ .labelsAt point ≡ m .labelsAt point
+
+module _ {n : ℕ} {m m′ : Moment n} (onward : Onward m m′) {q : Request} (inside : Inside n q) where
+  finding-later : {kind : Kind} {x y : ℕ} → Finding n (m .labels) q kind x y → Finding n (m′ .labels) q kind x y
+  finding-later {x = x} {y = y} f =
+      record {
+        left = f .left;
+        right = f .right;
+        ends = later-ends (onward .table) (q .x) (q .y) x y (inside .x) (inside .y) (f .left) (f .right) (f .ends);
+        kind = f .kind;
+      }
+
+  searching-later : (k : Task) (e : Errand) (s : Step) → Searching m q k e s → Searching m′ q k e s
+  searching-later k e s a =
+      record { finding = finding-later (a .finding); find = find-later (onward .table) (find-node k (a .finding) e) s (a .find) }
+
+  rereading-later : {x y point : ℕ} → Rereading m q x y point → Rereading m′ q x y point
+  rereading-later {x} {y} {point} a =
+      record {
+        finding = finding-later (a .finding);
+        positive = a .positive;
+        until = omega (arith, a .until, onward .passes);
+        apart = λ e. subst (λ C. C (q .x) ≢ C (q .y)) (sym (onward .settled point (a .until)))
+            (a .apart (onward .table .root x (a .finding .left) e));
+      }
+
+  ranks-later : {x y low : ℕ} → ReadingRanks m q x y low → ReadingRanks m′ q x y low
+  ranks-later {x} a =
+      record {
+        finding = finding-later (a .finding);
+        distinct = a .distinct;
+        rank = omega (arith, onward .table .grows x (a .finding .left), a .rank);
+      }
+
+  linking-later : {x y k : ℕ} → Linking m q x y k → Linking m′ q x y k
+  linking-later {x} {y} a =
+      record {
+        finding = finding-later (a .finding);
+        rank = omega (arith, onward .table .grows x (a .finding .left), a .rank);
+        before = omega (arith, onward .table .grows y (a .finding .right), a .before);
+      }
+
+  raising-later : {y k : ℕ} → Raising m q y k → Raising m′ q y k
+  raising-later {y} a =
       record {
         node = a .node;
         kind = a .kind;
-        rank = omega (arith, later .grows y (a .node), a .rank);
-        weight = omega (arith, later .larger y (a .node), a .weight);
+        rank = omega (arith, onward .table .grows y (a .node), a .rank);
+        weight = omega (arith, onward .table .larger y (a .node), a .weight);
       }
 
-  module _ {q : Request} (inside : Inside n q) where
-    finding-later : {kind : Kind} {x y : ℕ} → Finding n B q kind x y → Finding n B′ q kind x y
-    finding-later {x = x} {y = y} f =
-        record {
-          left = f .left;
-          right = f .right;
-          ends = later-ends later (q .x) (q .y) x y (inside .x) (inside .y) (f .left) (f .right) (f .ends);
-          kind = f .kind;
-        }
-
-    pub searching-later : (k : Task) (e : Errand) (s : Step) → Searching n p r B q k e s → Searching n p′ r′ B′ q k e s
-    searching-later k e s a =
-        record { finding = finding-later (a .finding); find = find-later later (find-node k (a .finding) e) s (a .find) }
-
-    ranks-later : {x y low : ℕ} → ReadingRanks n r B q x y low → ReadingRanks n r′ B′ q x y low
-    ranks-later {x} a =
-        record {
-          finding = finding-later (a .finding);
-          distinct = a .distinct;
-          rank = omega (arith, later .grows x (a .finding .left), a .rank);
-        }
-
-    linking-later : {x y k : ℕ} → Linking n r B q x y k → Linking n r′ B′ q x y k
-    linking-later {x} {y} a =
-        record {
-          finding = finding-later (a .finding);
-          rank = omega (arith, later .grows x (a .finding .left), a .rank);
-          before = omega (arith, later .grows y (a .finding .right), a .before);
-        }
-
-    module _ {Apart Apart′ : ℕ → Type 0} {now now′ : ℕ} (passes : now ≤ now′)
-        (carried : (point : ℕ) → point ≤ now → Apart point → Apart′ point) where
-      rereading-later : {x y point : ℕ} → Rereading n p B Apart now q x y point → Rereading n p′ B′ Apart′ now′ q x y point
-      rereading-later {x} {y} {point} a =
-          record {
-            finding = finding-later (a .finding);
-            positive = a .positive;
-            until = omega (arith, a .until);
-            apart = λ e. carried point (a .until) (a .apart (later .root x (a .finding .left) e));
-          }
-
-      pub knows-later : (k : Task) (st : Stage) → Knows n p r B Apart now q k st → Knows n p′ r′ B′ Apart′ now′ q k st
-      knows-later k Resting a = a
-      knows-later k (Find e s) a = searching-later k e s a
-      knows-later k (RereadX point) a = rereading-later a
-      knows-later k ReadRankX a = ranks-later a
-      knows-later k (ReadRankY rank) a = ranks-later a
-      knows-later k (Link rank e) a = linking-later a
-      knows-later k (Raise rank) a = raising-later a
+  pub knows-later : (k : Task) (st : Stage) → Knows m q k st → Knows m′ q k st
+  knows-later k Resting a = a
+  knows-later k (Find e s) a = searching-later k e s a
+  knows-later k (RereadX point) a = rereading-later a
+  knows-later k ReadRankX a = ranks-later a
+  knows-later k (ReadRankY rank) a = ranks-later a
+  knows-later k (Link rank e) a = linking-later a
+  knows-later k (Raise rank) a = raising-later a

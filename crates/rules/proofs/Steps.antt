@@ -1,18 +1,21 @@
 -- What every step of a head keeps: the request that it serves, and what its x and y say of the request's two nodes.
 --
---   Keeps k a   the step a of a head with the task k leaves its request
+--   Keeps k a         the step a of a head with the task k leaves its request
+--   JoinsAt grant e   the event e tells of a link at that grant
 --
--- Main laws: advance-keeps, no step changes the request served; ends-one and ends-two, from x and y to the request's
--- two nodes; finding-moved and finding-exchange, x or y moves within its set, or the two are exchanged.
+-- Main laws: advance-keeps, no step changes the request served; linked-event, what a link tells; ends-one and ends-two, from
+-- x and y to the request's two nodes; finding-moved and finding-exchange, x or y moves within its set, or the two are exchanged.
 use mathlib.Core.Path.{_≡_, refl, sym, ap, _∙_}
 use mathlib.Core.Logic.{_≢_}
 use mathlib.Core.Bool.{Bool, true, false, cond}
 use Prim.Native.Nat.{ℕ}
 use lib.Dec.{eqb}
+use Rattle.basics.proofs.Conditions.{cond-both}
 use Rattle.job.specs.declared.Kind.{Kind}
 use Rattle.job.specs.declared.Request.{Request}
 use Rattle.word.specs.declared.Node.{Node}
 use Rattle.word.specs.Word.{same, before}
+use Rattle.process.specs.declared.Event.{Event}
 use Rattle.process.specs.Find.{Walked}
 use Rattle.process.specs.Find.Walked.{On, Failed, Up, Ended}
 use Rattle.process.specs.declared.Errand.{Errand}
@@ -22,17 +25,13 @@ use Rattle.process.specs.declared.Task.{Task}
 use Rattle.process.specs.declared.Advanced.{Advanced}
 use Rattle.process.specs.Process.{servesX, nodeAt, movedTo}
 use Rattle.process.specs.Find.{walked}
-use Rattle.process.specs.Advance.{followed, advanceAt}
+use Rattle.process.specs.Advance.{followed, linked, advanceAt}
 use Rattle.forest.proofs.Merge.{Ends}
 use Rattle.forest.proofs.Merge.Ends.{straight, crossed}
 use Rattle.rules.proofs.Finds.{Moved}
 use Rattle.rules.proofs.Stages.{Finding}
 
 -- ---- a head keeps its request
-
-pub cond-both : {A : Type 0} (P : A → Type 0) (b : Bool) {x y : A} → P x → P y → P (cond b x y)
-cond-both P true p q = p
-cond-both P false p q = q
 
 module _ (k : Task) where
   abbrev Keeps : Advanced → Type 0
@@ -52,6 +51,18 @@ module _ (k : Task) where
   advance-keeps w now (ReadRankY r) = cond-both Keeps (before (w .rank) (k .y) r (k .x)) refl refl
   advance-keeps w now (Link r e) = cond-both Keeps (same w (record { rank = r; parent = k .x })) (cond-both Keeps e refl refl) refl
   advance-keeps w now (Raise r) = refl
+
+-- ---- a link that wrote
+
+pub record JoinsAt (grant : ℕ) (e : Event) : Type 0 where
+  pub failed : e .failed ≡ false
+  pub linked : e .linked ≡ true
+  pub point : e .point ≡ grant
+
+-- with equal ranks or not
+pub linked-event : (k : Task) (r : ℕ) (equal : Bool) (now : ℕ) → JoinsAt now (linked k r equal now .event)
+linked-event k r true now = record { failed = refl; linked = refl; point = refl }
+linked-event k r false now = record { failed = refl; linked = refl; point = refl }
 
 -- ---- what x and y say of the request's nodes
 

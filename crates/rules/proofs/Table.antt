@@ -1,8 +1,9 @@
 -- The table as functions: what a store changes in parents and ranks, what a swap that writes has seen, and the start.
 --
 -- Laws: parent-changed and rank-changed, a store changes its own node alone; length-touched, an access leaves the number of
--- nodes; found-parent and found-rank, a swap that writes saw what it expected; fresh-start, the table at the start.
-use mathlib.Core.Path.{_≡_, refl, ap}
+-- nodes; found-parent and found-rank, a swap that writes saw what it expected; fresh-at and fresh-start, the
+-- table at the start.
+use mathlib.Core.Path.{_≡_, refl, ap, _∙_}
 use mathlib.Core.Bool.{Bool, true, false, cond}
 use mathlib.Core.List.{List}
 use Prim.Native.Nat.{ℕ, zero, suc, _+_, _≤_, _<_}
@@ -57,21 +58,19 @@ pub length-fresh : (i n : ℕ) → length (freshFrom i n) ≡ n
 length-fresh i zero = refl
 length-fresh i (suc n) = ap suc (length-fresh (suc i) n)
 
-fresh-parent : (i n j : ℕ) → j < n → parent (freshFrom i n) j ≡ i + j
-fresh-parent i zero j h = absurd (omega arith)
-fresh-parent i (suc n) zero h = omega arith
-fresh-parent i (suc n) (suc j) h = omega (arith, fresh-parent (suc i) n j (omega arith))
-
-fresh-rank : (i n j : ℕ) → j < n → rank (freshFrom i n) j ≡ 0
-fresh-rank i zero j h = absurd (omega arith)
-fresh-rank i (suc n) zero h = refl
-fresh-rank i (suc n) (suc j) h = fresh-rank (suc i) n j (omega arith)
+-- the words at the start count the nodes
+pub fresh-at : (i n j : ℕ) → j < n → at (freshFrom i n) j ≡ record { rank = 0; parent = i + j }
+fresh-at i zero j h = absurd (omega arith)
+fresh-at i (suc n) zero h = let same : i ≡ i + 0 = omega arith in ap (λ k. record { rank = 0; parent = k }) same
+fresh-at i (suc n) (suc j) h =
+    let same : suc i + j ≡ i + suc j = omega arith in
+    fresh-at (suc i) n j (omega arith) ∙ ap (λ k. record { rank = 0; parent = k }) same
 
 pub fresh-start : (n : ℕ) → n ≤ nodeLimit → Start n (parent (fresh n)) (rank (fresh n)) (λ i. i)
 fresh-start n limit =
     record {
       limit = limit;
-      roots = λ i h. omega (arith, fresh-parent 0 n i h);
-      ranks = fresh-rank 0 n;
+      roots = λ i h. omega (arith, ap (λ w. w .parent) (fresh-at 0 n i h));
+      ranks = λ i h. ap (λ w. w .rank) (fresh-at 0 n i h);
       alone = λ i h. refl;
     }

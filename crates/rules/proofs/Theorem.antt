@@ -15,6 +15,7 @@ use native.Mathlib.Decide.{decLt}
 use lib.Dec.{eqb}
 use lib.ListN.{length, getD, length-set, length-replicate, getD-replicate}
 use borrow.Author.Tests.{eq-eqb, ne-eqb}
+use Rattle.basics.proofs.Conditions.{split}
 use Rattle.job.specs.declared.Request.{Request}
 use Rattle.word.specs.declared.Node.{Node}
 use Rattle.word.specs.Word.{nodeLimit}
@@ -25,7 +26,6 @@ use Rattle.forest.proofs.Forest.{together-iff-label}
 use Rattle.forest.proofs.Sound.{Sound, start-sound}
 use Rattle.linearization.specs.Partition.{Labels, apart}
 use Rattle.linearization.specs.Entry.{Entry, occurrences}
-use Rattle.linearization.proofs.Tests.{split}
 use Rattle.linearization.proofs.Replay.{Replayed, ended, replayed-fact, replayed-rising, replayed-replies, replayed-map}
 use Rattle.rules.specs.Table.{parent, rank, fresh}
 use Rattle.rules.specs.Report.{noRow}
@@ -144,13 +144,15 @@ history-prefix qs S past (h ∷ gs) hs = history-prefix qs (step qs S h) (happen
 
 -- ---- from the invariant to the statement
 
-module _ {qs : List Request} {n : ℕ} {B : Labels} {roots₀ : ℕ} {S : State} {past : List Happening} (inv : Invariant qs n B roots₀ S past) where
+module _ {qs : List Request} {n : ℕ} {B : Labels} {roots₀ : ℕ} {S : State} {past : List Happening}
+    (inv : Invariant qs n B roots₀ S past) where
   placed-entry : (e : Entry) → List·Memᴰ e (S .entries) → Placed qs past e
   placed-entry = replayed-fact (inv .entries)
 
   times-listed : (q times : ℕ) (head : Head) → Phase head q past times → times ≡ cond (isListed (rowOf q past) (linkOf q past)) 1 0
   times-listed q times head (over l o) = rw (ne-eqb (rowOf q past .answer) 0 (o .finished)) (o .listed)
-  times-listed q times head (current e b c) = rw (eq-eqb (rowOf q past .answer) 0 (c .unfinished)) (c .listed ∙ turned (eqb (linkOf q past) 0))
+  times-listed q times head (current e b c) =
+      rw (eq-eqb (rowOf q past .answer) 0 (c .unfinished)) (c .listed ∙ turned (eqb (linkOf q past) 0))
     where
       turned : (b : Bool) → _≡_ {A = ℕ} (cond b 0 1) (cond (not b) 1 0)
       turned true = refl
@@ -160,7 +162,9 @@ module _ {qs : List Request} {n : ℕ} {B : Labels} {roots₀ : ℕ} {S : State}
 
   -- the claims as the report has them
   reported : Replayed (operationAt qs) (Placed qs past) (λ q. promised (rowAt (S .report) q .answer)) B 0 (S .entries)
-  reported = replayed-map (inv .entries) (λ e m p. p) (λ e m. ap (λ r. promised (r .answer)) (sym (inv .rows (e .request) (placed-entry e m .known))))
+  reported =
+      replayed-map (inv .entries) (λ e m p. p)
+      (λ e m. ap (λ r. promised (r .answer)) (sym (inv .rows (e .request) (placed-entry e m .known))))
 
   pub invariant-linearized : Linearized B n qs (S .table) (S .report) (S .entries) past
   invariant-linearized =
@@ -195,7 +199,8 @@ module _ {n m : ℕ} {qs : List Request} {gs : List ℕ} (playable : Playable n 
   pub started-invariant : {t : List Node} {B : Labels} → Startable n t B
       → Invariant qs n B (rootCount (parent t) n) (run qs (start qs m t) gs) (history qs (start qs m t) [] gs)
   started-invariant {t} begin =
-      run-invariant playable-inside (start qs m t) [] gs (λ h k. omega (arith, playable .granted h k, length-heads qs 0 m)) (start-invariant qs m begin)
+      run-invariant playable-inside (start qs m t) [] gs (λ h k. omega (arith, playable .granted h k, length-heads qs 0 m))
+      (start-invariant qs m begin)
 
   pub linearized : {t : List Node} {B : Labels} → Startable n t B
       → Linearized B n qs (run qs (start qs m t) gs .table) (run qs (start qs m t) gs .report) (run qs (start qs m t) gs .entries)

@@ -10,6 +10,7 @@ use Prim.Native.Nat.{ℕ, suc, _+_, _≤_, _<_}
 use native.Mathlib.Omega.{arith}
 use lib.Dec.{eqb, ltb}
 use borrow.Author.Tests.{ltb-true, ltb-false}
+use Rattle.basics.proofs.Conditions.{split}
 use Rattle.job.specs.declared.Kind.the-variants.{Union}
 use Rattle.job.specs.declared.Request.{Request}
 use Rattle.word.specs.declared.Node.{Node}
@@ -25,41 +26,43 @@ use Rattle.process.specs.Advance.{continue, rankBoth, linked, link, raise}
 use Rattle.forest.proofs.Merge.{merged-ends}
 use Rattle.forest.proofs.Linking as linking
 use Rattle.forest.proofs.Raising as raising
-use Rattle.linearization.proofs.Tests.{split}
 use Rattle.rules.specs.Table.{at, parent, rank, touched}
 use Rattle.rules.proofs.Table.{found-parent, found-rank}
 use Rattle.rules.proofs.Finds.{stored}
-use Rattle.rules.proofs.Stages.{Finding, ReadingRanks, Linking, Raising, restart-knows}
-use Rattle.rules.proofs.Outcomes.{Unlinked, Linked, Outcome, Present, unchanged, goes-on}
+use Rattle.rules.proofs.Stages.{Moment, Finding, ReadingRanks, Linking, Raising, restart-knows}
+use Rattle.rules.proofs.Outcomes.{afterGrant, united, united-merged, Unlinked, Linked, Outcome, Present, unchanged, goes-on}
 use Rattle.rules.proofs.Outcomes.Linked.{finished, raises}
 use Rattle.rules.proofs.Outcomes.Outcome.{joining, ending}
 use Rattle.rules.proofs.Writes.{linking-kept, linking-takes, linking-stays, raising-unlinked}
-use Rattle.rules.proofs.Steps.{ends-two, finding-exchange}
+use Rattle.rules.proofs.Steps.{linked-event, ends-two, finding-exchange}
 
-module _ {n now : ℕ} {t : List Node} {B B′ : ℕ → ℕ} {Apart : ℕ → Type 0} {q : Request} (present : Present n now t B B′ Apart q) (k : Task) where
+module _ {n : ℕ} {m : Moment n} {q : Request} (present : Present m q) (k : Task) where
+  abbrev t : List Node
+  t = m .table
+
   abbrev Gives : List Node → Stage → Advanced → Type 0
-  Gives t′ st a = Outcome n now t t′ B B′ Apart q st a
+  Gives t′ st a = Outcome m t′ q st a
 
   -- ---- the two ranks
 
-  pub read-rank-x : ReadingRanks n (rank t) B q (k .x) (k .y) 0 → Gives t ReadRankX (continue k (ReadRankY (rank t (k .x))))
+  pub read-rank-x : ReadingRanks m q (k .x) (k .y) 0 → Gives t ReadRankX (continue k (ReadRankY (rank t (k .x))))
   read-rank-x a =
       goes-on ReadRankX k (ReadRankY (rank t (k .x))) false false refl refl (unchanged present)
       (record { finding = a .finding; distinct = a .distinct; rank = omega arith })
 
   -- the order of the ranks read is the order of keys
-  ranks-order : (r : ℕ) → Finding n B q Union (k .x) (k .y)
+  ranks-order : (r : ℕ) → Finding n (m .labels) q Union (k .x) (k .y)
       → before (rank t (k .y)) (k .y) r (k .x) ≡ ltb (key (rank t (k .y)) (k .y)) (key r (k .x))
   ranks-order r f =
       let few = present .sound .formed .limit in
       before-key (rank t (k .y)) (k .y) r (k .x) (omega (arith, f .right)) (omega (arith, f .left))
 
-  module _ (r : ℕ) (a : ReadingRanks n (rank t) B q (k .x) (k .y) r) where
+  module _ (r : ℕ) (a : ReadingRanks m q (k .x) (k .y) r) where
     -- y comes before x: they are exchanged
-    exchanged : key (rank t (k .y)) (k .y) < key r (k .x) → Linking n (rank t) B q (k .y) (k .x) (rank t (k .y))
+    exchanged : key (rank t (k .y)) (k .y) < key r (k .x) → Linking (afterGrant m t (m .labels)) q (k .y) (k .x) (rank t (k .y))
     exchanged order = record { finding = finding-exchange (a .finding); rank = omega arith; before = omega (arith, a .rank) }
 
-    straight : key r (k .x) ≤ key (rank t (k .y)) (k .y) → Linking n (rank t) B q (k .x) (k .y) r
+    straight : key r (k .x) ≤ key (rank t (k .y)) (k .y) → Linking (afterGrant m t (m .labels)) q (k .x) (k .y) r
     straight order =
         record {
           finding = a .finding;
@@ -71,8 +74,8 @@ module _ {n now : ℕ} {t : List Node} {B B′ : ℕ → ℕ} {Apart : ℕ → T
     read-rank-y =
         split (before (rank t (k .y)) (k .y) r (k .x))
         (λ e. rw e
-        (goes-on (ReadRankY r) (record { x = k .y; y = k .x; request = k .request; waits = k .waits }) (Link (rank t (k .y)) (eqb r (rank t (k .y))))
-        false false refl refl (unchanged present)
+        (goes-on (ReadRankY r) (record { x = k .y; y = k .x; request = k .request; waits = k .waits })
+        (Link (rank t (k .y)) (eqb r (rank t (k .y)))) false false refl refl (unchanged present)
         (exchanged (ltb-true (key (rank t (k .y)) (k .y)) (key r (k .x)) (sym (ranks-order r (a .finding)) ∙ e)))))
         (λ e. rw e
         (goes-on (ReadRankY r) k (Link r (eqb r (rank t (k .y)))) false false refl refl (unchanged present)
@@ -80,9 +83,9 @@ module _ {n now : ℕ} {t : List Node} {B B′ : ℕ → ℕ} {Apart : ℕ → T
 
   -- ---- the link
 
-  module _ (r : ℕ) (a : Linking n (rank t) B q (k .x) (k .y) r) where
+  module _ (r : ℕ) (a : Linking m q (k .x) (k .y) r) where
     module _ (found : same (at t (k .x)) (record { rank = r; parent = k .x }) ≡ true) where
-      may-link : linking.Linking n (parent t) (rank t) B B′ (k .x) r (k .y)
+      may-link : linking.Linking n (parent t) (rank t) (m .labels) (united m q) (k .x) r (k .y)
       may-link =
           let rank-is = found-rank t (k .x) (record { rank = r; parent = k .x }) found in
           record {
@@ -91,13 +94,13 @@ module _ {n now : ℕ} {t : List Node} {B B′ : ℕ → ℕ} {Apart : ℕ → T
             root = found-parent t (k .x) (record { rank = r; parent = k .x }) found;
             rank = sym rank-is;
             before = omega (arith, a .before, rank-is);
-            labels = merged-ends (present .merged) (k .x) (k .y) (a .finding .ends);
+            labels = merged-ends (united-merged m q) (k .x) (k .y) (a .finding .ends);
           }
 
       -- where the ranks read were equal, y's rank may be raised
-      to-raise : Raising n (rank (stored t (k .x) r (k .y))) B′ q (k .y) r
+      to-raise : Raising (afterGrant m (stored t (k .x) r (k .y)) (united m q)) q (k .y) r
       to-raise =
-          let stays = linking-stays t (present .nodes) (present .sound) may-link (k .y) in
+          let stays = linking-stays m (present .nodes) (present .sound) may-link (k .y) in
           record {
             node = a .finding .right;
             kind = a .finding .kind;
@@ -105,33 +108,25 @@ module _ {n now : ℕ} {t : List Node} {B B′ : ℕ → ℕ} {Apart : ℕ → T
             weight = linking.linking-weight (present .sound) may-link;
           }
 
-      link-written : (e : Bool) → Gives (stored t (k .x) r (k .y)) (Link r e) (linked k r e (suc now))
+      link-written : (e : Bool) → Gives (stored t (k .x) r (k .y)) (Link r e) (linked k r e (suc (m .now)))
       link-written e =
           joining (record {
-            kept = linking-kept t (present .nodes) (present .sound) may-link;
-            roots = linking-takes t (present .nodes) (present .sound) may-link;
+            kept = linking-kept m (present .nodes) (present .sound) may-link;
+            roots = linking-takes m (present .nodes) (present .sound) may-link;
             unraised = refl;
             kind = a .finding .kind;
-            linked = by-case e;
-            point = at-case e;
+            linked = linked-event k r e (suc (m .now)) .linked;
+            point = linked-event k r e (suc (m .now)) .point;
             two-sets = ends-two (a .finding .ends) (linking.linking-apart (present .sound) may-link);
             after = after e;
           })
         where
-          by-case : (e : Bool) → linked k r e (suc now) .event .linked ≡ true
-          by-case true = refl
-          by-case false = refl
-
-          at-case : (e : Bool) → linked k r e (suc now) .event .point ≡ suc now
-          at-case true = refl
-          at-case false = refl
-
-          after : (e : Bool) → Linked n (stored t (k .x) r (k .y)) B′ q (linked k r e (suc now))
+          after : (e : Bool) → Linked m (stored t (k .x) r (k .y)) q (linked k r e (suc (m .now)))
           after true = raises r refl refl to-raise
           after false = finished refl refl
 
     pub link-x : (e : Bool) → Gives (touched t (Cas (k .x) (record { rank = r; parent = k .x }) (record { rank = r; parent = k .y })))
-        (Link r e) (link k r e (at t (k .x)) (suc now))
+        (Link r e) (link k r e (at t (k .x)) (suc (m .now)))
     link-x e =
         split (same (at t (k .x)) (record { rank = r; parent = k .x }))
         (λ s. rw s (link-written s e))
@@ -139,13 +134,13 @@ module _ {n now : ℕ} {t : List Node} {B B′ : ℕ → ℕ} {Apart : ℕ → T
 
   -- ---- the raise
 
-  module _ (r : ℕ) (a : Raising n (rank t) B q (k .y) r) where
+  module _ (r : ℕ) (a : Raising m q (k .y) r) where
     -- whether the swap wrote or not, the union is finished
-    raise-ends : {t′ : List Node} (w : Node) → Unlinked n t t′ B → Gives t′ (Raise r) (raise k r w)
+    raise-ends : {t′ : List Node} (w : Node) → Unlinked m t′ → Gives t′ (Raise r) (raise k r w)
     raise-ends w table =
         ending (record { table = table; raised = refl; kind = a .kind; unlinked = refl; answer = refl; unplaced = refl; rests = refl })
 
-    may-raise : same (at t (k .y)) (record { rank = r; parent = k .y }) ≡ true → raising.Raising n (parent t) (rank t) B (k .y) r
+    may-raise : same (at t (k .y)) (record { rank = r; parent = k .y }) ≡ true → raising.Raising n (parent t) (rank t) (m .labels) (k .y) r
     may-raise found =
         record {
           node = a .node;
@@ -154,9 +149,9 @@ module _ {n now : ℕ} {t : List Node} {B B′ : ℕ → ℕ} {Apart : ℕ → T
           weight = a .weight;
         }
 
-    pub raise-y : (w : Node)
-        → Gives (touched t (Cas (k .y) (record { rank = r; parent = k .y }) (record { rank = r + 1; parent = k .y }))) (Raise r) (raise k r w)
+    pub raise-y : (w : Node) → Gives (touched t (Cas (k .y) (record { rank = r; parent = k .y }) (record { rank = r + 1; parent = k .y })))
+        (Raise r) (raise k r w)
     raise-y w =
         split (same (at t (k .y)) (record { rank = r; parent = k .y }))
-        (λ s. rw s (raise-ends w (raising-unlinked t (present .nodes) (present .sound) (may-raise s))))
+        (λ s. rw s (raise-ends w (raising-unlinked m (present .nodes) (present .sound) (may-raise s))))
         (λ s. rw s (raise-ends w (unchanged present)))

@@ -16,54 +16,52 @@ use Rattle.forest.proofs.Linking.{Linking, linking-sound, linking-ranks}
 use Rattle.forest.proofs.Raising.{Raising, raising-sound}
 use Rattle.forest.proofs.Later.{halving-later, linking-later, raising-later}
 use Rattle.forest.proofs.Roots.{halving-roots, linking-roots, raising-roots}
+use Rattle.linearization.specs.Partition.{Labels}
 use Rattle.rules.specs.Table.{parent, rank}
 use Rattle.rules.proofs.Table.{parent-changed, rank-changed}
 use Rattle.rules.proofs.Finds.{stored, Halved}
 use Rattle.rules.proofs.Finds.Halved.{kept, written}
+use Rattle.rules.proofs.Stages.{Moment}
 use Rattle.rules.proofs.Outcomes.{Kept, Unlinked, unwritten}
 
-module _ {n : ℕ} (t : List Node) {B : ℕ → ℕ} (nodes : length t ≡ n) (sound : Sound n (parent t) (rank t) B) where
-  halving-unlinked : {v k u : ℕ} → Halving n (parent t) (rank t) B v k u → Unlinked n t (stored t v k u) B
+module _ {n : ℕ} (m : Moment n) (nodes : length (m .table) ≡ n)
+    (sound : Sound n (parent (m .table)) (rank (m .table)) (m .labels)) where
+  abbrev t : List Node
+  t = m .table
+
+  halving-unlinked : {v k u : ℕ} → Halving n (parent t) (rank t) (m .labels) v k u → Unlinked m (stored t v k u)
   halving-unlinked {v} {k} {u} halving =
+      let parents = parent-changed t v (record { rank = k; parent = u }) (omega (arith, halving .node)) in
+      let ranks = rank-changed t v (record { rank = k; parent = u }) (omega (arith, halving .node)) in
       record {
         kept = record { sound = halving-sound sound halving parents ranks; later = halving-later (sound .formed) halving parents ranks };
         roots = halving-roots (sound .formed) halving parents ranks;
       }
-    where
-      parents : Changed (parent t) (parent (stored t v k u)) v u
-      parents = parent-changed t v (record { rank = k; parent = u }) (omega (arith, halving .node))
-
-      ranks : Changed (rank t) (rank (stored t v k u)) v k
-      ranks = rank-changed t v (record { rank = k; parent = u }) (omega (arith, halving .node))
 
   -- what a find writes
-  pub find-unlinked : {t′ : List Node} {v : ℕ} → Halved n t t′ B v → Unlinked n t t′ B
-  find-unlinked (kept e) = subst (λ t′. Unlinked n t t′ B) (sym e) (unwritten sound)
-  find-unlinked (written k u halving e) = subst (λ t′. Unlinked n t t′ B) (sym e) (halving-unlinked halving)
+  pub find-unlinked : {t′ : List Node} {v : ℕ} → Halved n t t′ (m .labels) v → Unlinked m t′
+  find-unlinked (kept e) = subst (λ t′. Unlinked m t′) (sym e) (unwritten m sound)
+  find-unlinked (written k u halving e) = subst (λ t′. Unlinked m t′) (sym e) (halving-unlinked halving)
 
-  pub raising-unlinked : {y k : ℕ} → Raising n (parent t) (rank t) B y k → Unlinked n t (stored t y (k + 1) y) B
+  pub raising-unlinked : {y k : ℕ} → Raising n (parent t) (rank t) (m .labels) y k → Unlinked m (stored t y (k + 1) y)
   raising-unlinked {y} {k} raising =
+      let parents = parent-changed t y (record { rank = k + 1; parent = y }) (omega (arith, raising .node)) in
+      let changed = rank-changed t y (record { rank = k + 1; parent = y }) (omega (arith, raising .node)) in
+      let ranks : Changed (rank t) (rank (stored t y (k + 1) y)) y (suc k) =
+      record { at = changed .at ∙ omega arith; other = changed .other } in
       record {
         kept = record { sound = raising-sound sound raising parents ranks; later = raising-later sound raising parents ranks };
         roots = raising-roots sound raising parents ranks;
       }
-    where
-      parents : Changed (parent t) (parent (stored t y (k + 1) y)) y y
-      parents = parent-changed t y (record { rank = k + 1; parent = y }) (omega (arith, raising .node))
 
-      ranks : Changed (rank t) (rank (stored t y (k + 1) y)) y (suc k)
-      ranks =
-          let change = rank-changed t y (record { rank = k + 1; parent = y }) (omega (arith, raising .node)) in
-          record { at = change .at ∙ omega arith; other = change .other }
-
-  module _ {B′ : ℕ → ℕ} {x k y : ℕ} (linking : Linking n (parent t) (rank t) B B′ x k y) where
+  module _ {B′ : Labels} {x k y : ℕ} (linking : Linking n (parent t) (rank t) (m .labels) B′ x k y) where
     parents : Changed (parent t) (parent (stored t x k y)) x y
     parents = parent-changed t x (record { rank = k; parent = y }) (omega (arith, linking .node))
 
     ranks : Changed (rank t) (rank (stored t x k y)) x k
     ranks = rank-changed t x (record { rank = k; parent = y }) (omega (arith, linking .node))
 
-    pub linking-kept : Kept n t (stored t x k y) B B′
+    pub linking-kept : Kept m (stored t x k y) B′
     linking-kept = record { sound = linking-sound sound linking parents ranks; later = linking-later sound linking parents ranks }
 
     pub linking-takes : suc (rootCount (parent (stored t x k y)) n) ≡ rootCount (parent t) n

@@ -15,12 +15,13 @@ use mathlib.Core.List.{List, List·Memᴰ}
 use Prim.Native.Nat.{ℕ, zero, suc, _+_, _^_, _≤_, _<_}
 use lib.Dec.{eqb}
 use lib.ListN.{length}
+use Rattle.basics.specs.Count.{count}
 use Rattle.job.specs.declared.Kind.the-variants.{SameSet}
 use Rattle.job.specs.declared.Request.{Request}
 use Rattle.job.specs.declared.Tally.{Tally}
 use Rattle.word.specs.declared.Node.{Node}
 use Rattle.word.specs.Word.{before}
-use Rattle.forest.specs.Forest.{count, rootCount, Together}
+use Rattle.forest.specs.Forest.{rootCount, Together}
 use Rattle.rules.specs.declared.Row.{Row}
 use Rattle.rules.specs.Table.{parent, rank}
 use Rattle.rules.specs.Report.{noRow}

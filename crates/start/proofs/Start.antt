@@ -12,19 +12,19 @@ use mathlib.Core.List.{List, [], _∷_, map}
 use Prim.Native.Nat.{ℕ, zero, suc, _+_, _*_, _≤_, _<_}
 use native.Mathlib.Omega.{arith}
 use lib.ListN.{length, getD, replicate, length-map}
+use Rattle.basics.proofs.Lists.{getD-mapped}
 use Rattle.job.specs.declared.Request.{Request}
 use Rattle.job.specs.Job.{Job}
 use Rattle.word.specs.declared.Node.{Node}
 use Rattle.word.specs.Word.{encode}
 use Rattle.process.specs.declared.Head.{Head}
 use Rattle.mask.specs.Mask.{maskOf}
-use Rattle.rules.specs.Table.{noNode, at, freshFrom, fresh}
+use Rattle.rules.specs.Table.{noNode, fresh}
 use Rattle.rules.specs.Report.{noRow}
 use Rattle.rules.specs.State.{seek, resting, headsFrom}
-use Rattle.rules.proofs.Table.{length-fresh}
+use Rattle.rules.proofs.Table.{length-fresh, fresh-at}
 use Rattle.stepper.specs.Buffers.{flatRows}
 use Rattle.stepper.specs.Shown.{buffers, Standing}
-use Rattle.mask.proofs.Lists.{getD-mapped}
 use Rattle.start.specs.Start.{firstRequests, isRequest, workFlag}
 
 -- ---- the table
@@ -34,13 +34,6 @@ firstNode i = record { rank = 0; parent = i }
 
 abbrev pub firstWord : ℕ → ℕ
 firstWord i = encode (firstNode i)
-
-fresh-at : (i n j : ℕ) → j < n → at (freshFrom i n) j ≡ firstNode (i + j)
-fresh-at i zero j l = absurd (omega arith)
-fresh-at i (suc n) zero l = let same : i ≡ i + 0 = omega arith in ap firstNode same
-fresh-at i (suc n) (suc j) l =
-    let same : suc i + j ≡ i + suc j = omega arith in
-    fresh-at (suc i) n j (omega arith) ∙ ap firstNode same
 
 pub length-words : (n : ℕ) → length (map encode (fresh n)) ≡ n
 length-words n = length-map (fresh n) encode ∙ length-fresh 0 n

@@ -11,6 +11,7 @@ use native.Mathlib.Omega.{arith}
 use lib.Dec.{eqb, ltb}
 use lib.ListN.{length, getD, set, drop, length-drop}
 use borrow.Author.Tests.{ltb-true, ne-eqb}
+use Rattle.basics.proofs.Conditions.{split}
 use Rattle.job.specs.declared.Request.{Request}
 use Rattle.word.specs.Word.{decode, encode}
 use Rattle.process.specs.declared.Head.{Head}
@@ -20,7 +21,6 @@ use Rattle.process.specs.Access.{accessOf}
 use Rattle.process.specs.Advance.{advanceOf}
 use Rattle.linearization.specs.Partition.{apart}
 use Rattle.linearization.specs.Entry.{occurrences, inserted, Insertable}
-use Rattle.linearization.proofs.Tests.{split}
 use Rattle.linearization.proofs.Entries.{length-insert}
 use Rattle.linearization.proofs.Replay.{replayed-rising}
 use Rattle.linearization.proofs.Numbers.{insertable-shown}

@@ -9,10 +9,10 @@ use Rattle.process.specs.declared.Task.{Task}
 use Rattle.process.specs.Process.{Raisable}
 use Rattle.forest.proofs.Size.{size-le}
 use Rattle.forest.proofs.Sound.{power-limit}
-use Rattle.rules.proofs.Stages.{Knows}
+use Rattle.rules.proofs.Stages.{Moment, Knows}
 
-module _ (n : ℕ) (p r B : ℕ → ℕ) (Apart : ℕ → Type 0) (now : ℕ) (q : Request) (k : Task) where
-  pub stage-raisable : n ≤ nodeLimit → (stage : Stage) → Knows n p r B Apart now q k stage → Raisable stage
+module _ {n : ℕ} (m : Moment n) (q : Request) (k : Task) where
+  pub stage-raisable : n ≤ nodeLimit → (stage : Stage) → Knows m q k stage → Raisable stage
   stage-raisable few Resting a = omega arith
   stage-raisable few (Find e s) a = omega arith
   stage-raisable few (RereadX point) a = omega arith
@@ -20,4 +20,4 @@ module _ (n : ℕ) (p r B : ℕ → ℕ) (Apart : ℕ → Type 0) (now : ℕ) (q
   stage-raisable few (ReadRankY rank) a = omega arith
   stage-raisable few (Link rank e) a = omega arith
   stage-raisable few (Raise rank) a =
-      omega (arith, power-limit (suc rank) 16 n (omega (arith, a .weight, size-le n B (B (k .y)))) (omega arith))
+      omega (arith, power-limit (suc rank) 16 n (omega (arith, a .weight, size-le n (m .labels) (m .labels (k .y)))) (omega arith))

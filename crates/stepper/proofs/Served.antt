@@ -8,6 +8,7 @@ use Prim.Native.Nat.{ℕ, suc, _+_, _*_, _-_, _^_, _<_}
 use native.Mathlib.Omega.{arith}
 use lib.Dec.{eqb, ltb}
 use lib.ListN.{length, getD, set, drop}
+use Rattle.basics.proofs.Conditions.{split}
 use Rattle.job.specs.declared.Request.{Request}
 use Rattle.word.specs.Word.{decode, encode}
 use Rattle.process.specs.declared.Head.{Head}
@@ -18,7 +19,6 @@ use Rattle.process.specs.Advance.{advanceOf}
 use Rattle.forest.proofs.Sound.{rank-limit}
 use Rattle.linearization.specs.Partition.{apart}
 use Rattle.linearization.specs.Entry.{flat, inserted}
-use Rattle.linearization.proofs.Tests.{split}
 use Rattle.mask.specs.Mask.{maskOf}
 use Rattle.mask.proofs.Laws.{mask-kept, mask-left}
 use Rattle.rules.specs.Table.{parent, rank, seen, touched}
@@ -27,7 +27,7 @@ use Rattle.rules.specs.State.{State, resting, hasWork}
 use Rattle.rules.specs.Step.{ready, headAt, advanced, settled, entered, served, step}
 use Rattle.rules.specs.Run.{Happening, actionOf, happened}
 use Rattle.rules.specs.Run.Happening.{serving}
-use Rattle.rules.proofs.Invariant.{labels, ApartAt, Invariant}
+use Rattle.rules.proofs.Invariant.{momentOf, Invariant}
 use Rattle.rules.proofs.Serving.{Serving}
 use Rattle.table.specs.Touch.{Within, Worded, Touchable}
 use Rattle.table.proofs.Words.{decode-words}
@@ -67,7 +67,7 @@ module _ {qs : List Request} {n : ℕ} {b : Buffers} {number : ℕ} {S : State} 
   unfolding accessOf
   access-here =
       subst (λ k. Within k (accessOf head)) (sym (here .invariant .nodes))
-      (access-within n (parent (S .table)) (rank (S .table)) (labels qs apart S) (ApartAt qs apart (S .entries) (head .task .request)) (S .now) _ (head .task) (head .stage) (in-service .knows))
+      (access-within (momentOf qs n apart S) _ (head .task) (head .stage) (in-service .knows))
 
   -- the head is as the rules have it
   pub head-shown : ready qs (getD (b .heads) h (resting 0)) ≡ head
@@ -84,7 +84,7 @@ module _ {qs : List Request} {n : ℕ} {b : Buffers} {number : ℕ} {S : State} 
 
   pub head-raisable : Raisable (head .stage)
   head-raisable =
-      stage-raisable n (parent (S .table)) (rank (S .table)) (labels qs apart S) (ApartAt qs apart (S .entries) (head .task .request)) (S .now) _ (head .task)
+      stage-raisable (momentOf qs n apart S) _ (head .task)
       (here .invariant .sound .formed .limit) (head .stage) (in-service .knows)
 
   pub moved-here : advanceOf head (seen (map decode (b .table)) (accessOf head)) number ≡ advanced S head

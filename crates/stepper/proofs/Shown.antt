@@ -9,9 +9,9 @@ use native.Mathlib.Omega.{arith}
 use lib.Dec.{eqb}
 use lib.ListN.{length, drop}
 use lib.Seq.{drop-drop}
+use Rattle.basics.proofs.Conditions.{split}
 use Rattle.process.specs.declared.Event.{Event}
 use Rattle.linearization.specs.Entry.{Entry, insert, flat, inserted}
-use Rattle.linearization.proofs.Tests.{split}
 use Rattle.linearization.proofs.Entries.{length-insert}
 use Rattle.linearization.proofs.Numbers.{inserted-shown}
 use Rattle.rules.specs.Step.{entered}

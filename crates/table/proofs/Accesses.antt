@@ -9,13 +9,13 @@ use mathlib.Core.List.{List, map}
 use Prim.Native.Nat.{ℕ, _<_}
 use native.Mathlib.Omega.{arith}
 use lib.ListN.{length, getD, set, length-map}
+use Rattle.basics.proofs.Lists.{set-mapped}
 use Rattle.word.specs.declared.Node.{Node}
 use Rattle.word.specs.Word.{decode, encode, same, rankOf, rankLimit}
 use Rattle.process.specs.declared.Access.{Access}
 use Rattle.process.specs.declared.Access.the-variants.{Idle, Load, Cas}
 use Rattle.rules.specs.Table.{noNode, at, seen, touched}
 use Rattle.table.specs.Touch.{Worded, Touchable}
-use Rattle.mask.proofs.Lists.{set-mapped}
 use Rattle.table.proofs.Words.{at-decoded, encode-words}
 
 -- both clauses of the code's contracts

@@ -6,7 +6,7 @@ use mathlib.Core.List.{List, [], _∷_, map}
 use Prim.Native.Nat.{ℕ, suc, _<_}
 use native.Mathlib.Omega.{arith}
 use lib.ListN.{length}
-use Rattle.mask.proofs.Lists.{getD-mapped}
+use Rattle.basics.proofs.Lists.{getD-mapped}
 use Rattle.word.specs.declared.Node.{Node}
 use Rattle.word.specs.Word.{rankOf, parentOf, decode, encode}
 use Rattle.word.proofs.Laws.{decode-encode, encode-decode}

@@ -9,9 +9,9 @@ use native.Mathlib.Nat.{pow-succ'}
 use native.Mathlib.Numerals.{add-one}
 use native.Mathlib.Omega.{arith}
 use lib.Dec.{ltb}
-use lib.ListN.{length, getD, take, drop, length-append, take-append-drop}
-use lib.Seq.{take-suc}
+use lib.ListN.{length, getD, take, length-append}
 use borrow.Author.Tests.{ltb-true, ltb-false, lt-ltb, le-ltb}
+use Rattle.basics.proofs.Lists.{length-three, take-next}
 use Rattle.text.specs.Text.{digitsBy, digitsWithin, decimal, fields, line, each}
 
 -- Any fuel above the number gives the same digits.
@@ -50,13 +50,6 @@ digits-most (suc k) n h = go (ltb n 10) refl (digits-most k (n / 10) (omega (ari
 -- A number of 32 bits has at most ten digits.
 pub decimal-short : (n : ℕ) → n < 2 ^ 32 → length (decimal n) ≤ 10
 decimal-short n h = digits-most 9 n (omega arith)
-
-pub length-three : (a b c : List ℕ) → length (a ++ (b ++ c)) ≡ length a + length b + length c
-length-three a b c = omega (arith, length-append a (b ++ c), length-append b c)
-
--- One element more: what a loop over a list adds in a turn.
-pub take-next : (l : List ℕ) (i : ℕ) → i < length l → take (i + 1) l ≡ take i l ++ (getD l i 0 ∷ [])
-take-next l i h = rw (add-one, take-suc l i 0)
 
 fields-append : (ms ns : List ℕ) → fields (ms ++ ns) ≡ fields ms ++ fields ns
 unfolding fields

@@ -7,10 +7,10 @@ use mathlib.Core.List.{List, [], _∷_, map}
 use Prim.Native.Nat.{ℕ, suc, _+_, _≤_, _<_}
 use native.Mathlib.Omega.{arith}
 use lib.Count.{ones}
+use Rattle.basics.proofs.Conditions.{split}
 use Rattle.job.specs.declared.Request.{Request}
 use Rattle.job.specs.declared.Tally.{Tally}
 use Rattle.process.specs.declared.Head.{Head}
-use Rattle.linearization.proofs.Tests.{split}
 use Rattle.mask.specs.Mask.{maskOf, countOf}
 use Rattle.mask.proofs.Laws.{mask-count}
 use Rattle.rules.specs.State.{State, hasWork, working, tallyOf}

@@ -10,11 +10,12 @@ use native.Mathlib.Omega.{arith}
 use lib.Dec.{eqb, ltb}
 use lib.ListN.{length, length-map}
 use borrow.Author.Tests.{ne-eqb, lt-ltb, le-ltb, ltb-false}
+use Rattle.basics.proofs.Conditions.{split}
 use Rattle.jobfile.specs.Format.{runSize, closeSize, requestPlace, fileSize, mostBytes, mostNodes, mostHeads, mostRequests, _then_}
 use Rattle.jobfile.specs.Format.{sizesRefusal, lengthRefusal}
 use Rattle.jobfile.specs.Written.{longestRuns, written}
 use Rattle.jobfile.specs.Draft.{Draft, fieldsOf, jobOf, countRefusal, eachRefusal, grantsRefusal, draftRefusal}
-use Rattle.jobfile.proofs.Tests.{split, passed, through, sized}
+use Rattle.jobfile.proofs.Refusals.{passed, through, sized}
 use Rattle.jobfile.proofs.Places.{length-written}
 use Rattle.writer.specs.Write.{bufferRefusal, writeRefusal, refused, answer}
 use Rattle.writer.proofs.Requests.{fields-count, each-fits}

@@ -13,12 +13,13 @@ use lib.Dec.{eqb}
 use lib.ListN.{length, take, drop, length-append, length-map}
 use lib.Seq.{sets, take-at}
 use borrow.Author.Tests.{eqb-true, ne-eqb}
+use Rattle.basics.proofs.Conditions.{split}
 use Rattle.job.specs.Job.{Job}
 use Rattle.jobfile.specs.Format.{jobMark, closeMark, jobSize, requestSize, runSize, wordBytes, wordSum, requestOf}
 use Rattle.jobfile.specs.Written.{requestsBytes, runsBytes, longestRuns, fileWith, balance, written}
 use Rattle.jobfile.specs.Draft.{Draft, fieldsOf, jobOf, draftRefusal}
 use Rattle.jobfile.specs.Meaning.{accepted, meaning}
-use Rattle.jobfile.proofs.Tests.{split, through}
+use Rattle.jobfile.proofs.Refusals.{through}
 use Rattle.jobfile.proofs.Records.{length-records}
 use Rattle.jobfile.proofs.Layouts.{requestLayout, runLayout}
 use Rattle.jobfile.proofs.Forward.{body, file-parts, sum-parts}

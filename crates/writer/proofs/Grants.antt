@@ -14,12 +14,12 @@ use native.Mathlib.Numerals.{add-one}
 use lib.ListN.{length, getD, drop, replicate, length-drop, length-append, length-replicate, drop-of-length-le}
 use lib.Seq.{drop-cons}
 use borrow.Author.Tests.{le-leb, lt-leb}
+use Rattle.basics.proofs.Conditions.{split}
 use Rattle.jobfile.specs.declared.Run.{Run}
 use Rattle.jobfile.specs.Format.{mostGrants, extends}
 use Rattle.jobfile.specs.Meaning.{granted}
 use Rattle.jobfile.specs.Written.{runsFrom, longestRuns}
 use Rattle.jobfile.specs.Draft.{grantsRefusal}
-use Rattle.jobfile.proofs.Tests.{split}
 use Rattle.jobfile.proofs.Runs.{extended, granted-longest}
 
 pub drop-next : (gs : List ℕ) (i : ℕ) → i < length gs → drop i gs ≡ getD gs i 0 ∷ drop (i + 1) gs

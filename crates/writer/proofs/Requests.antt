@@ -16,7 +16,7 @@ use borrow.Author.Tests.{ne-eqb, lt-ltb, le-ltb}
 use Rattle.jobfile.specs.declared.Fields.{Fields}
 use Rattle.jobfile.specs.Format.{mostNodes, mostHeads, mostRequests, _then_, fieldsRefusal}
 use Rattle.jobfile.specs.Draft.{fieldsOf, countRefusal, eachRefusal}
-use Rattle.jobfile.proofs.Tests.{through, Sized, Fit, fit, fit-passes}
+use Rattle.jobfile.proofs.Refusals.{through, Sized, Fit, fit, fit-passes}
 use Rattle.writer.specs.Write.{fieldsFrom}
 
 fields-four : (t : List ℕ) → 4 ≤ length t → fieldsOf t ≡ fieldsFrom t 0 ∷ fieldsOf (drop 4 t)

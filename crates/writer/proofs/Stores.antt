@@ -19,7 +19,7 @@ use Rattle.jobfile.specs.Format.{requestMark, requestSize, mostNodes, mostHeads
 use Rattle.jobfile.specs.Written.{recordsBytes, requestBytes, longestRuns}
 use Rattle.jobfile.specs.Draft.{fieldsOf, eachRefusal}
 use Rattle.jobfile.proofs.KindNumbers.{kind-written}
-use Rattle.jobfile.proofs.Tests.{Both, through, fit}
+use Rattle.jobfile.proofs.Refusals.{Both, through, fit}
 use Rattle.jobfile.proofs.Records.{Layout}
 use Rattle.jobfile.proofs.Layouts.{requestLayout, runLayout}
 use Rattle.writer.specs.Write.{fieldsFrom}

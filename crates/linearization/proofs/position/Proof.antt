@@ -34,7 +34,8 @@ mul-result c = search needs
 returns : tie.Need-returns Inv-loop μ-loop
 returns c =
     let a = c .before .before .before .before .args in
-    scanned-here (now (a .linearization)) (a .entries) (a .point) (omega arith) _ (omega arith) (c .before .before .before .loop .inv) (omega arith)
+    scanned-here (now (a .linearization)) (a .entries) (a .point) (omega arith) _ (omega arith)
+    (c .before .before .before .loop .inv) (omega arith)
 
 sub-at : tie.Need-sub-at Inv-loop μ-loop
 sub-at c = search needs
@@ -45,7 +46,8 @@ loop-less c = search needs
 loop-again : tie.Need-loop-again Inv-loop μ-loop
 loop-again c =
     let a = c .before .before .before .before .args in
-    scanned-on (now (a .linearization)) (a .entries) (a .point) (omega arith) _ (omega arith) (c .before .before .before .loop .inv) (omega arith)
+    scanned-on (now (a .linearization)) (a .entries) (a .point) (omega arith) _ (omega arith)
+    (c .before .before .before .loop .inv) (omega arith)
 
 returns-2 : tie.Need-returns-2 Inv-loop μ-loop
 returns-2 c =

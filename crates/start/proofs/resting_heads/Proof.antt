@@ -5,9 +5,9 @@ use borrow.Author.Needs.{needs}
 use native.Mathlib.Omega.{arith}
 use Prim.Native.Nat.{_-_}
 use lib.ListN.{length, getD, length-map}
+use Rattle.basics.proofs.Lists.{getD-mapped}
 use Rattle.process.specs.declared.Stage.the-variants.{Resting}
 use Rattle.rules.specs.State.{resting}
-use Rattle.mask.proofs.Lists.{getD-mapped}
 use Rattle.start.proofs.Loops.{Filled, filled-none, filled-on, filled-all}
 use Rattle.start.proofs.resting_heads.Statement.{statement}
 use Rattle.start.proofs.resting_heads.Tie as tie

@@ -5,7 +5,7 @@ use lib.ListN.{length, take}
 use lib.Seq.{take-length}
 use borrow.Author.Needs.{needs}
 use denote.Ref.{now}
-use Rattle.text.proofs.Text.{take-next}
+use Rattle.basics.proofs.Lists.{take-next}
 use Rattle.text.proofs.Writing.{Through, wrote-nothing, wrote-length, through-next, through-end}
 use Rattle.text.proofs.put_bytes.Statement.{statement}
 use Rattle.text.proofs.put_bytes.Tie as tie

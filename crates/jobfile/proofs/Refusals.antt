@@ -1,6 +1,5 @@
 -- Chains of tests: what it says that a chain refuses nothing, and the refusals that reader and writer share.
 --
---   split b f g         both outcomes of the test b, each with its equation
 --   Passed b n          the test b did not refuse, and neither does the rest n
 --   Both a b            neither a nor b is a refusal
 --   passed, through     a chain that refuses nothing has passed its first test, and the rest refuses nothing
@@ -12,7 +11,7 @@ use Prim.Native.Nat.{ℕ, suc, _≤_, _<_}
 use native.Mathlib.Omega.{arith}
 use lib.Dec.{eqb, ltb, leb}
 use borrow.Author.Tests.{eqb-true, eqb-false, ltb-false, leb-false, ne-eqb, le-ltb, lt-leb}
-pub use borrow.Table.Steps.{cases as split}
+use Rattle.basics.proofs.Conditions.{split}
 use Rattle.jobfile.specs.declared.Fields.{Fields}
 use Rattle.jobfile.specs.Format.{_then_, mostNodes, mostHeads, sizesRefusal, fieldsRefusal}
 

@@ -1,0 +1,4 @@
+-- General lemmas by subject.
+pub mod Conditions
+pub mod Lists
+pub mod Counts

@@ -1,0 +1,2 @@
+-- The definition of a count.
+pub mod Count
