@@ -39,14 +39,10 @@ module _ {n : ℕ} {p r B B′ : ℕ → ℕ} {x k y : ℕ} (sound : Sound n p r
   pub linking-weight : 2 ^ suc k ≤ size n B′ (B′ y)
   linking-weight =
       let low : r x ≤ r y = omega (arith, linking .node, linking .target, linking .before, sound .formed .limit) in
-      omega (
-        arith,
-        ap (λ m. 2 ^ m) (linking .rank),
-        pow-mono low,
-        sound .heavy .all x (linking .node),
-        sound .heavy .all y (linking .target),
-        merged-size (linking .labels) n linking-apart,
-      )
+      let both = merged-size (linking .labels) n linking-apart in
+      let left = sound .heavy .all x (linking .node) in
+      let right = sound .heavy .all y (linking .target) in
+      omega (arith, ap (λ m. 2 ^ m) (linking .rank), pow-mono low, left, right, both)
 
   module _ {p′ r′ : ℕ → ℕ} (parents : Changed p p′ x y) (ranks : Changed r r′ x k) where
     pub linking-ranks : (i : ℕ) → r′ i ≡ r i

@@ -39,7 +39,7 @@ use Rattle.rules.specs.Table.{parent, touched}
 use Rattle.rules.specs.Report.{isFinal}
 use Rattle.rules.specs.State.{State, requestAt}
 use Rattle.rules.specs.Step.{advanced, served}
-use Rattle.rules.specs.Action.{Action, Agrees, links}
+use Rattle.rules.specs.Action.{Action, links}
 use Rattle.rules.specs.Run.{Happening, actionOf}
 use Rattle.rules.specs.History.{linkOf, pointOf}
 use Rattle.rules.specs.Linearized.{operationAt, promised}
@@ -106,23 +106,15 @@ module _ (qs : List Request) (n : ℕ) (B : Labels) (roots₀ : ℕ) (S : State)
 
   placed-at : (point : ℕ) → a .event .point ≡ point → 1 ≤ point → Does (insert point q (S .entries))
       → Effect qs n B roots₀ S (served qs S h head) past′ q a
-  placed-at point e positive does = subst Does (sym entries) does
-    where
-      entries : served qs S h head .entries ≡ insert point q (S .entries)
-      entries = rw (ne-eqb (a .event .point) 0 (λ z. omega arith), e)
+  placed-at point e positive does =
+      let entries : served qs S h head .entries ≡ insert point q (S .entries) = rw (ne-eqb (a .event .point) 0 (λ z. omega arith), e) in
+      subst Does (sym entries) does
 
   -- what the step says of the grant is what its access tells
-  agrees : Agrees act
-  agrees = served-agrees srv
-
   tells : {b : Bool} → a .event .linked ≡ b → links (act .access) (act .seen) ≡ b
-  tells e = sym (agrees .linked) ∙ e
+  tells e = sym (served-agrees srv .linked) ∙ e
 
   -- ---- the table
-
-  -- the table shows the labels that the entries make
-  table-kept : {B′ : Labels} (es : List Entry) → after (operationAt qs) B es ≡ B′ → Kept m t′ B′ → Kept m t′ (after (operationAt qs) B es)
-  table-kept es e kept = subst (Kept m t′) (sym e) kept
 
   roots-stay : a .event .linked ≡ false → Unlinked m t′ → rootCount (parent t′) n + served qs S h head .links ≡ roots₀
   roots-stay unlinked table = rw unlinked (ap (λ k. k + S .links) (table .roots) ∙ inv .roots)
@@ -218,7 +210,7 @@ module _ (qs : List Request) (n : ℕ) (B : Labels) (roots₀ : ℕ) (S : State)
     closing-effect =
         let final = ap isFinal (c .answer) ∙ together-final (requestAt qs q .kind) in
         record {
-          kept = table-kept entered (entered-labels ∙ next-together (m .labels) (operationAt qs q) (c .one-set)) (c .table .kept);
+          kept = subst (Kept m t′) (sym (entered-labels ∙ next-together (m .labels) (operationAt qs q) (c .one-set))) (c .table .kept);
           roots = roots-stay (c .unlinked) (c .table);
           settled = entered-settled;
           entries = entered-replayed (c .unraised) (closing-point (requestAt qs q .kind)) closing-answer;
@@ -272,7 +264,7 @@ module _ (qs : List Request) (n : ℕ) (B : Labels) (roots₀ : ℕ) (S : State)
     joining-effect : Does entered
     joining-effect =
         record {
-          kept = table-kept entered joining-labels (j .kept);
+          kept = subst (Kept m t′) (sym joining-labels) (j .kept);
           roots = rw (j .linked) (omega (arith, j .roots, inv .roots));
           settled = entered-settled;
           entries = entered-replayed (j .unraised) joining-point joining-answer;
@@ -347,8 +339,7 @@ module _ (qs : List Request) (n : ℕ) (B : Labels) (roots₀ : ℕ) (S : State)
         let final = ap isFinal (d .answer) in
         let until : point ≤ length past = omega (arith, d .until, inv .clock) in
         record {
-          kept = table-kept (insert point q (S .entries))
-              (after-insert (operationAt qs) point q B (S .entries) (silent .unchanged)) (d .table .kept);
+          kept = subst (Kept m t′) (sym (after-insert (operationAt qs) point q B (S .entries) (silent .unchanged))) (d .table .kept);
           roots = roots-stay (d .unlinked) (d .table);
           settled = λ m l. labelsTo-insert (operationAt qs) point q m B (S .entries) (silent .unchanged);
           entries = replayed-insert point q (entries-stand (not-listed (d .unraised))) (omega (arith, d .positive)) point-free

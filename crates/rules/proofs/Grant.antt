@@ -1,6 +1,6 @@
 -- One grant keeps the invariant: idle, or serving a head that goes on with its request or begins its next one.
 --
--- Main laws: served-effect, what the grant does to a head that it serves; step-invariant.
+-- Main laws: step-outcome, whatever the stage; served-effect, what the grant does to a head that it serves; step-invariant.
 use mathlib.Core.Path.{_≡_, refl, sym, ap, _∙_, subst}
 use mathlib.Core.Bool.{Bool, true, false, cond, true≢false}
 use mathlib.Core.List.{List, _∷_}
@@ -10,15 +10,18 @@ use lib.ListN.{length}
 use borrow.Author.Tests.{ltb-true, eq-eqb}
 use Rattle.basics.proofs.Conditions.{split}
 use Rattle.job.specs.declared.Request.{Request}
+use Rattle.process.specs.declared.Stage.{Stage}
+use Rattle.process.specs.declared.Stage.the-variants.{Resting, Find, RereadX, ReadRankX, ReadRankY, Link, Raise}
+use Rattle.process.specs.declared.Task.{Task}
 use Rattle.process.specs.declared.Head.{Head}
-use Rattle.process.specs.Process.{isResting, begin}
-use Rattle.process.specs.Access.{accessOf}
-use Rattle.process.specs.Advance.{advanceOf}
+use Rattle.process.specs.Process.{traitsOf, isResting, begin}
+use Rattle.process.specs.Access.{accessAt, accessOf}
+use Rattle.process.specs.Advance.{advanceAt, advanceOf}
 use Rattle.forest.proofs.Later.{later-refl}
 use Rattle.linearization.specs.Partition.{Labels}
 use Rattle.linearization.specs.Entry.{occurrences}
 use Rattle.linearization.proofs.Replay.{labelsTo-all, replayed-fact, replayed-map}
-use Rattle.rules.specs.Table.{parent, rank, touched}
+use Rattle.rules.specs.Table.{at, parent, rank, seen, touched}
 use Rattle.rules.specs.State.{State, requestAt, hasWork}
 use Rattle.rules.specs.Step.{ready, headAt, advanced, served, passed, step}
 use Rattle.rules.specs.Run.{Happening, happened}
@@ -26,9 +29,10 @@ use Rattle.rules.specs.Run.Happening.{idle}
 use Rattle.rules.specs.History.{linkOf}
 use Rattle.rules.specs.Linearized.{promised}
 use Rattle.rules.proofs.History.{row-other}
-use Rattle.rules.proofs.Stages.{Inside, Onward, finding-begin, restart-knows, knows-later}
+use Rattle.rules.proofs.Stages.{Moment, Inside, Knows, Onward, finding-begin, restart-knows, knows-later}
 use Rattle.rules.proofs.Outcomes.{Outcome, Present}
-use Rattle.rules.proofs.StepOutcome.{step-outcome}
+use Rattle.rules.proofs.FindSteps.{find-step, reread-x}
+use Rattle.rules.proofs.UnionSteps.{read-rank-x, read-rank-y, link-x, raise-y}
 use Rattle.rules.proofs.Invariant.{labels, momentOf, head-until, Current, Waiting, Phase, Invariant}
 use Rattle.rules.proofs.Invariant.Phase.{over, current, waiting}
 use Rattle.rules.proofs.Others.{timed-other, phase-other, placed-other}
@@ -47,6 +51,18 @@ module _ {head : Head} {past : List Happening} {times : ℕ} where
   phase-waiting (over l o) b = absurd (omega arith)
   phase-waiting (current e r c) b = absurd (true≢false (sym b ∙ r))
   phase-waiting (waiting l r w) b = w
+
+-- A head's own grant: from what it knows at its stage to one of the five outcomes.
+module _ {n : ℕ} {m : Moment n} {q : Request} (present : Present m q) (k : Task) where
+  step-outcome : (st : Stage) → traitsOf st .resting ≡ false → Knows m q k st
+      → Outcome m (touched (m .table) (accessAt k st)) q st (advanceAt k (seen (m .table) (accessAt k st)) (suc (m .now)) st)
+  step-outcome Resting busy a = absurd (true≢false busy)
+  step-outcome (Find e s) busy a = find-step present k e s a
+  step-outcome (RereadX point) busy a = reread-x present k point a
+  step-outcome ReadRankX busy a = read-rank-x present k a
+  step-outcome (ReadRankY r) busy a = read-rank-y present k r a
+  step-outcome (Link r e) busy a = link-x present k r a e
+  step-outcome (Raise r) busy a = raise-y present k r a (at (m .table) (k .y))
 
 module _ {qs : List Request} {n : ℕ} {B : Labels} {roots₀ : ℕ} {S : State} {past : List Happening}
     (inside : (q : ℕ) → q < length qs → Inside n (requestAt qs q)) (inv : Invariant qs n B roots₀ S past) where

@@ -16,7 +16,7 @@ use native.Mathlib.Decide.{ℕ-discrete}
 use lib.Dec.{eqb}
 use lib.ListN.{length}
 use borrow.Author.Tests.{eq-eqb, ne-eqb}
-use Rattle.basics.proofs.Conditions.{split}
+use Rattle.basics.proofs.Conditions.{split, cond-both}
 use Rattle.job.specs.declared.Kind.{Kind}
 use Rattle.job.specs.declared.Kind.the-variants.{Union, SameSet}
 use Rattle.job.specs.declared.Answer.{Answer}
@@ -83,12 +83,9 @@ module _ (f : Happening → Bool) (a : Happening) (past : List Happening) where
 -- No grant is beyond the present one.
 pub first-bound : (f : Happening → Bool) (past : List Happening) → firstWhere f past ≤ length past
 first-bound f [] = omega arith
-first-bound f (a ∷ past) = go (eqb (firstWhere f past) 0) (f a) (first-bound f past)
-  where
-    go : (s t : Bool) → firstWhere f past ≤ length past → cond s (cond t (suc (length past)) 0) (firstWhere f past) ≤ suc (length past)
-    go true true h = omega arith
-    go true false h = omega arith
-    go false t h = omega arith
+first-bound f (a ∷ past) =
+    cond-both (λ k. k ≤ suc (length past)) (eqb (firstWhere f past) 0)
+    (cond-both (λ k. k ≤ suc (length past)) (f a) (omega arith) (omega arith)) (omega (arith, first-bound f past))
 
 -- A grant that was used for q is its first, or comes after it.
 pub first-positive : (f : Happening → Bool) (a : Happening) (past : List Happening) → f a ≡ true → firstWhere f (a ∷ past) ≢ 0

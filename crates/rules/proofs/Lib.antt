@@ -11,7 +11,6 @@ pub mod Steps
 pub mod Agreement
 pub mod FindSteps
 pub mod UnionSteps
-pub mod StepOutcome
 pub mod Invariant
 pub mod Positions
 pub mod Others

@@ -14,10 +14,10 @@
 -- Main laws: finding-begin and restart-knows, at the start of a request; knows-later, what is known survives any later moment.
 use mathlib.Core.Path.{_≡_, refl, sym, subst}
 use mathlib.Core.Logic.{_≢_}
-use mathlib.Core.Bool.{Bool, true, false, cond}
 use mathlib.Core.List.{List}
 use Prim.Native.Nat.{ℕ, suc, _^_, _≤_, _<_}
 use native.Mathlib.Omega.{arith}
+use Rattle.basics.proofs.Conditions.{cond-both}
 use Rattle.job.specs.declared.Kind.{Kind}
 use Rattle.job.specs.declared.Kind.the-variants.{Union, SameSet}
 use Rattle.job.specs.declared.Request.{Request}
@@ -124,11 +124,7 @@ restart-knows {n} {m} {q} kind k f =
 -- the node that a find has come to is one
 pub find-node : {n : ℕ} {B : ℕ → ℕ} {q : Request} {kind : Kind} (k : Task) → Finding n B q kind (k .x) (k .y)
     → (e : Errand) → nodeAt k e < n
-find-node {n} k f e = go (servesX e)
-  where
-    go : (b : Bool) → cond b (k .x) (k .y) < n
-    go true = f .left
-    go false = f .right
+find-node {n} k f e = cond-both (λ v. v < n) (servesX e) (f .left) (f .right)
 
 -- a pending point is not beyond the present grant
 module _ {n : ℕ} (m : Moment n) (q : Request) (k : Task) where

@@ -4,12 +4,13 @@
 -- nodes; found-parent and found-rank, a swap that writes saw what it expected; fresh-at and fresh-start, the
 -- table at the start.
 use mathlib.Core.Path.{_≡_, refl, ap, _∙_}
-use mathlib.Core.Bool.{Bool, true, false, cond}
+use mathlib.Core.Bool.{true}
 use mathlib.Core.List.{List}
 use Prim.Native.Nat.{ℕ, zero, suc, _+_, _≤_, _<_}
 use native.Mathlib.Omega.{arith}
 use lib.ListN.{length, set, length-set}
 use lib.Seq.{getD-set-same, getD-set-other}
+use Rattle.basics.proofs.Conditions.{cond-both}
 use Rattle.word.specs.declared.Node.{Node}
 use Rattle.word.specs.Word.{same, nodeLimit}
 use Rattle.word.proofs.Laws.{same-true}
@@ -38,11 +39,7 @@ module _ (t : List Node) (i : ℕ) (w : Node) (inside : i < length t) where
 pub length-touched : (t : List Node) (a : Access) → length (touched t a) ≡ length t
 length-touched t Idle = refl
 length-touched t (Load i) = refl
-length-touched t (Cas i expected new) = go (same (at t i) expected)
-  where
-    go : (b : Bool) → length (cond b (set t i new) t) ≡ length t
-    go true = length-set t i new
-    go false = refl
+length-touched t (Cas i expected new) = cond-both (λ l. length l ≡ length t) (same (at t i) expected) (length-set t i new) refl
 
 -- a swap that writes saw what it expected
 module _ (t : List Node) (i : ℕ) (expected : Node) (found : same (at t i) expected ≡ true) where
