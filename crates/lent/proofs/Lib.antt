@@ -1,5 +1,4 @@
--- Laws of the start on lent buffers, the invariant of the loop over the grants, and what the walks by hand share.
-pub mod Prepared
-pub mod Along
+-- What the play ends with, and what the walks by hand share.
+pub mod Ended
 pub mod Again
 pub mod Walks

@@ -7,7 +7,7 @@
 --   value, IsValue   the machine value of a record; that the one stands for the other
 --   typed            a record's machine value is of its MIR type
 --   sees, makes      what is owned of a record shows its machine value, and is had for nothing
---   opens-value      a lent record's borrow is opened: its cell at its machine value
+--   opens-value      a lent record's borrow is first-tally: its cell at its machine value
 --   told-value       what is had of a call by value that returns a struct: what the clause says of it, and what it owns
 --   differs, agrees  what the outcome of a test `!=` says
 use mathlib.Core.Path.{_≡_, refl, subst}
@@ -47,8 +47,8 @@ use Rattle.reader.proofs.Checked as checked-type
 use Rattle.reader.proofs.Checked.Laws as checked-laws
 use Rattle.turns.proofs.Progress as progress-type
 use Rattle.turns.proofs.Progress.Laws as progress-laws
-use Rattle.lent.proofs.Plan as plan-type
-use Rattle.lent.proofs.Plan.Laws as plan-laws
+use Rattle.player.proofs.Plan as plan-type
+use Rattle.player.proofs.Plan.Laws as plan-laws
 
 pub record Setting : Type 2 where
   pub M : Type 1

@@ -1,128 +1,15 @@
--- A play on a lent tally: what stands before the first grant, one grant on the lent buffers, and the tally at the end.
---
---   planOf c hs mask       what is known before the first grant, of these counts, heads and work mask
---   refusedPlan n          the plan of a refusal
---   acceptedPlan file      the plan of an accepted file
---   laidOf, cutLaidOf      the start, on buffers of the job's lengths and on longer ones
---   preparedOf             the buffers and the plan, for any file and any buffers
---   partOf c b             the parts of the buffers b that a job of these counts needs
---   TurnableOn, TurnedOn   what a turn on the lent buffers asks and what it leaves
---   TurnsOn                what it leaves of buffers whose parts show the grants so far
---   closedOf c p t         the answer of an accepted play
---   tallyLeft              what the owner's tally holds at the end
-use mathlib.Core.Path.{_≡_}
+-- A play on a lent tally: what the owner's tally holds at the end.
 use mathlib.Core.Bool.{cond}
-use mathlib.Core.List.{List, _++_, map}
-use Prim.Native.Nat.{ℕ, _*_, _≤_}
+use mathlib.Core.List.{List}
+use Prim.Native.Nat.{ℕ}
 use lib.Dec.{eqb}
-use lib.ListN.{length, take, drop, replicate}
+use lib.ListN.{length}
 use Rattle.job.specs.declared.Tally.{Tally}
-use Rattle.job.specs.declared.Played.{Played}
-use Rattle.word.specs.Word.{encode}
-use Rattle.process.specs.declared.Head.{Head}
-use Rattle.jobfile.specs.Meaning.{refused, meaning}
-use Rattle.mask.specs.Mask.{maskOf}
-use Rattle.reader.specs.declared.Checked.{Checked}
-use Rattle.reader.specs.Reader.{countsOf}
-use Rattle.rules.specs.Table.{fresh}
-use Rattle.rules.specs.State.{resting, headsFrom, tallyOf}
-use Rattle.stepper.specs.Shown.{Buffers, buffers, requestsIn}
-use Rattle.start.specs.Start.{workFlag}
-use Rattle.turns.specs.declared.Progress.{Progress}
-use Rattle.turns.specs.Turns.{StandingAt, Turnable, Turned, firstProgress, runOf}
+use Rattle.jobfile.specs.Meaning.{meaning}
+use Rattle.rules.specs.State.{tallyOf}
+use Rattle.stepper.specs.Shown.{requestsIn}
+use Rattle.turns.specs.Turns.{runOf}
 use Rattle.player.specs.Player.{playRefusal}
-use Rattle.lent.specs.declared.Plan.{Plan}
-
--- ---- before the first grant
-
-abbrev pub planOf : Checked → List Head → ℕ → Plan
-planOf counts heads mask = record { counts = counts; progress = firstProgress heads mask }
-
--- Each refusal gives its number and zero for every count; there is no grant to play.
-abbrev pub refusedPlan : ℕ → Plan
-refusedPlan n =
-    planOf (countsOf (refused n)) (replicate 16 (resting 0)) 0
-
--- Every head rests before its first request.
-abbrev pub acceptedPlan : List ℕ → Plan
-acceptedPlan file =
-    planOf (countsOf (meaning file)) (headsFrom (requestsIn file) 0 16)
-    (maskOf (map (workFlag (length (requestsIn file))) (headsFrom (requestsIn file) 0 16)))
-
-pub record Laid : Type 0 where
-  pub table : List ℕ
-  pub report : List ℕ
-  pub plan : Plan
-
--- Each node its own parent, and the requests' report numbers zero.
-abbrev pub laidOf : List ℕ → ℕ → Laid
-laidOf file rows =
-    record { table = map encode (fresh (meaning file .job .nodes)); report = replicate rows 0; plan = acceptedPlan file }
-
-abbrev pub cutLaidOf : List ℕ → List ℕ → List ℕ → Laid
-cutLaidOf file table report =
-    record {
-      table = map encode (fresh (meaning file .job .nodes)) ++ drop (meaning file .job .nodes) table;
-      report = replicate (4 * length (requestsIn file)) 0 ++ drop (4 * length (requestsIn file)) report;
-      plan = acceptedPlan file;
-    }
-
-pub record Prepared : Type 0 where
-  pub table : List ℕ
-  pub report : List ℕ
-  pub linearization : List ℕ
-  pub plan : Plan
-
--- Refused: every buffer unchanged. Accepted: the start.
-unfoldable pub preparedOf : List ℕ → List ℕ → List ℕ → List ℕ → Prepared
-preparedOf file table report linearization =
-    cond (eqb (playRefusal file (length table) (length report) (length linearization)) 0)
-    (record {
-      table = cutLaidOf file table report .table;
-      report = cutLaidOf file table report .report;
-      linearization = linearization;
-      plan = acceptedPlan file;
-    })
-    (record {
-      table = table;
-      report = report;
-      linearization = linearization;
-      plan = refusedPlan (playRefusal file (length table) (length report) (length linearization));
-    })
-
--- ---- one grant, on the parts of the lent buffers that the job needs
-
-abbrev pub partOf : Checked → Buffers → Buffers
-partOf counts b =
-    buffers (b .heads) (take (counts .nodes) (b .table)) (take (4 * counts .requests) (b .report)) (b .linearization) (b .entries) (b .mask)
-
-pub record TurnableOn (file : List ℕ) (counts : Checked) (p : Progress) (table report linearization : List ℕ) : Type 0 where
-  pub nodes : counts .nodes ≤ length table
-  pub rows : 4 * counts .requests ≤ length report
-  pub turnable : Turnable file (counts .requests) p (take (counts .nodes) table) (take (4 * counts .requests) report) linearization
-
--- The turn is made on the parts, and what is past them stays.
-pub record TurnedOn (file : List ℕ) (counts : Checked) (p p′ : Progress) (b b′ : Buffers) (lent : List ℕ) : Type 0 where
-  pub turned : Turned file p p′ (partOf counts b′) lent
-  pub table-rest : drop (counts .nodes) (b′ .table) ≡ drop (counts .nodes) (b .table)
-  pub report-rest : drop (4 * counts .requests) (b′ .report) ≡ drop (4 * counts .requests) (b .report)
-
-abbrev pub TurnsOn : List ℕ → Checked → Progress → Progress → Buffers → Buffers → Type 0
-TurnsOn file counts p p′ b b′ = (lent : List ℕ) → StandingAt file p (partOf counts b) lent → TurnedOn file counts p p′ b b′ lent
-
--- ---- the end
-
-abbrev pub closedOf : Checked → Progress → Tally → Played
-closedOf counts p tally =
-    record {
-      number = 0;
-      nodes = counts .nodes;
-      heads = counts .heads;
-      requests = counts .requests;
-      grants = counts .grants;
-      entries = p .entries;
-      tally = tally;
-    }
 
 -- The tally is lent by its owner: accepted, it holds what the rules' run counts; refused, it is as lent.
 unfoldable pub tallyLeft : List ℕ → List ℕ → List ℕ → List ℕ → Tally → Tally

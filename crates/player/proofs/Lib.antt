@@ -1,5 +1,6 @@
--- What is checked before a play, from the parts of a play to what it leaves, to demand 3 on the buffers, and to the cuts of a file.
+-- What is checked before a play, the start, the loop over the grants, demand 3 on the buffers, and the cuts of a file.
 pub mod Refusals
-pub mod Parts
+pub mod Prepared
+pub mod Along
 pub mod Demand
 pub mod Cuts

@@ -126,6 +126,9 @@ module _ (file : List ℕ) (table report linearization : ℕ) where
         at (yes z) = ap (λ k. k .number) (is ∙ sym (admission-accepted z)) ∙ accepted-file z ∙ sym z
         at (no d) = ap (λ k. k .number) (is ∙ sym (admission-refused refusal refl d))
 
+    pub admission-counts : refusal ≢ 0 → checked ≡ countsOf (refused refusal)
+    admission-counts d = is ∙ sym (admission-refused refusal refl d)
+
     pub admission-roomy : checked .number ≡ 0 → Roomy file checked table report linearization
     admission-roomy none =
         let accepted = sym admission-number ∙ none in

@@ -98,28 +98,9 @@ playedOf file table report linearization =
 
 -- ---- for the inner functions
 
--- A play on a table and a report of exactly the lengths that the job needs.
-abbrev pub wholeAt : Job → State → List ℕ → Left
-wholeAt j S linearization =
-    record {
-      table = map encode (S .table);
-      report = flatRows (S .report);
-      linearization = flat (S .entries) ++ drop (2 * length (S .entries)) linearization;
-      result = acceptedWith j S;
-    }
-
-abbrev pub wholeOf : Job → List ℕ → Left
-wholeOf j linearization = wholeAt j (runOf j) linearization
-
 pub record Checks (file : List ℕ) (checked : Checked) : Type 0 where
   pub accepted : meaning file .number ≡ 0
   pub counts : checked ≡ countsOf (meaning file)
-
-pub record Whole (file : List ℕ) (checked : Checked) (table report linearization : ℕ) : Type 0 where
-  pub checks : Checks file checked
-  pub nodes : table ≡ meaning file .job .nodes
-  pub rows : report ≡ 4 * length (meaning file .job .requests)
-  pub room : 2 * length (meaning file .job .requests) ≤ linearization
 
 pub record Roomy (file : List ℕ) (checked : Checked) (table report linearization : ℕ) : Type 0 where
   pub checks : Checks file checked

@@ -8,95 +8,26 @@ use start::first_requests;
 use start::fresh_table;
 use start::resting_heads;
 use start::successors;
-use turns::play_grants;
+use turns::Progress;
+use turns::counted;
+use turns::first_progress;
+use turns::first_tally;
+use turns::turn;
 ghost use mathlib.Core.Path.{_≡_};
+ghost use Prim.Native.Nat.{_*_, _≤_};
 ghost use lib.ListN.{length};
-ghost use Rattle.jobfile.specs.Meaning.{meaning};
-ghost use Rattle.player.specs.Player.{refusedWith, left, Whole, wholeOf, Roomy, cutOf, admissionOf, playedOf};
+ghost use Rattle.jobfile.specs.Admitted.{Bytes};
+ghost use Rattle.stepper.specs.Shown.{requestsIn};
+ghost use Rattle.stepper.specs.Index.{Indexes};
+ghost use Rattle.turns.specs.Turns.{buffersOf};
+ghost use Rattle.player.specs.Player.{refusedWith, left, Checks, admissionOf, playedOf};
+ghost use Rattle.player.specs.Plan.{idlePlan, laidOf, preparedOf, TurnableOn, TurnsOn, closedOf};
 ghost use Rattle.player.specs.Demand.{LinearizedHere, LawfulHere};
 
-// A refusal: its number, and zero for every count.
-pub fn refused(number: u32) -> Played
-    ensures { λ r. ⌜ r ≡ refusedWith number ⌝ }
-{
-    Played {
-        number,
-        nodes: 0,
-        heads: 0,
-        requests: 0,
-        grants: 0,
-        entries: 0,
-        tally: Tally {
-            idle: 0,
-            failed: 0,
-            links: 0,
-            working: 0,
-        },
-    }
-}
-
-// Plays an accepted file on a table of one word a node and a report of four numbers a request.
-fn play_whole(
-    file: &[u8],
-    checked: Checked,
-    table: &mut [u32],
-    report: &mut [u32],
-    linearization: &mut [u32],
-) -> Played
-    requires { ⌜ Whole (now file) checked (length (now table)) (length (now report)) (length (now linearization)) ⌝ }
-    ensures { λ r. ⌜ left (now (table .exit)) (now (report .exit)) (now (linearization .exit)) r
-        ≡ wholeOf (meaning (now (file .entry)) .job) (now (linearization .entry)) ⌝ }
-{
-    fresh_table(table);
-    clear_report(report);
-    let firsts = first_requests(file, checked.requests);
-    let index = successors(file, checked.requests);
-    let heads = resting_heads(firsts);
-    let mask = first_mask(firsts, checked.requests);
-    let end = play_grants(
-        file,
-        &index,
-        checked.requests,
-        checked.grants,
-        heads,
-        mask,
-        table,
-        report,
-        linearization,
-    );
-    let tally = end.tally;
-    Played {
-        number: 0,
-        nodes: checked.nodes,
-        heads: checked.heads,
-        requests: checked.requests,
-        grants: checked.grants,
-        entries: end.entries,
-        tally,
-    }
-}
-
-// Plays an accepted file on buffers that are long enough; what is past the places and the requests stays as lent.
-fn play_cut(
-    file: &[u8],
-    checked: Checked,
-    table: &mut [u32],
-    report: &mut [u32],
-    linearization: &mut [u32],
-) -> Played
-    requires { ⌜ Roomy (now file) checked (length (now table)) (length (now report)) (length (now linearization)) ⌝ }
-    ensures { λ r. ⌜ left (now (table .exit)) (now (report .exit)) (now (linearization .exit)) r
-        ≡ cutOf (meaning (now (file .entry)) .job) (now (table .entry)) (now (report .entry)) (now (linearization .entry)) ⌝ }
-{
-    let nodes = checked.nodes as usize;
-    let rows = 4 * (checked.requests as usize);
-    play_whole(
-        file,
-        checked,
-        &mut table[..nodes],
-        &mut report[..rows],
-        linearization,
-    )
+// What is known before the first grant: the counts of the job or a refusal's number, and what the play carries.
+pub struct Plan {
+    pub counts: Checked,
+    pub progress: Progress,
 }
 
 // What is known of a job file and of lent buffers of these lengths before anything is written: the counts of the job, or
@@ -120,6 +51,120 @@ pub fn admission(file: &[u8], table: usize, report: usize, linearization: usize)
     checked
 }
 
+// The plan of a refusal: no grant, and no head with work.
+fn turned_down(counts: Checked) -> Plan
+    ensures { λ r. ⌜ r ≡ idlePlan counts ⌝ }
+{
+    let heads = resting_heads([0u16; 16]);
+    Plan {
+        counts,
+        progress: first_progress(heads, 0),
+    }
+}
+
+// Lays out the start on buffers that are long enough; what is past the nodes and the requests stays as lent.
+fn lay_out(file: &[u8], counts: Checked, table: &mut [u32], report: &mut [u32]) -> Plan
+    requires { ⌜ Checks (now file) counts ⌝ }
+    requires { ⌜ counts .nodes ≤ length (now table) ⌝ }
+    requires { ⌜ 4 * counts .requests ≤ length (now report) ⌝ }
+    ensures { λ r. ⌜ record { table = now (table .exit); report = now (report .exit); plan = r }
+        ≡ laidOf (now (file .entry)) (now (table .entry)) (now (report .entry)) ⌝ }
+{
+    let nodes = counts.nodes as usize;
+    let rows = 4 * (counts.requests as usize);
+    fresh_table(&mut table[..nodes]);
+    clear_report(&mut report[..rows]);
+    let firsts = first_requests(file, counts.requests);
+    let heads = resting_heads(firsts);
+    let mask = first_mask(firsts, counts.requests);
+    Plan {
+        counts,
+        progress: first_progress(heads, mask),
+    }
+}
+
+// Checks the file and the lent buffers, and lays out the start where nothing is refused.
+pub fn prepare(
+    file: &[u8],
+    table: &mut [u32],
+    report: &mut [u32],
+    linearization: &mut [u32],
+) -> Plan
+    ensures { λ r. ⌜ (record { table = now (table .exit); report = now (report .exit); linearization = now (linearization .exit); plan = r }
+        ≡ preparedOf (now (file .entry)) (now (table .entry)) (now (report .entry)) (now (linearization .entry)))
+        × Bytes (now (file .entry)) ⌝ }
+{
+    let counts = admission(file, table.len(), report.len(), linearization.len());
+    if counts.number != 0 {
+        return turned_down(counts);
+    }
+    lay_out(file, counts, table, report)
+}
+
+// One grant on the parts of the lent buffers that the job needs.
+pub fn turn_on(
+    file: &[u8],
+    successors: &[u16],
+    counts: Checked,
+    progress: Progress,
+    table: &mut [u32],
+    report: &mut [u32],
+    linearization: &mut [u32],
+) -> Progress
+    requires { ⌜ TurnableOn (now file) counts progress (now table) (now report) (now linearization) ⌝ }
+    requires { ⌜ Indexes (requestsIn (now file)) (now successors) ⌝ }
+    ensures { λ r. ⌜ TurnsOn (now (file .entry)) counts progress r
+        (buffersOf progress (now (table .entry)) (now (report .entry)) (now (linearization .entry)))
+        (buffersOf r (now (table .exit)) (now (report .exit)) (now (linearization .exit))) ⌝ }
+{
+    let nodes = counts.nodes as usize;
+    let rows = 4 * (counts.requests as usize);
+    turn(
+        file,
+        successors,
+        counts.requests,
+        progress,
+        &mut table[..nodes],
+        &mut report[..rows],
+        linearization,
+    )
+}
+
+// What a refused play answers: the refusal's number, and zero for every count.
+pub fn refused(counts: Checked) -> Played
+    ensures { λ r. ⌜ r ≡ refusedWith (counts .number) ⌝ }
+{
+    Played {
+        number: counts.number,
+        nodes: 0,
+        heads: 0,
+        requests: 0,
+        grants: 0,
+        entries: 0,
+        tally: Tally {
+            idle: 0,
+            failed: 0,
+            links: 0,
+            working: 0,
+        },
+    }
+}
+
+// What a play of an accepted job answers.
+pub fn closed(counts: Checked, progress: Progress, tally: Tally) -> Played
+    ensures { λ r. ⌜ r ≡ closedOf counts progress tally ⌝ }
+{
+    Played {
+        number: 0,
+        nodes: counts.nodes,
+        heads: counts.heads,
+        requests: counts.requests,
+        grants: counts.grants,
+        entries: progress.entries,
+        tally,
+    }
+}
+
 // Plays a job file: any bytes, on any lent buffers.
 pub fn play(file: &[u8], table: &mut [u32], report: &mut [u32], linearization: &mut [u32]) -> Played
     ensures exact { λ r. ⌜ left (now (table .exit)) (now (report .exit)) (now (linearization .exit)) r
@@ -128,9 +173,17 @@ pub fn play(file: &[u8], table: &mut [u32], report: &mut [u32], linearization: &
         → LinearizedHere (now (file .entry)) r (now (table .exit)) (now (report .exit)) (now (linearization .exit))) ⌝ }
     ensures lawful { λ r. ⌜ (r .number ≡ 0 → LawfulHere (now (file .entry)) r (now (table .exit)) (now (report .exit))) ⌝ }
 {
-    let checked = admission(file, table.len(), report.len(), linearization.len());
-    if checked.number != 0 {
-        return refused(checked.number);
+    let plan = prepare(file, table, report, linearization);
+    let counts = plan.counts;
+    if counts.number != 0 {
+        return refused(counts);
     }
-    play_cut(file, checked, table, report, linearization)
+    let index = successors(file, counts.requests);
+    let mut progress = plan.progress;
+    let mut tally = first_tally(progress);
+    while progress.number < counts.grants {
+        progress = turn_on(file, &index, counts, progress, table, report, linearization);
+        tally = counted(tally, progress);
+    }
+    closed(counts, progress, tally)
 }

@@ -18,7 +18,7 @@ use Rattle.rules.specs.Step.{plus, headAt, step}
 use Rattle.rules.specs.Run.{happened}
 use Rattle.stepper.specs.declared.Done.{Done}
 use Rattle.stepper.specs.Shown.{doneOf}
-use Rattle.turns.specs.Turns.{Roomy, countedOf}
+use Rattle.turns.specs.Turns.{Addable, countedOf}
 
 working-count : (qs : List Request) (heads : List Head) → countOf (map (hasWork qs) heads) ≡ working qs heads
 unfolding countOf
@@ -69,5 +69,5 @@ counted-small {t} {number} d mask s =
       links = plus-small (d .linked) (t .links) number (s .links);
     }
 
-pub small-roomy : {t : Tally} {number : ℕ} → number < 4294967295 → Small t number → Roomy t
-small-roomy l s = record { idle = omega (arith, s .idle); failed = omega (arith, s .failed); links = omega (arith, s .links) }
+pub small-addable : {t : Tally} {number : ℕ} → number < 4294967295 → Small t number → Addable t
+small-addable l s = record { idle = omega (arith, s .idle); failed = omega (arith, s .failed); links = omega (arith, s .links) }

@@ -1,6 +1,6 @@
--- The loop over the grants of a file: its cursor, one turn, and what the whole schedule leaves.
+-- The grants of a file: its cursor, one turn, and the tally.
 --
---   Roomy t               a tally that can be added to
+--   Addable t               a tally that can be added to
 --   countedOf t d mask    the tally t after a grant that was d; the fourth number is the mask's count of ones
 --   runsIn file           the runs of a file
 --   scheduleIn file       the grants of a file
@@ -15,33 +15,28 @@
 --   firstProgress hs m    what a play carries before its first grant
 --   firstTally m          the tally before the first grant
 --   runOf j               the rules' run of the job j
---   End, endOf j lent     what the play of the job j leaves
 use mathlib.Core.Path.{_≡_}
 use mathlib.Core.Bool.{false, cond}
-use mathlib.Core.List.{List, [], _++_, map}
-use Prim.Native.Nat.{ℕ, _+_, _-_, _*_, _<_}
+use mathlib.Core.List.{List, _++_}
+use Prim.Native.Nat.{ℕ, _+_, _-_, _<_}
 use lib.Count.{ones}
 use lib.Dec.{eqb}
 use lib.ListN.{length, getD, take, drop, replicate}
 use Rattle.job.specs.declared.Tally.{Tally}
 use Rattle.job.specs.Job.{Job}
-use Rattle.word.specs.Word.{encode}
 use Rattle.process.specs.declared.Head.{Head}
-use Rattle.linearization.specs.Entry.{flat}
 use Rattle.jobfile.specs.declared.Run.{Run}
 use Rattle.jobfile.specs.Meaning.{meaning, granted}
 use Rattle.jobfile.specs.Written.{longestRuns}
-use Rattle.rules.specs.State.{State, tallyOf}
+use Rattle.rules.specs.State.{State}
 use Rattle.rules.specs.Step.{plus}
 use Rattle.rules.specs.Run.{happened}
 use Rattle.stepper.specs.declared.Done.{Done}
-use Rattle.stepper.specs.Buffers.{flatRows}
 use Rattle.stepper.specs.Shown.{Buffers, buffers, shown, doneOf, stateAfter, requestsIn, Playing, Standing}
 use Rattle.turns.specs.declared.Cursor.{Cursor}
 use Rattle.turns.specs.declared.Progress.{Progress}
-use Rattle.turns.specs.declared.Ended.{Ended}
 
-pub record Roomy (tally : Tally) : Type 0 where
+pub record Addable (tally : Tally) : Type 0 where
   pub idle : tally .idle < 4294967295
   pub failed : tally .failed < 4294967295
   pub links : tally .links < 4294967295
@@ -131,27 +126,3 @@ firstTally mask = record { idle = 0; failed = 0; links = 0; working = ones mask 
 
 abbrev pub runOf : Job → State
 runOf j = stateAfter j (j .schedule)
-
-pub record End : Type 0 where
-  pub table : List ℕ
-  pub report : List ℕ
-  pub linearization : List ℕ
-  pub ended : Ended
-
--- What a state shows at the end; numbers past the entries are as lent.
-abbrev pub endAt : Job → State → List ℕ → End
-endAt j S lent =
-    record {
-      table = map encode (S .table);
-      report = flatRows (S .report);
-      linearization = flat (S .entries) ++ drop (2 * length (S .entries)) lent;
-      ended = record { entries = length (S .entries); tally = tallyOf (j .requests) S };
-    }
-
-abbrev pub endOf : Job → List ℕ → End
-endOf j lent = endAt j (runOf j) lent
-
-pub record Startable (file : List ℕ) (requests count : ℕ) (heads : List Head) (mask : ℕ) (table report linearization : List ℕ) : Type 0 where
-  pub playing : Playing file requests
-  pub grants : count ≡ length (scheduleIn file)
-  pub standing : Standing (meaning file .job) (buffers heads table report linearization 0 mask) 1 [] linearization

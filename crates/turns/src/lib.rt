@@ -1,15 +1,15 @@
-// The grants of an accepted file, one after the other: a cursor over its runs, one grant a turn, and the tally.
+// The grants of an accepted file: a cursor over its runs, one grant a turn, and the tally.
 use job::Tally;
 use process::Head;
 use stepper::Done;
 use stepper::grant;
 ghost use mathlib.Core.Path.{_≡_};
 ghost use Prim.Native.Nat.{_<_};
-ghost use Rattle.jobfile.specs.Meaning.{meaning};
 ghost use Rattle.rules.specs.Step.{plus};
 ghost use Rattle.stepper.specs.Shown.{requestsIn, Playing};
 ghost use Rattle.stepper.specs.Index.{Indexes};
-ghost use Rattle.turns.specs.Turns.{Roomy, countedOf, runsIn, openedOf, takenOf, Openable, buffersOf, Turnable, Turns, firstProgress, firstTally, Startable, endOf};
+ghost use Rattle.turns.specs.Turns.{Addable, countedOf, runsIn, openedOf, takenOf, Openable};
+ghost use Rattle.turns.specs.Turns.{buffersOf, Turnable, Turns, firstProgress, firstTally};
 
 // Where a play stands among the runs of the file: the next run, and the head and the grants left of the one under way.
 pub struct Cursor {
@@ -28,12 +28,6 @@ pub struct Progress {
     pub done: Done,
 }
 
-// What a play ends with beside the lent buffers.
-pub struct Ended {
-    pub entries: u32,
-    pub tally: Tally,
-}
-
 // One more where the flag is set.
 fn more(number: u32, flag: bool) -> u32
     requires { ⌜ number < 4294967295 ⌝ }
@@ -45,16 +39,17 @@ fn more(number: u32, flag: bool) -> u32
     number
 }
 
-// The tally after one more grant; its fourth number is the mask's count of ones.
-pub fn counted(tally: Tally, done: Done, mask: u32) -> Tally
-    requires { ⌜ Roomy tally ⌝ }
-    ensures { λ r. ⌜ r ≡ countedOf tally done mask ⌝ }
+// The tally after the grant that a progress tells of; its fourth number is the mask's count of ones.
+pub fn counted(tally: Tally, progress: Progress) -> Tally
+    requires { ⌜ Addable tally ⌝ }
+    ensures { λ r. ⌜ r ≡ countedOf tally (progress .done) (progress .mask) ⌝ }
 {
+    let done = progress.done;
     Tally {
         idle: more(tally.idle, done.idle),
         failed: more(tally.failed, done.failed),
         links: more(tally.links, done.linked),
-        working: mask::count(mask),
+        working: mask::count(progress.mask),
     }
 }
 
@@ -154,51 +149,13 @@ pub fn first_progress(heads: [Head; 16], mask: u32) -> Progress
 }
 
 // The tally before the first grant; its fourth number is the mask's count of ones.
-pub fn first_tally(mask: u32) -> Tally
-    ensures { λ r. ⌜ r ≡ firstTally mask ⌝ }
+pub fn first_tally(progress: Progress) -> Tally
+    ensures { λ r. ⌜ r ≡ firstTally (progress .mask) ⌝ }
 {
     Tally {
         idle: 0,
         failed: 0,
         links: 0,
-        working: mask::count(mask),
-    }
-}
-
-// Plays all grants of an accepted file, from buffers that show the start.
-pub fn play_grants(
-    file: &[u8],
-    successors: &[u16],
-    requests: u32,
-    grants: u32,
-    heads: [Head; 16],
-    mask: u32,
-    table: &mut [u32],
-    report: &mut [u32],
-    linearization: &mut [u32],
-) -> Ended
-    requires { ⌜ Startable (now file) requests grants heads mask (now table) (now report) (now linearization) ⌝ }
-    requires { ⌜ Indexes (requestsIn (now file)) (now successors) ⌝ }
-    ensures { λ r. ⌜ record { table = now (table .exit); report = now (report .exit); linearization = now (linearization .exit); ended = r }
-        ≡ endOf (meaning (now (file .entry)) .job) (now (linearization .entry)) ⌝ }
-{
-    let mut progress = first_progress(heads, mask);
-    let mut tally = first_tally(mask);
-    while progress.number < grants {
-        progress = turn(
-            file,
-            successors,
-            requests,
-            progress,
-            table,
-            report,
-            linearization,
-        );
-        let done = progress.done;
-        tally = counted(tally, done, progress.mask);
-    }
-    Ended {
-        entries: progress.entries,
-        tally,
+        working: mask::count(progress.mask),
     }
 }

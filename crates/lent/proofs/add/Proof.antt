@@ -1,8 +1,8 @@
--- `lent::add` meets its contract: a walk of its MIR, by hand. The tally's borrow is opened, the tally is copied out, `added` is called, and the borrow is closed at what it returns.
--- All that is known of `added` is that it meets its contract.
+-- `lent::add` meets its contract: a walk of its MIR, by hand. The tally's borrow is first-tally, the tally is copied out, `counted` is called, and the borrow is closed at what it returns.
+-- All that is known of `counted` is that it meets its contract.
 --
---   Added, to-added        the contract of `added`; what is passed to it
---   goes-added, added-of   that the caller has what `added` asks; what it says of its result
+--   Counted, to-counted        the contract of `counted`; what is passed to it
+--   goes-counted, counted-of   that the caller has what `counted` asks; what it says of its result
 --   x, at                  the parameters and their machine values
 --   Post, exits            what the contract's exit asks; that it is had
 use mathlib.Core.Path.{_≡_, refl}
@@ -39,12 +39,12 @@ use denote.Triple.Walked.{says, needs, Stays, stay-ref, stay-none, walkOf, AllGo
 use denote.Exit.{yes}
 use Rattle.job.specs.declared.Tally.{Tally}
 use Rattle.turns.specs.declared.Progress.{Progress}
-use Rattle.turns.specs.Turns.{Roomy, countedOf}
+use Rattle.turns.specs.Turns.{Addable, countedOf}
 use Rattle.lent.proofs.Walks.{row, value, IsValue, typed, sees, makes, opens-value, tally-struct, progress-struct}
-use Rattle.lent.proofs.added as added
-use Rattle.lent.proofs.added.Symbol as added-def
-use Rattle.lent.proofs.added.Symbol.{name as #lent·added}
-use Rattle.lent.proofs.added.Met as added-thm
+use Rattle.turns.proofs.counted as counted
+use Rattle.turns.proofs.counted.Symbol as counted-def
+use Rattle.turns.proofs.counted.Symbol.{name as #turns·counted}
+use Rattle.turns.proofs.counted.Met as counted-thm
 use Rattle.lent.proofs.add.Key.{name as #lent·add}
 use Rattle.lent.proofs.add as f
 use Rattle.lent.proofs.add.Statement as stated
@@ -55,11 +55,11 @@ stayed = (stay-ref (0 ∷ []) tt (plain (λ _. row tally-struct)), (stay-none (�
 
 module _ {M : Type 1} (𝓤 : URA M) (H : Heap 𝓤) (A : Atoms 𝓤) (at-mem : Memory → SProp 𝓤) (run : Routine → Fun 𝓤) where
   -- the contract that the proof cites
-  abbrev Added : Contract 𝓤
-  Added = tripleOf 𝓤 H A added.signature (added.spec 𝓤 H A at-mem run)
+  abbrev Counted : Contract 𝓤
+  Counted = tripleOf 𝓤 H A counted.signature (counted.spec 𝓤 H A at-mem run)
 
 module _ {M : Type 1} (𝓤 : URA M) (H : Heap 𝓤) (A : Atoms 𝓤) (W : Given 𝓤 H A) (at-mem : Memory → SProp 𝓤) (run : Routine → Fun 𝓤) (lifetime : Lft) (share : Share) (block offset : ℕ) (name : GName)
-    (tally₀ : Tally) (progress₀ : Progress) (roomy : Roomy tally₀) (is-progress : IsValue progress-struct progress₀) where
+    (tally₀ : Tally) (progress₀ : Progress) (roomy : Addable tally₀) (is-progress : IsValue progress-struct progress₀) where
   abbrev Arg : Type 0
   Arg = RefT Tally × (Progress × Unit {0})
 
@@ -89,20 +89,20 @@ module _ {M : Type 1} (𝓤 : URA M) (H : Heap 𝓤) (A : Atoms 𝓤) (W : Given
       frame ! $ feqI ! (List Val) (vptr block offset ∷ []) (vptr block offset ∷ []) refl $ fjoin3 ! $ nothing ! $ makes ! progress-struct progress₀ _ is-progress $ fjoin ! $ move ! (1 ∷ 0 ∷ []) $ fjoin ! $
       feqI ! (List Val) (vunit ∷ []) (vunit ∷ []) refl $ move ! (1 ∷ 0 ∷ []) $ done !
 
-  -- what `added` is passed, and that the caller has what it asks
-  abbrev to-added : Added 𝓤 H A at-mem run .Ghost
-  to-added = ((tt, tt, tt, (tally₀, (progress₀, tt)), (tally-value ∷ [], (progress-value ∷ [], tt))), tt)
+  -- what `counted` is passed, and that the caller has what it asks
+  abbrev to-counted : Counted 𝓤 H A at-mem run .Ghost
+  to-counted = ((tt, tt, tt, (tally₀, (progress₀, tt)), (tally-value ∷ [], (progress-value ∷ [], tt))), tt)
 
-  goes-added : ent 𝓤 (sep 𝓤 (sem 𝓤 H A (row tally-struct .own tally₀ (tally-value ∷ []))) (sem 𝓤 H A (row progress-struct .own progress₀ (progress-value ∷ [])))) (Added 𝓤 H A at-mem run .pre to-added)
-  goes-added =
+  goes-counted : ent 𝓤 (sep 𝓤 (sem 𝓤 H A (row tally-struct .own tally₀ (tally-value ∷ []))) (sem 𝓤 H A (row progress-struct .own progress₀ (progress-value ∷ [])))) (Counted 𝓤 H A at-mem run .pre to-counted)
+  goes-counted =
       qed W (‵ (row tally-struct .own tally₀ (tally-value ∷ [])) ∷ ‵ (row progress-struct .own progress₀ (progress-value ∷ [])) ∷ []) ∵ says ! roomy $ nothing ! $ frame ! $
       nothing ! $ move ! (2 ∷ 0 ∷ []) $ fjoin ! $ move ! (1 ∷ 0 ∷ []) $ fjoin ! $ done !
 
-  -- of what `added` ensures, the clause alone
-  added-of : (r : Tally) → ent 𝓤 (ensured 𝓤 H A added.ended (added.clauses 𝓤 H A at-mem run) tt (tally₀, (progress₀, tt)) tt r) (fact 𝓤 (r ≡ tally′))
-  added-of r = exE 𝓤 _ (λ ws. snd∗ 𝓤 (sem 𝓤 H A (lasts added.ended tt (tally₀, (progress₀, tt)) ws)) (fact 𝓤 (r ≡ tally′)))
+  -- of what `counted` ensures, the clause alone
+  counted-of : (r : Tally) → ent 𝓤 (ensured 𝓤 H A counted.ended (counted.clauses 𝓤 H A at-mem run) tt (tally₀, (progress₀, tt)) tt r) (fact 𝓤 (r ≡ tally′))
+  counted-of r = exE 𝓤 _ (λ ws. snd∗ 𝓤 (sem 𝓤 H A (lasts counted.ended tt (tally₀, (progress₀, tt)) ws)) (fact 𝓤 (r ≡ tally′)))
 
-  module _ (C : Calls 𝓤 H) (Λ : Loops 𝓤 H) (fm : FmC 𝓤 H (W .laws) C) (known : Triple 𝓤 (C #lent·added) (Added 𝓤 H A at-mem run)) where
+  module _ (C : Calls 𝓤 H) (Λ : Loops 𝓤 H) (fm : FmC 𝓤 H (W .laws) C) (known : Triple 𝓤 (C #turns·counted) (Counted 𝓤 H A at-mem run)) where
     walk : ent 𝓤 (onEntry 𝓤 H A f.signature (lifetime, tt) (share, tt) x at) (WpFn 𝓤 H C Λ code.function (vptr block offset ∷ progress-value ∷ []) Post)
     walk =
         qed W ((‵ (flft lifetime share) ⊛ ‵ ftrue) ∷ ‵ (owns (MutRef (named 0) lifetime (row tally-struct) ∷ (row progress-struct) ∷ []) x at) ∷ []) ∵ split ! $ move ! (2 ∷ []) $ fsplit ! $ move ! (1 ∷ []) $ fsplit ! $
@@ -114,10 +114,10 @@ module _ {M : Type 1} (𝓤 : URA M) (H : Heap 𝓤) (A : Atoms 𝓤) (W : Given
         move ! (10 ∷ 11 ∷ 12 ∷ []) $ opens-value ! tt tally-struct tally₀ block offset (λ was.
         -- [the tally's cell; what it owns; the open borrow; obs; auth; _4; …; _3; …; _2; …; _1; …; room for _0; …; what the progress owns; true; true]
         assigns ! (of-opd ! (load ! (from ! (hop ! (look ! 11 refl) (stop !))) (look-raw ! 0 refl))) (from ! (stop !)) (init ! 5 refl (typed W tally-struct tally₀ was)) $
-        move ! (1 ∷ 15 ∷ []) $ use2 W (raw (Added 𝓤 H A at-mem run .pre to-added)) goes-added $
-        calls-at ! fm (Added 𝓤 H A at-mem run) known to-added (and-then ! (load ! (from ! (stop !)) (look ! 5 refl)) (and-then ! (load ! (from ! (stop !)) (look ! 9 refl)) (no-more !))) (λ v.
-        use1 W (later (some (λ (r : Tally). (‵ ftrue ⊛ ‵ (row tally-struct .own r (v ∷ []))) ⊛ raw (ensured 𝓤 H A added.ended (added.clauses 𝓤 H A at-mem run) tt (tally₀, (progress₀, tt)) tt r)))) (id⊢ 𝓤 _) $ await ! tt $ pick ! (λ r.
-        split ! $ move ! (1 ∷ []) $ use1 W (raw (fact 𝓤 (r ≡ tally′))) (added-of r) $ heard ! (r ≡ tally′) (λ e. split ! $ drop ! $
+        move ! (1 ∷ 15 ∷ []) $ use2 W (raw (Counted 𝓤 H A at-mem run .pre to-counted)) goes-counted $
+        calls-at ! fm (Counted 𝓤 H A at-mem run) known to-counted (and-then ! (load ! (from ! (stop !)) (look ! 5 refl)) (and-then ! (load ! (from ! (stop !)) (look ! 9 refl)) (no-more !))) (λ v.
+        use1 W (later (some (λ (r : Tally). (‵ ftrue ⊛ ‵ (row tally-struct .own r (v ∷ []))) ⊛ raw (ensured 𝓤 H A counted.ended (counted.clauses 𝓤 H A at-mem run) tt (tally₀, (progress₀, tt)) tt r)))) (id⊢ 𝓤 _) $ await ! tt $ pick ! (λ r.
+        split ! $ move ! (1 ∷ []) $ use1 W (raw (fact 𝓤 (r ≡ tally′))) (counted-of r) $ heard ! (r ≡ tally′) (λ e. split ! $ drop ! $
         sees ! tally-struct r (v ∷ []) (λ is.
         -- [what the new tally owns; the tally's cell; the open borrow; obs; auth; _4; …; _3; …; _2; …; _1; …; room for _0; …]
         land ! (from ! (stop !)) (init ! 7 refl (typed W tally-struct r is)) $
@@ -129,18 +129,18 @@ module _ {M : Type 1} (𝓤 : URA M) (H : Heap 𝓤) (A : Atoms 𝓤) (W : Given
         keep ! (0 ∷ 1 ∷ 2 ∷ []) $ by ! (exits r e)))))))))))
 
 module _ {M : Type 1} (𝓤 : URA M) (H : Heap 𝓤) (A : Atoms 𝓤) (W : Given 𝓤 H A) (at-mem : Memory → SProp 𝓤) (run : Routine → Fun 𝓤) where
-  add-walks : (C : Calls 𝓤 H) (Λ : Loops 𝓤 H) → FmC 𝓤 H (W .laws) C → Triple 𝓤 (C #lent·added) (Added 𝓤 H A at-mem run)
+  add-walks : (C : Calls 𝓤 H) (Λ : Loops 𝓤 H) → FmC 𝓤 H (W .laws) C → Triple 𝓤 (C #turns·counted) (Counted 𝓤 H A at-mem run)
       → Walks 𝓤 H A f.ended stayed (WpFn 𝓤 H C Λ code.function) (f.clauses 𝓤 H A at-mem run)
   add-walks C Λ fm known = walked 𝓤 H A f.ended stayed (f.clauses 𝓤 H A at-mem run) (WpFn 𝓤 H C Λ code.function)
       (λ κs. (ptr-vals, (LL.vals (progress-struct .type) (progress-struct .laws), tt))) (λ κs. (mut-tells (named 0) (κs .0) (row tally-struct), (LL.tells (progress-struct .type) (progress-struct .laws), tt)))
-      (λ κs qs bounds a g are. needs 𝓤 (Roomy (a .0 .now)) _ (λ roomy.
+      (λ κs qs bounds a g are. needs 𝓤 (Addable (a .0 .now)) _ (λ roomy.
       walk 𝓤 H A W at-mem run (κs .0) (qs .0) (a .0 .ptr .0) (a .0 .ptr .1) (a .0 .name) (a .0 .now) (a .1 .0) roomy (are .1 .0) C Λ fm known))
 
   goes : AllGo 𝓤 H A W 1 (f.signature .params) (f.ended .kept) stayed
   goes = (goes-ref 𝓤 H A W 1 0 tt (plain (λ _. row tally-struct)), (goes-none 𝓤 H A W 1 (λ _. row progress-struct) yes (λ κs x f. refl), tt))
 
 add-meets : {M : Type 1} (𝓤 : URA M) (H : Heap 𝓤) (A : Atoms 𝓤) (W : Given 𝓤 H A) (at-mem : Memory → SProp 𝓤) (run : Routine → Fun 𝓤) (𝓣 : Tables 𝓤 H)
-    → Triple 𝓤 (𝓣 .C #lent·added) (Added 𝓤 H A at-mem run) → Meets 𝓤 H A f.signature (WpFn 𝓤 H (𝓣 .C) (𝓣 .Λ) code.function) (f.spec 𝓤 H A at-mem run)
+    → Triple 𝓤 (𝓣 .C #turns·counted) (Counted 𝓤 H A at-mem run) → Meets 𝓤 H A f.signature (WpFn 𝓤 H (𝓣 .C) (𝓣 .Λ) code.function) (f.spec 𝓤 H A at-mem run)
 add-meets 𝓤 H A W at-mem run 𝓣 known = walk-meets 𝓤 H A f.ended stayed W (goes 𝓤 H A W at-mem run) (f.clauses 𝓤 H A at-mem run) (WpFn 𝓤 H (𝓣 .C) (𝓣 .Λ) code.function) (WpFn-mono 𝓤 H (W .laws) 𝓣 code.function)
     (add-walks 𝓤 H A W at-mem run (𝓣 .C) (𝓣 .Λ) (fmOf 𝓤 H (W .laws) 𝓣) known)
 
@@ -150,4 +150,4 @@ add-spec 𝓤 H 𝓜 𝓖 𝓡 =
     entered 𝓤 H (tripleOf 𝓤 H (𝓖 .A) f.signature (f.spec 𝓤 H (𝓖 .A) (𝓜 .mem) (𝓡 .run)))
     (tables 𝓤 H 𝓜 𝓡 code.env .C) (tables 𝓤 H 𝓜 𝓡 code.env .Λ) #lent·add code.function (code.unfolded 𝓤 H 𝓜 𝓡)
     (add-meets 𝓤 H (𝓖 .A) (givenOf 𝓤 H 𝓜 𝓖) (𝓜 .mem) (𝓡 .run) (tablesOf 𝓤 H 𝓜 (tables 𝓤 H 𝓜 𝓡 code.env))
-    (cited 𝓤 H (Added 𝓤 H (𝓖 .A) (𝓜 .mem) (𝓡 .run)) 𝓜 𝓡 code.env #lent·added added-def.routine code.calls-lent·added (added-thm.met 𝓤 H 𝓜 𝓖 𝓡)))
+    (cited 𝓤 H (Counted 𝓤 H (𝓖 .A) (𝓜 .mem) (𝓡 .run)) 𝓜 𝓡 code.env #turns·counted counted-def.routine code.calls-turns·counted (counted-thm.met 𝓤 H 𝓜 𝓖 𝓡)))

@@ -1,5 +1,5 @@
 -- `lent::grouping_play_lent` meets its contract: a walk of its MIR, by hand, with one loop and one branch.
--- The three slices are lent on for each call and come back; the tally's borrow is opened to read and to store it, and lent on to `add` at each grant.
+-- The three slices are lent on for each call and come back; the tally's borrow is first-tally to read and to store it, and lent on to `add` at each grant.
 -- `Held` has what is owned of the parameters, `Calls` what each call gets and leaves, `Frame` the locals and the exit, `Loop` the walk from the loop on.
 --
 --   preparing, choosing, opening   the walk to the loop, cut at the calls and at the branch
@@ -41,40 +41,41 @@ use denote.Triple.Walked.{AllGo, goes-none-slice, goes-ref, goes-slice, Walks, w
 use denote.Exit.{yes}
 use Rattle.job.specs.declared.Tally.{Tally}
 use Rattle.job.specs.declared.Played.{Played}
-use Rattle.lent.specs.declared.Plan.{Plan}
+use Rattle.player.specs.declared.Plan.{Plan}
 use Rattle.reader.specs.declared.Checked.{Checked}
 use Rattle.turns.specs.declared.Progress.{Progress}
 use Rattle.turns.specs.Turns.{firstTally}
 use Rattle.player.specs.Player.{refusedWith}
-use Rattle.lent.proofs.Along.{Ended, refused-end, along-start}
+use Rattle.player.proofs.Along.{along, lending-start}
+use Rattle.lent.proofs.Ended.{Ended, refused-ended}
 use Rattle.lent.proofs.Walks.{Setting, lent, row, value, IsValue, differs, agrees, told, typed, sees, makes, opens-value}
 use Rattle.lent.proofs.Walks.{tally-struct, checked-struct, progress-struct, plan-struct, played-struct}
-use Rattle.lent.proofs.prepare.Symbol as prepare-def
-use Rattle.lent.proofs.prepare.Symbol.{name as #lent·prepare}
-use Rattle.lent.proofs.prepare.Met as prepare-thm
-use Rattle.lent.proofs.declined.Symbol as declined-def
-use Rattle.lent.proofs.declined.Symbol.{name as #lent·declined}
-use Rattle.lent.proofs.declined.Met as declined-thm
-use Rattle.lent.proofs.opened.Symbol as opened-def
-use Rattle.lent.proofs.opened.Symbol.{name as #lent·opened}
-use Rattle.lent.proofs.opened.Met as opened-thm
-use Rattle.lent.proofs.turn_on.Symbol as turn-on-def
-use Rattle.lent.proofs.turn_on.Symbol.{name as #lent·turn-on}
-use Rattle.lent.proofs.turn_on.Met as turn-on-thm
+use Rattle.player.proofs.prepare.Symbol as prepare-def
+use Rattle.player.proofs.prepare.Symbol.{name as #player·prepare}
+use Rattle.player.proofs.prepare.Met as prepare-thm
+use Rattle.player.proofs.refused.Symbol as refused-def
+use Rattle.player.proofs.refused.Symbol.{name as #player·refused}
+use Rattle.player.proofs.refused.Met as refused-thm
+use Rattle.turns.proofs.first_tally.Symbol as first-tally-def
+use Rattle.turns.proofs.first_tally.Symbol.{name as #turns·first-tally}
+use Rattle.turns.proofs.first_tally.Met as first-tally-thm
+use Rattle.lent.proofs.turn_searching.Symbol as turn-searching-def
+use Rattle.lent.proofs.turn_searching.Symbol.{name as #lent·turn-searching}
+use Rattle.lent.proofs.turn_searching.Met as turn-searching-thm
 use Rattle.lent.proofs.add.Symbol as add-def
 use Rattle.lent.proofs.add.Symbol.{name as #lent·add}
 use Rattle.lent.proofs.add.Met as add-thm
-use Rattle.lent.proofs.closed.Symbol as closed-def
-use Rattle.lent.proofs.closed.Symbol.{name as #lent·closed}
-use Rattle.lent.proofs.closed.Met as closed-thm
+use Rattle.player.proofs.closed.Symbol as closed-def
+use Rattle.player.proofs.closed.Symbol.{name as #player·closed}
+use Rattle.player.proofs.closed.Met as closed-thm
 use Rattle.lent.proofs.grouping_play_lent.Key.{name as #lent·grouping-play-lent}
 use Rattle.lent.proofs.grouping_play_lent as f
 use Rattle.lent.proofs.grouping_play_lent.Statement as stated
 use Rattle.lent.proofs.grouping_play_lent.Code as code
 use Rattle.lent.proofs.grouping_play_lent.Code.Mir as mir-of
 use Held.{Parameters, Loans, lists₀, tally-pointer, Back, Buffers, Owner, Passed, Kept, Lending, Over, lends, comes}
-use Calls.{Prepare, Declined, Opened, TurnOn, Add, Closed, Known, Told, Prepares, to-prepare, goes-prepare, Prepared-with, told-prepare}
-use Calls.{to-declined, goes-declined, told-declined, to-opened, goes-opened, told-opened}
+use Calls.{Prepare, Refused, FirstTally, TurnSearching, Add, Closed, Known, Told, Prepares, to-prepare, goes-prepare, Prepared-with, told-prepare}
+use Calls.{to-refused, goes-refused, told-refused, to-first-tally, goes-first-tally, told-first-tally}
 use Frame.{entry, stayed, τ, Here, lifetimes, shares, x, at, values, En, room, full, Locals, Post, ends, Runs}
 use Loop.{looped}
 
@@ -107,11 +108,11 @@ module _ (w : Setting) (P : Parameters) where
           assigns ! (of-opd ! (load ! (from ! (fld ! refl (stop !))) (look-in ! 48 (sub ! 1 refl (whole !))))) (from ! (stop !))
           (init ! 44 refl (typed W progress-struct progress is-progress)) $
           makes ! progress-struct progress _ is-progress $
-          use1 W (raw (Opened w .pre (to-opened w P progress))) (goes-opened w P progress) $
-          calls-at ! fm (Opened w) (known .opened) (to-opened w P progress)
+          use1 W (raw (FirstTally w .pre (to-first-tally w P progress))) (goes-first-tally w P progress) $
+          calls-at ! fm (FirstTally w) (known .first-tally) (to-first-tally w P progress)
           (and-then ! (load ! (from ! (stop !)) (look ! 45 refl)) (no-more !)) (λ v.
           use1 W (later (some (λ (h : Tally). given (h ≡ firstTally (progress .mask)) (‵ (row tally-struct .own h (v ∷ []))))))
-          (told-opened w P progress v) $ await ! tt $ pick ! (λ h. learn ! (λ e.
+          (told-first-tally w P progress v) $ await ! tt $ pick ! (λ h. learn ! (λ e.
           sees ! tally-struct h (v ∷ []) (λ is. land ! (from ! (stop !)) (init ! 29 refl (typed W tally-struct h is)) $
           -- [what the new tally owns; the file and the slices; the tally and its token; the locals]
           move ! (9 ∷ []) $ fsplit3 ! $ drop ! $ move ! (0 ∷ 1 ∷ 11 ∷ []) $
@@ -127,10 +128,11 @@ module _ (w : Setting) (P : Parameters) where
         where
           start : (h : Tally) → h ≡ firstTally (progress .mask) → Here P counts
           start h e =
-              along-start (entry P) (z .left .table) (z .left .report) (z .left .linearization) (z .result) (prepared .bytes)
-              (prepared .exact) (prepared .same .table) (prepared .same .report) accepted h e (prepared .same .linearization)
+              along (entry P) counts
+              (lending-start (entry P) (z .left .table) (z .left .report) (z .left .linearization) (z .result) (prepared .bytes)
+              (prepared .exact) accepted (prepared .same .table) (prepared .same .report) (prepared .same .linearization) h e)
 
-      -- the counts are taken from the plan; refused, `declined` answers and the function returns
+      -- the counts are taken from the plan; refused, `refused` answers and the function returns
       choosing :
           Sq W (Buffers w P (z .left) ++ Owner w P (P .tally .entry)
           ++ Locals w L P (room w L 8) (room w L 7) (full w L 6 (value plan-struct (z .result)))) (Runs w P known L mir-of.t-8)
@@ -141,11 +143,11 @@ module _ (w : Setting) (P : Parameters) where
           (from ! (stop !)) (init ! 30 refl (tt, tt)) $
           first ! $ branches ! (load ! (from ! (stop !)) (look ! 30 refl))
           (λ t. makes ! checked-struct counts _ is-counts $
-          use1 W (raw (Declined w .pre (to-declined w P counts))) (goes-declined w P counts) $
-          calls-at ! fm (Declined w) (known .declined) (to-declined w P counts)
+          use1 W (raw (Refused w .pre (to-refused w P counts))) (goes-refused w P counts) $
+          calls-at ! fm (Refused w) (known .refused) (to-refused w P counts)
           (and-then ! (load ! (from ! (stop !)) (look ! 47 refl)) (no-more !)) (λ v.
           use1 W (later (some (λ (r : Played). given (r ≡ refusedWith (counts .number)) (‵ (row played-struct .own r (v ∷ []))))))
-          (told-declined w P counts v) $ await ! tt $ pick ! (λ r. learn ! (λ e.
+          (told-refused w P counts v) $ await ! tt $ pick ! (λ r. learn ! (λ e.
           sees ! played-struct r (v ∷ []) (λ is. land ! (from ! (stop !)) (init ! 61 refl (typed W played-struct r is)) $
           -- [what the answer owns; the file and the slices; the tally and its token; the locals]
           move ! (9 ∷ []) $ fsplit3 ! $ drop ! $ move ! (2 ∷ 0 ∷ 1 ∷ 11 ∷ []) $
@@ -157,10 +159,10 @@ module _ (w : Setting) (P : Parameters) where
           forget ! 30 refl $ opening (agrees (counts .number) 0 t))
         where
           refused-here : counts .number ≢ 0 → (r : Played) → r ≡ refusedWith (counts .number)
-              → Ended (entry P) (P .tally .entry) (z .left .table) (z .left .report) (z .left .linearization) r
+              → Ended (entry P) (P .tally .entry) (P .tally .entry) (z .left .table) (z .left .report) (z .left .linearization) r
           refused-here d r e =
-              refused-end (entry P) (z .left .table) (z .left .report) (z .left .linearization) (z .result) (prepared .bytes)
-              (prepared .exact) (prepared .same .table) (prepared .same .report) d r e
+              refused-ended (entry P) (P .tally .entry) (z .left .table) (z .left .report) (z .left .linearization) (z .result)
+              (prepared .bytes) (prepared .exact) d r e
 
     -- the slices are lent on to `prepare`, and come back
     preparing : Sq W (Buffers w P (lists₀ P) ++ Owner w P (P .tally .entry) ++ Locals w L P (room w L 8) (room w L 7) (room w L 6)) (Runs w P known L mir-of.t-1)
@@ -233,11 +235,11 @@ grouping-play-lent-spec {M} 𝓤 H 𝓜 𝓖 𝓡 =
     (tables 𝓤 H 𝓜 𝓡 code.env .C) (tables 𝓤 H 𝓜 𝓡 code.env .Λ) #lent·grouping-play-lent code.function (code.unfolded 𝓤 H 𝓜 𝓡)
     (meets w (record {
       tables = tablesOf 𝓤 H 𝓜 (tables 𝓤 H 𝓜 𝓡 code.env);
-      prepare = cited 𝓤 H (Prepare w) 𝓜 𝓡 code.env #lent·prepare prepare-def.routine code.calls-lent·prepare (prepare-thm.met 𝓤 H 𝓜 𝓖 𝓡);
-      declined = cited 𝓤 H (Declined w) 𝓜 𝓡 code.env #lent·declined declined-def.routine code.calls-lent·declined
-          (declined-thm.met 𝓤 H 𝓜 𝓖 𝓡);
-      opened = cited 𝓤 H (Opened w) 𝓜 𝓡 code.env #lent·opened opened-def.routine code.calls-lent·opened (opened-thm.met 𝓤 H 𝓜 𝓖 𝓡);
-      turn-on = cited 𝓤 H (TurnOn w) 𝓜 𝓡 code.env #lent·turn-on turn-on-def.routine code.calls-lent·turn-on (turn-on-thm.met 𝓤 H 𝓜 𝓖 𝓡);
+      prepare = cited 𝓤 H (Prepare w) 𝓜 𝓡 code.env #player·prepare prepare-def.routine code.calls-player·prepare (prepare-thm.met 𝓤 H 𝓜 𝓖 𝓡);
+      refused = cited 𝓤 H (Refused w) 𝓜 𝓡 code.env #player·refused refused-def.routine code.calls-player·refused
+          (refused-thm.met 𝓤 H 𝓜 𝓖 𝓡);
+      first-tally = cited 𝓤 H (FirstTally w) 𝓜 𝓡 code.env #turns·first-tally first-tally-def.routine code.calls-turns·first-tally (first-tally-thm.met 𝓤 H 𝓜 𝓖 𝓡);
+      turn-searching = cited 𝓤 H (TurnSearching w) 𝓜 𝓡 code.env #lent·turn-searching turn-searching-def.routine code.calls-lent·turn-searching (turn-searching-thm.met 𝓤 H 𝓜 𝓖 𝓡);
       add = cited 𝓤 H (Add w) 𝓜 𝓡 code.env #lent·add add-def.routine code.calls-lent·add (add-thm.met 𝓤 H 𝓜 𝓖 𝓡);
-      closed = cited 𝓤 H (Closed w) 𝓜 𝓡 code.env #lent·closed closed-def.routine code.calls-lent·closed (closed-thm.met 𝓤 H 𝓜 𝓖 𝓡);
+      closed = cited 𝓤 H (Closed w) 𝓜 𝓡 code.env #player·closed closed-def.routine code.calls-player·closed (closed-thm.met 𝓤 H 𝓜 𝓖 𝓡);
     }))

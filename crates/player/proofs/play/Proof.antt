@@ -1,80 +1,196 @@
--- `player::play`: refused, nothing is written; else the play, and demand 3 and the laws of every moment on what it leaves.
-use mathlib.Core.Path.{_≡_, sym, ap, _∙_}
+-- `player::play`: refused, nothing is written; else the loop keeps what the start laid out, and demand 3 and the laws of
+-- every moment hold of what it leaves.
+use mathlib.Core.Path.{refl}
+use mathlib.Core.List.{List}
+use Prim.Native.Nat.{ℕ, _-_}
 use native.Mathlib.Omega.{arith}
 use borrow.Author.Needs.{needs}
-use lib.ListN.{length}
-use Rattle.jobfile.specs.Admitted.{Bytes}
-use Rattle.jobfile.proofs.RoundTrip.{admitted-meaning}
-use Rattle.player.proofs.Refusals.{accepted-file, admission-number, admission-roomy, refused-left, accepted-left}
-use Rattle.player.proofs.Demand.{linearized-here, lawful-here}
+use Rattle.turns.specs.Turns.{firstTally}
+use Rattle.player.proofs.Along.{entry, Lending, along, lending-start, refused-end}
+use Rattle.player.proofs.Along.{along-turnable, along-addable, along-next, along-end}
 use Rattle.player.proofs.play.Statement.{statement}
 use Rattle.player.proofs.play.Tie as tie
 
-admission-requires : tie.Need-admission-requires
-admission-requires c κs = search needs
+-- whatever the buffers were when they were lent, a turn keeps what the loop began with
+abbrev Inv-loop : tie.InvT-loop
+Inv-loop file table₀ report₀ linearization₀ counts index progress₀ tally₀ table report linearization progress tally =
+    (t r l : List ℕ) → Lending (entry file t r l) counts progress₀ tally₀ table₀ report₀ linearization₀
+    → Lending (entry file t r l) counts progress tally table report linearization
 
-refused-requires : tie.Need-refused-requires
+abbrev μ-loop : tie.MeasureT-loop
+μ-loop file table₀ report₀ linearization₀ counts index progress₀ tally₀ table report linearization progress tally =
+    counts .grants - progress .number
+
+prepare-requires : tie.Need-prepare-requires Inv-loop μ-loop
+prepare-requires c κs = search needs
+
+refused-requires : tie.Need-refused-requires Inv-loop μ-loop
 refused-requires c κs = search needs
 
-returns : tie.Need-returns
-returns c =
-    let tested = c .before in
-    let judged = tested .before .before in
-    let start = judged .before .before .before .before .before in
-    let a = start .args in
-    let e = c .refused .ensures in
-    let never : c .refused .result .number ≡ 0 → ⊥ = λ z. tested .if1 .taken (sym (ap (λ p. p .number) e) ∙ z) in (
-      refused-left (a .file .now) (a .table .now) (a .report .now) (a .linearization .now) (c .refused .result) _ e
-          (admission-number (a .file .now) (length (a .table .now)) (length (a .report .now)) (length (a .linearization .now)) _ (judged .admission .ensures)) (tested .if1 .taken),
-      (λ z. absurd (never z), λ z. absurd (never z)),
-    )
-
-play-cut-requires : tie.Need-play-cut-requires
-play-cut-requires c κs =
-    let tested = c .before .before .before in
-    let judged = tested .before .before in
-    let start = judged .before .before .before .before .before in
-    let a = start .args in
-    admission-roomy (a .file .now) (length (a .table .now)) (length (a .report .now)) (length (a .linearization .now)) _ (judged .admission .ensures) (tested .if1 .left)
-
-same-length : tie.Need-same-length
+same-length : tie.Need-same-length Inv-loop μ-loop
 same-length c = search needs
 
-same-length-2 : tie.Need-same-length-2
+same-length-2 : tie.Need-same-length-2 Inv-loop μ-loop
 same-length-2 c = search needs
 
-same-length-3 : tie.Need-same-length-3
+same-length-3 : tie.Need-same-length-3 Inv-loop μ-loop
 same-length-3 c = search needs
 
-returns-2 : tie.Need-returns-2
+returns : tie.Need-returns Inv-loop μ-loop
+returns c =
+    let made = c .before .before .before .before .before .before .before .before .before .before in
+    let a = made .before .before .before .before .before .before .before .before .args in
+    let e =
+    refused-end (entry (a .file .now) (a .table .now) (a .report .now) (a .linearization .now)) _ _ _ (made .prepare .result)
+    (made .prepare .ensures .1) (made .prepare .ensures .0) (c .before .if1 .taken) (c .refused .result) (c .refused .ensures) in
+    (e .exact, (e .linearized, e .lawful))
+
+successors-requires : tie.Need-successors-requires Inv-loop μ-loop
+successors-requires c κs =
+    let judged = c in
+    let made = judged .before .before .before .before .before .before .before .before .before in
+    let a = made .before .before .before .before .before .before .before .before .args in
+    let start =
+    lending-start (entry (a .file .now) (a .table .now) (a .report .now) (a .linearization .now)) _ _ _ (made .prepare .result)
+    (made .prepare .ensures .1) (made .prepare .ensures .0) (judged .if1 .left) (made .prepare .kept .1 .0)
+    (made .prepare .kept .1 .1 .0) (made .prepare .kept .1 .1 .1 .0) (firstTally _) refl in
+    start .going .playing
+
+first-tally-requires : tie.Need-first-tally-requires Inv-loop μ-loop
+first-tally-requires c κs = search needs
+
+loop-holds : tie.Need-loop-holds Inv-loop μ-loop
+loop-holds c = λ t r l begun. begun
+
+slice-aggregate-turn-on : tie.Need-slice-aggregate-turn-on Inv-loop μ-loop
+slice-aggregate-turn-on c = search needs
+
+turn-on-requires : tie.Need-turn-on-requires Inv-loop μ-loop
+turn-on-requires c κs =
+    let looped = c .before .before .before .before .before .before .before in
+    let judged = looped .before .before .before .before in
+    let made = judged .before .before .before .before .before .before .before .before .before in
+    let a = made .before .before .before .before .before .before .before .before .args in
+    let here =
+    looped .loop .inv (a .table .now) (a .report .now) (a .linearization .now)
+    (lending-start (entry (a .file .now) (a .table .now) (a .report .now) (a .linearization .now)) _ _ _ (made .prepare .result)
+    (made .prepare .ensures .1) (made .prepare .ensures .0) (judged .if1 .left) (made .prepare .kept .1 .0)
+    (made .prepare .kept .1 .1 .0) (made .prepare .kept .1 .1 .1 .0) (looped .before .first-tally .result) (looped .before .first-tally .ensures)) in
+    (along-turnable _ _ (along _ _ here) (c .before .before .before .before .if2 .taken), looped .before .before .before .successors .ensures)
+
+counted-requires : tie.Need-counted-requires Inv-loop μ-loop
+counted-requires c κs =
+    let looped = c .before .before .before .before .before .before .before .before .before .before .before .before .before .before in
+    let judged = looped .before .before .before .before in
+    let made = judged .before .before .before .before .before .before .before .before .before in
+    let a = made .before .before .before .before .before .before .before .before .args in
+    let here =
+    looped .loop .inv (a .table .now) (a .report .now) (a .linearization .now)
+    (lending-start (entry (a .file .now) (a .table .now) (a .report .now) (a .linearization .now)) _ _ _ (made .prepare .result)
+    (made .prepare .ensures .1) (made .prepare .ensures .0) (judged .if1 .left) (made .prepare .kept .1 .0)
+    (made .prepare .kept .1 .1 .0) (made .prepare .kept .1 .1 .1 .0) (looped .before .first-tally .result) (looped .before .first-tally .ensures)) in
+    along-addable _ _ (along _ _ here) (c .before .before .before .before .before .before .before .before .before .before .before .if2 .taken)
+
+loop-less : tie.Need-loop-less Inv-loop μ-loop
+loop-less c =
+    let looped = c .before .before .before .before .before .before .before .before .before .before .before .before .before .before .before in
+    let judged = looped .before .before .before .before in
+    let made = judged .before .before .before .before .before .before .before .before .before in
+    let a = made .before .before .before .before .before .before .before .before .args in
+    let here =
+    looped .loop .inv (a .table .now) (a .report .now) (a .linearization .now)
+    (lending-start (entry (a .file .now) (a .table .now) (a .report .now) (a .linearization .now)) _ _ _ (made .prepare .result)
+    (made .prepare .ensures .1) (made .prepare .ensures .0) (judged .if1 .left) (made .prepare .kept .1 .0)
+    (made .prepare .kept .1 .1 .0) (made .prepare .kept .1 .1 .1 .0) (looped .before .first-tally .result) (looped .before .first-tally .ensures)) in
+    omega (arith, c .before .before .before .before .before .before .before .before .before .before .before .before .if2 .taken, c .before .before .before .before .before .before .before .turn-on .ensures _ (here .going .standing) .turned .number)
+
+loop-again : tie.Need-loop-again Inv-loop μ-loop
+loop-again c =
+    let turned = c .before .before .before .before .before .before .before in
+    let tested = turned .before .before .before .before .before in
+    let looped = tested .before .before .before in
+    λ t r l begun. along-next _ _ (along _ _ (looped .loop .inv t r l begun)) (tested .if2 .taken) (turned .turn-on .result) _ _ _
+    (c .counted .result) (turned .turn-on .kept .1 .1 .1 .1 .0) (turned .turn-on .kept .1 .1 .1 .1 .1 .0)
+    (turned .turn-on .kept .1 .1 .1 .1 .1 .1 .0) (turned .turn-on .ensures) (c .counted .ensures) .lending
+
+closed-requires : tie.Need-closed-requires Inv-loop μ-loop
+closed-requires c κs = search needs
+
+same-length-4 : tie.Need-same-length-4 Inv-loop μ-loop
+same-length-4 c =
+    let looped = c .before .before .before .before in
+    let judged = looped .before .before .before .before in
+    let made = judged .before .before .before .before .before .before .before .before .before in
+    let a = made .before .before .before .before .before .before .before .before .args in
+    let here =
+    looped .loop .inv (a .table .now) (a .report .now) (a .linearization .now)
+    (lending-start (entry (a .file .now) (a .table .now) (a .report .now) (a .linearization .now)) _ _ _ (made .prepare .result)
+    (made .prepare .ensures .1) (made .prepare .ensures .0) (judged .if1 .left) (made .prepare .kept .1 .0)
+    (made .prepare .kept .1 .1 .0) (made .prepare .kept .1 .1 .1 .0) (looped .before .first-tally .result) (looped .before .first-tally .ensures)) in
+    here .table-long
+
+same-length-5 : tie.Need-same-length-5 Inv-loop μ-loop
+same-length-5 c =
+    let looped = c .before .before .before .before in
+    let judged = looped .before .before .before .before in
+    let made = judged .before .before .before .before .before .before .before .before .before in
+    let a = made .before .before .before .before .before .before .before .before .args in
+    let here =
+    looped .loop .inv (a .table .now) (a .report .now) (a .linearization .now)
+    (lending-start (entry (a .file .now) (a .table .now) (a .report .now) (a .linearization .now)) _ _ _ (made .prepare .result)
+    (made .prepare .ensures .1) (made .prepare .ensures .0) (judged .if1 .left) (made .prepare .kept .1 .0)
+    (made .prepare .kept .1 .1 .0) (made .prepare .kept .1 .1 .1 .0) (looped .before .first-tally .result) (looped .before .first-tally .ensures)) in
+    here .report-long
+
+same-length-6 : tie.Need-same-length-6 Inv-loop μ-loop
+same-length-6 c =
+    let looped = c .before .before .before .before in
+    let judged = looped .before .before .before .before in
+    let made = judged .before .before .before .before .before .before .before .before .before in
+    let a = made .before .before .before .before .before .before .before .before .args in
+    let here =
+    looped .loop .inv (a .table .now) (a .report .now) (a .linearization .now)
+    (lending-start (entry (a .file .now) (a .table .now) (a .report .now) (a .linearization .now)) _ _ _ (made .prepare .result)
+    (made .prepare .ensures .1) (made .prepare .ensures .0) (judged .if1 .left) (made .prepare .kept .1 .0)
+    (made .prepare .kept .1 .1 .0) (made .prepare .kept .1 .1 .1 .0) (looped .before .first-tally .result) (looped .before .first-tally .ensures)) in
+    here .linearization-long
+
+returns-2 : tie.Need-returns-2 Inv-loop μ-loop
 returns-2 c =
-    let played = c .before .before .before .before .before .before in
-    let tested = played .before .before .before .before in
-    let judged = tested .before .before in
-    let known = judged .before .before .before .before in
-    let start = known .before in
-    let a = start .args in
-    let e = played .play-cut .ensures in
-    let none =
-    sym (admission-number (a .file .now) (length (a .table .now)) (length (a .report .now)) (length (a .linearization .now)) _ (judged .admission .ensures)) ∙ tested .if1 .left in
-    let bytes : Bytes (a .file .now) = λ i. omega (arith, known .shared-slice-known .given i) in
-    let admitted = admitted-meaning (a .file .now) bytes (accepted-file (a .file .now) _ _ _ none) in (
-      e ∙ accepted-left (a .file .now) (a .table .now) (a .report .now) (a .linearization .now) none,
-      (
-        λ z. linearized-here (a .file .now) admitted (a .table .now) (a .report .now) (a .linearization .now) _ e,
-        λ z. lawful-here (a .file .now) admitted (a .table .now) (a .report .now) (a .linearization .now) _ e,
-      ),
-    )
+    let looped = c .before .before .before .before in
+    let judged = looped .before .before .before .before in
+    let made = judged .before .before .before .before .before .before .before .before .before in
+    let a = made .before .before .before .before .before .before .before .before .args in
+    let here =
+    looped .loop .inv (a .table .now) (a .report .now) (a .linearization .now)
+    (lending-start (entry (a .file .now) (a .table .now) (a .report .now) (a .linearization .now)) _ _ _ (made .prepare .result)
+    (made .prepare .ensures .1) (made .prepare .ensures .0) (judged .if1 .left) (made .prepare .kept .1 .0)
+    (made .prepare .kept .1 .1 .0) (made .prepare .kept .1 .1 .1 .0) (looped .before .first-tally .result) (looped .before .first-tally .ensures)) in
+    let e = along-end _ _ (along _ _ here) (c .before .if2 .left) (c .closed .result) (c .closed .ensures) in
+    (e .exact, (e .linearized, e .lawful))
 
 pub play-spec : {M : Type 1} → statement M
 play-spec =
     tie.close
     (tie.spec
-    admission-requires
+    Inv-loop
+    μ-loop
+    prepare-requires
     refused-requires
-    returns
-    play-cut-requires
     same-length
     same-length-2
     same-length-3
+    returns
+    successors-requires
+    first-tally-requires
+    loop-holds
+    slice-aggregate-turn-on
+    turn-on-requires
+    counted-requires
+    loop-less
+    loop-again
+    closed-requires
+    same-length-4
+    same-length-5
+    same-length-6
     returns-2)

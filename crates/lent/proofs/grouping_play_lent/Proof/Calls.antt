@@ -1,10 +1,10 @@
 -- What each call of `grouping_play_lent` gets and what it leaves. All that is known of a callee is that it meets its contract.
 --
---   Prepare, Declined, Opened, TurnOn, Add, Closed   the contracts of the callees
+--   Prepare, Refused, FirstTally, TurnSearching, Add, Closed   the contracts of the callees
 --   Known             the tables of a run, at which each callee meets its contract
 --   to-C, goes-C      what is passed to the callee C; that the caller has what C asks
 --   Told, told-C      a result and the lists that a call left; what is had when C is over
---   Prepares, Turns   what `prepare` and `turn_on` ensure
+--   Prepares, Turns   what `prepare` and `turn_searching` ensure
 use mathlib.Core.Path.{_≡_, refl, ap}
 use mathlib.Core.List.{[], _∷_, List}
 use Prim.Native.Nat.{ℕ}
@@ -28,23 +28,23 @@ use Rattle.job.specs.declared.Tally.{Tally}
 use Rattle.jobfile.specs.Admitted.{Bytes}
 use Rattle.reader.specs.declared.Checked.{Checked}
 use Rattle.turns.specs.declared.Progress.{Progress}
-use Rattle.turns.specs.Turns.{countedOf, buffersOf, firstTally, Roomy}
+use Rattle.turns.specs.Turns.{countedOf, buffersOf, firstTally, Addable}
 use Rattle.player.specs.Player.{refusedWith}
-use Rattle.lent.specs.declared.Plan.{Plan}
-use Rattle.lent.specs.Lent.{Prepared, preparedOf, TurnableOn, TurnsOn, closedOf}
+use Rattle.player.specs.declared.Plan.{Plan}
+use Rattle.player.specs.Plan.{Prepared, preparedOf, TurnableOn, TurnsOn, closedOf}
 use Rattle.lent.proofs.Walks.{Setting, at-name, row, value, IsValue, makes, Returned, told-value, tally-struct, checked-struct, progress-struct, plan-struct, played-struct}
-use Rattle.lent.proofs.prepare as prepare
-use Rattle.lent.proofs.prepare.Symbol.{name as #lent·prepare}
-use Rattle.lent.proofs.declined as declined
-use Rattle.lent.proofs.declined.Symbol.{name as #lent·declined}
-use Rattle.lent.proofs.opened as opened
-use Rattle.lent.proofs.opened.Symbol.{name as #lent·opened}
-use Rattle.lent.proofs.turn_on as turn-on
-use Rattle.lent.proofs.turn_on.Symbol.{name as #lent·turn-on}
+use Rattle.player.proofs.prepare as prepare
+use Rattle.player.proofs.prepare.Symbol.{name as #player·prepare}
+use Rattle.player.proofs.refused as refused
+use Rattle.player.proofs.refused.Symbol.{name as #player·refused}
+use Rattle.turns.proofs.first_tally as first-tally
+use Rattle.turns.proofs.first_tally.Symbol.{name as #turns·first-tally}
+use Rattle.lent.proofs.turn_searching as turn-searching
+use Rattle.lent.proofs.turn_searching.Symbol.{name as #lent·turn-searching}
 use Rattle.lent.proofs.add as add
 use Rattle.lent.proofs.add.Symbol.{name as #lent·add}
-use Rattle.lent.proofs.closed as closed
-use Rattle.lent.proofs.closed.Symbol.{name as #lent·closed}
+use Rattle.player.proofs.closed as closed
+use Rattle.player.proofs.closed.Symbol.{name as #player·closed}
 use Rattle.lent.proofs.Again.{Loan, slice-value}
 use Rattle.lent.proofs.grouping_play_lent.Proof.Held.{Parameters, Lists, SameLengths, Loans, lists₀, tally-pointer, Passed, Tokens, Lasts, Left, over}
 
@@ -56,14 +56,14 @@ module _ (w : Setting) where
   abbrev pub Prepare : Contract 𝓤
   Prepare = tripleOf 𝓤 H A prepare.signature (prepare.spec 𝓤 H A at-mem run)
 
-  abbrev pub Declined : Contract 𝓤
-  Declined = tripleOf 𝓤 H A declined.signature (declined.spec 𝓤 H A at-mem run)
+  abbrev pub Refused : Contract 𝓤
+  Refused = tripleOf 𝓤 H A refused.signature (refused.spec 𝓤 H A at-mem run)
 
-  abbrev pub Opened : Contract 𝓤
-  Opened = tripleOf 𝓤 H A opened.signature (opened.spec 𝓤 H A at-mem run)
+  abbrev pub FirstTally : Contract 𝓤
+  FirstTally = tripleOf 𝓤 H A first-tally.signature (first-tally.spec 𝓤 H A at-mem run)
 
-  abbrev pub TurnOn : Contract 𝓤
-  TurnOn = tripleOf 𝓤 H A turn-on.signature (turn-on.spec 𝓤 H A at-mem run)
+  abbrev pub TurnSearching : Contract 𝓤
+  TurnSearching = tripleOf 𝓤 H A turn-searching.signature (turn-searching.spec 𝓤 H A at-mem run)
 
   abbrev pub Add : Contract 𝓤
   Add = tripleOf 𝓤 H A add.signature (add.spec 𝓤 H A at-mem run)
@@ -73,12 +73,12 @@ module _ (w : Setting) where
 
   pub record Known : Type 2 where
     pub tables : Tables 𝓤 H
-    pub prepare : Triple 𝓤 (tables .C #lent·prepare) Prepare
-    pub declined : Triple 𝓤 (tables .C #lent·declined) Declined
-    pub opened : Triple 𝓤 (tables .C #lent·opened) Opened
-    pub turn-on : Triple 𝓤 (tables .C #lent·turn-on) TurnOn
+    pub prepare : Triple 𝓤 (tables .C #player·prepare) Prepare
+    pub refused : Triple 𝓤 (tables .C #player·refused) Refused
+    pub first-tally : Triple 𝓤 (tables .C #turns·first-tally) FirstTally
+    pub turn-searching : Triple 𝓤 (tables .C #lent·turn-searching) TurnSearching
     pub add : Triple 𝓤 (tables .C #lent·add) Add
-    pub closed : Triple 𝓤 (tables .C #lent·closed) Closed
+    pub closed : Triple 𝓤 (tables .C #player·closed) Closed
 
 -- ---- the calls that the slices are lent on to
 
@@ -153,49 +153,49 @@ module _ (w : Setting) (P : Parameters) where
       cut ((Tokens w P n ⊛ ‵ (row plan-struct .own r (v ∷ []))) ∷ ‵ (Lasts n (lists₀ P) (told r (zs .1) .left)) ∷ []) (given (SameLengths (told r (zs .1) .left) (lists₀ P)) (raw (⋆ 𝓤 H A (Prepared-with n v (told r (zs .1))))) ∷ []) _ (over w P (row plan-struct .own r (v ∷ [])) n (lists₀ P) (told r (zs .1) .left)) $ learn ! (λ same.
       at-once ! $ show ! (λ (z : Told Plan). guard 𝓤 (Prepares P z) (⋆ 𝓤 H A (Prepared-with n v z))) (told r (zs .1)) $ check ! (record { exact = e .0; bytes = e .1; same = same }) $ done !))))
 
-  -- ---- `declined`
+  -- ---- `refused`
 
   module _ (counts : Checked) where
-    abbrev pub to-declined : Declined w .Ghost
-    to-declined = ((tt, tt, tt, (counts, tt), (value checked-struct counts ∷ [], tt)), tt)
+    abbrev pub to-refused : Refused w .Ghost
+    to-refused = ((tt, tt, tt, (counts, tt), (value checked-struct counts ∷ [], tt)), tt)
 
-    pub goes-declined : ent 𝓤 (sem 𝓤 H A (row checked-struct .own counts (value checked-struct counts ∷ []))) (Declined w .pre to-declined)
-    goes-declined =
+    pub goes-refused : ent 𝓤 (sem 𝓤 H A (row checked-struct .own counts (value checked-struct counts ∷ []))) (Refused w .pre to-refused)
+    goes-refused =
         qed W (‵ (row checked-struct .own counts (value checked-struct counts ∷ [])) ∷ []) ∵
         nothing ! $ move ! (1 ∷ 0 ∷ []) $ fjoin ! $ nothing ! $ join ! $ frame ! $ done !
 
-    pub told-declined : (v : Val) → ent 𝓤 (Declined w .post to-declined v)
+    pub told-refused : (v : Val) → ent 𝓤 (Refused w .post to-refused v)
         (H .⇛ (ex 𝓤 (Returned w played-struct (λ r. r ≡ refusedWith (counts .number)) v)))
-    told-declined v =
+    told-refused v =
         told-value w played-struct (λ r. r ≡ refusedWith (counts .number)) v
-        (ensured 𝓤 H A declined.ended (declined.clauses 𝓤 H A at-mem run) tt (counts, tt) tt)
-        (λ r. exE 𝓤 _ (λ ws. snd∗ 𝓤 (sem 𝓤 H A (lasts declined.ended tt (counts, tt) ws)) (fact 𝓤 (r ≡ refusedWith (counts .number)))))
+        (ensured 𝓤 H A refused.ended (refused.clauses 𝓤 H A at-mem run) tt (counts, tt) tt)
+        (λ r. exE 𝓤 _ (λ ws. snd∗ 𝓤 (sem 𝓤 H A (lasts refused.ended tt (counts, tt) ws)) (fact 𝓤 (r ≡ refusedWith (counts .number)))))
 
-  -- ---- `opened`
+  -- ---- `first_tally`
 
   module _ (p : Progress) where
-    abbrev pub to-opened : Opened w .Ghost
-    to-opened = ((tt, tt, tt, (p, tt), (value progress-struct p ∷ [], tt)), tt)
+    abbrev pub to-first-tally : FirstTally w .Ghost
+    to-first-tally = ((tt, tt, tt, (p, tt), (value progress-struct p ∷ [], tt)), tt)
 
-    pub goes-opened : ent 𝓤 (sem 𝓤 H A (row progress-struct .own p (value progress-struct p ∷ []))) (Opened w .pre to-opened)
-    goes-opened =
+    pub goes-first-tally : ent 𝓤 (sem 𝓤 H A (row progress-struct .own p (value progress-struct p ∷ []))) (FirstTally w .pre to-first-tally)
+    goes-first-tally =
         qed W (‵ (row progress-struct .own p (value progress-struct p ∷ [])) ∷ []) ∵
         nothing ! $ move ! (1 ∷ 0 ∷ []) $ fjoin ! $ nothing ! $ join ! $ frame ! $ done !
 
-    pub told-opened : (v : Val) → ent 𝓤 (Opened w .post to-opened v)
+    pub told-first-tally : (v : Val) → ent 𝓤 (FirstTally w .post to-first-tally v)
         (H .⇛ (ex 𝓤 (Returned w tally-struct (λ h. h ≡ firstTally (p .mask)) v)))
-    told-opened v =
+    told-first-tally v =
         told-value w tally-struct (λ h. h ≡ firstTally (p .mask)) v
-        (ensured 𝓤 H A opened.ended (opened.clauses 𝓤 H A at-mem run) tt (p, tt) tt)
-        (λ h. exE 𝓤 _ (λ ws. snd∗ 𝓤 (sem 𝓤 H A (lasts opened.ended tt (p, tt) ws)) (fact 𝓤 (h ≡ firstTally (p .mask)))))
+        (ensured 𝓤 H A first-tally.ended (first-tally.clauses 𝓤 H A at-mem run) tt (p, tt) tt)
+        (λ h. exE 𝓤 _ (λ ws. snd∗ 𝓤 (sem 𝓤 H A (lasts first-tally.ended tt (p, tt) ws)) (fact 𝓤 (h ≡ firstTally (p .mask)))))
 
-  -- ---- `turn_on`
+  -- ---- `turn_searching`
 
   module _ (counts : Checked) (p : Progress) (b : Lists) where
-    abbrev pub to-turn : Loans → TurnOn w .Ghost
+    abbrev pub to-turn : Loans → TurnSearching w .Ghost
     to-turn n = ((lifetimes P n, shares P, tt, (file-passed P, (counts, (p, slices-passed P n b))), (slice-value (P .file) ∷ [], (value checked-struct counts ∷ [], (value progress-struct p ∷ [], slice-values P)))), tt)
 
-    pub goes-turn : IsValue checked-struct counts → IsValue progress-struct p → TurnableOn (P .file .entry) counts p (b .table) (b .report) (b .linearization) → (n : Loans) → ent 𝓤 (⋆ 𝓤 H A (Passed w P n b)) (TurnOn w .pre (to-turn n))
+    pub goes-turn : IsValue checked-struct counts → IsValue progress-struct p → TurnableOn (P .file .entry) counts p (b .table) (b .report) (b .linearization) → (n : Loans) → ent 𝓤 (⋆ 𝓤 H A (Passed w P n b)) (TurnSearching w .pre (to-turn n))
     goes-turn is-counts is-p able n =
         qed W (Passed w P n b) ∵ says ! able $ nothing ! $ move ! (8 ∷ 0 ∷ []) $ fjoin ! $ move ! (7 ∷ 0 ∷ []) $ fjoin ! $ move ! (6 ∷ 0 ∷ []) $ fjoin ! $
         makes ! progress-struct p _ is-p $ fjoin ! $ makes ! checked-struct counts _ is-counts $ fjoin ! $ move ! (1 ∷ 0 ∷ []) $ fjoin ! $
@@ -207,11 +207,11 @@ module _ (w : Setting) (P : Parameters) where
     abbrev turn-arguments : Loans → RefT (List ℕ) × (Checked × (Progress × (RefT (List ℕ) × (RefT (List ℕ) × (RefT (List ℕ) × Unit {0})))))
     turn-arguments n = (file-passed P, (counts, (p, slices-passed P n b)))
 
-    pub told-turn : (n : Loans) (v : Val) → ent 𝓤 (TurnOn w .post (to-turn n) v) (H .⇛ (ex 𝓤 (λ (z : Told Progress). guard 𝓤 (Turns P counts p b z) (⋆ 𝓤 H A (Turned-with n v z)))))
+    pub told-turn : (n : Loans) (v : Val) → ent 𝓤 (TurnSearching w .post (to-turn n) v) (H .⇛ (ex 𝓤 (λ (z : Told Progress). guard 𝓤 (Turns P counts p b z) (⋆ 𝓤 H A (Turned-with n v z)))))
     told-turn n v =
-        qed W (raw (TurnOn w .post (to-turn n) v) ∷ []) ∵ updating ! $
-        use1 W (later (some (λ (r : Progress). (Tokens w P n ⊛ ‵ (row progress-struct .own r (v ∷ []))) ⊛ raw (ensured 𝓤 H A turn-on.ended (turn-on.clauses 𝓤 H A at-mem run) (lifetimes P n) (turn-arguments n) tt r)))) (id⊢ 𝓤 _) $ await ! tt $ pick ! (λ r. split ! $ move ! (1 ∷ []) $
-        use1 W (some (λ (zs : Unit {0} × (Unit {0} × (Unit {0} × ThreeLists))). ‵ (lasts turn-on.ended (lifetimes P n) (turn-arguments n) zs) ⊛ raw (fact 𝓤 (Does-turn P counts p b (told r (zs .1 .1 .1)))))) (id⊢ 𝓤 _) $ pick ! (λ zs. split ! $ move ! (1 ∷ []) $
+        qed W (raw (TurnSearching w .post (to-turn n) v) ∷ []) ∵ updating ! $
+        use1 W (later (some (λ (r : Progress). (Tokens w P n ⊛ ‵ (row progress-struct .own r (v ∷ []))) ⊛ raw (ensured 𝓤 H A turn-searching.ended (turn-searching.clauses 𝓤 H A at-mem run) (lifetimes P n) (turn-arguments n) tt r)))) (id⊢ 𝓤 _) $ await ! tt $ pick ! (λ r. split ! $ move ! (1 ∷ []) $
+        use1 W (some (λ (zs : Unit {0} × (Unit {0} × (Unit {0} × ThreeLists))). ‵ (lasts turn-searching.ended (lifetimes P n) (turn-arguments n) zs) ⊛ raw (fact 𝓤 (Does-turn P counts p b (told r (zs .1 .1 .1)))))) (id⊢ 𝓤 _) $ pick ! (λ zs. split ! $ move ! (1 ∷ []) $
         heard ! (Does-turn P counts p b (told r (zs .1 .1 .1))) (λ e. fsplit ! $ drop ! $ fsplit ! $ drop ! $ fsplit ! $ drop ! $ move ! (1 ∷ 0 ∷ []) $
         -- [the tokens and the result; the last lists]
         cut ((Tokens w P n ⊛ ‵ (row progress-struct .own r (v ∷ []))) ∷ ‵ (Lasts n b (told r (zs .1 .1 .1) .left)) ∷ []) (given (SameLengths (told r (zs .1 .1 .1) .left) b) (raw (⋆ 𝓤 H A (Turned-with n v (told r (zs .1 .1 .1))))) ∷ []) _ (over w P (row progress-struct .own r (v ∷ [])) n b (told r (zs .1 .1 .1) .left)) $ learn ! (λ same.
@@ -229,7 +229,7 @@ module _ (w : Setting) (P : Parameters) where
     abbrev pub to-add : Add w .Ghost
     to-add = (((n .lifetime ∷ [], tt), (fullShare, tt), tt, (at-name (P .tally) (n .name) h, (p, tt)), (tally-pointer P ∷ [], (value progress-struct p ∷ [], tt))), tt)
 
-    pub goes-add : Roomy h → ent 𝓤 (sep 𝓤 (A .lft (n .lifetime ∷ []) fullShare) (sep 𝓤 (sem 𝓤 H A TallyLent) (sem 𝓤 H A (row progress-struct .own p (value progress-struct p ∷ []))))) (Add w .pre to-add)
+    pub goes-add : Addable h → ent 𝓤 (sep 𝓤 (A .lft (n .lifetime ∷ []) fullShare) (sep 𝓤 (sem 𝓤 H A TallyLent) (sem 𝓤 H A (row progress-struct .own p (value progress-struct p ∷ []))))) (Add w .pre to-add)
     goes-add roomy =
         qed W (‵ (flft (n .lifetime ∷ []) fullShare) ∷ ‵ TallyLent ∷ ‵ (row progress-struct .own p (value progress-struct p ∷ [])) ∷ []) ∵ says ! roomy $ nothing ! $ move ! (1 ∷ 0 ∷ []) $ join ! $ frame ! $
         nothing ! $ move ! (2 ∷ 0 ∷ []) $ fjoin ! $ move ! (1 ∷ 0 ∷ []) $ fjoin ! $ done !

@@ -32,7 +32,8 @@ use denote.Exit.{yes}
 use Rattle.job.specs.declared.Tally.{Tally}
 use Rattle.job.specs.declared.Played.{Played}
 use Rattle.reader.specs.declared.Checked.{Checked}
-use Rattle.lent.proofs.Along.{Entry, Along, Ended}
+use Rattle.player.proofs.Along.{Entry, Along}
+use Rattle.lent.proofs.Ended.{Ended}
 use Rattle.lent.proofs.Walks.{Setting, Lent, at-name, row, tally-struct, played-struct}
 use Rattle.lent.proofs.grouping_play_lent as f
 use Rattle.lent.proofs.grouping_play_lent.Code.Mir as mir-of
@@ -52,7 +53,7 @@ abbrev pub τ : ℕ → Ty
 
 -- where the loop is, and the lists there
 abbrev pub entry : Parameters → Entry
-entry P = record { file = P .file .entry; table = P .table .entry; report = P .report .entry; linearization = P .linearization .entry; tally = P .tally .entry }
+entry P = record { file = P .file .entry; table = P .table .entry; report = P .report .entry; linearization = P .linearization .entry }
 
 module _ (P : Parameters) (counts : Checked) where
   abbrev pub Here : Type 0
@@ -62,7 +63,7 @@ module _ (P : Parameters) (counts : Checked) where
   listsOf a = record { table = a .table; report = a .report; linearization = a .linearization }
 
   abbrev pub long : (a : Here) → SameLengths (listsOf a) (lists₀ P)
-  long a = record { table = a .table-long; report = a .report-long; linearization = a .linearization-long }
+  long a = record { table = a .lending .table-long; report = a .lending .report-long; linearization = a .lending .linearization-long }
 
 -- ---- the parameters
 
@@ -137,7 +138,7 @@ module _ (w : Setting) (P : Parameters) where
       ∷ ‵ (flft (P .tally .lifetime) (P .tally .share)) ∷ Buffers w P b
 
   module _ (b : Lists) (h : Tally) (same : SameLengths b (lists₀ P)) (r : Played) (v : Val)
-      (e : Ended (entry P) h (b .table) (b .report) (b .linearization) r) where
+      (e : Ended (entry P) (P .tally .entry) h (b .table) (b .report) (b .linearization) r) where
     exits : ent 𝓤 (⋆ 𝓤 H A (AtExit b h r v)) (Post v)
     exits =
         qed W (AtExit b h r v) ∵
@@ -151,8 +152,8 @@ module _ (w : Setting) (P : Parameters) where
         move ! (4 ∷ 0 ∷ []) $ fjoin ! $ move ! (3 ∷ 0 ∷ []) $ fjoin ! $
         -- [what is had of the parameters; the tokens; the answer]
         move ! (0 ∷ 2 ∷ []) $ join ! $ move ! (1 ∷ 0 ∷ []) $ join ! $ frame ! $
-        use0 W (raw (fact 𝓤 _)) (factI 𝓤 _ (emp 𝓤) (e .lawful)) $ use0 W (raw (fact 𝓤 _)) (factI 𝓤 _ (emp 𝓤) (e .linearized)) $
-        use0 W (raw (fact 𝓤 _)) (factI 𝓤 _ (emp 𝓤) (e .counted)) $ use0 W (raw (fact 𝓤 _)) (factI 𝓤 _ (emp 𝓤) (e .exact)) $ done !
+        use0 W (raw (fact 𝓤 _)) (factI 𝓤 _ (emp 𝓤) (e .played .lawful)) $ use0 W (raw (fact 𝓤 _)) (factI 𝓤 _ (emp 𝓤) (e .played .linearized)) $
+        use0 W (raw (fact 𝓤 _)) (factI 𝓤 _ (emp 𝓤) (e .counted)) $ use0 W (raw (fact 𝓤 _)) (factI 𝓤 _ (emp 𝓤) (e .played .exact)) $ done !
 
     pub ends : (L : ℕ → ℕ) → Sq W (AtExit b h r v ++ Rooms w L) (frees (En w L) (prop (Post v)))
     ends L =

@@ -2,7 +2,7 @@
 --
 --   Inside                     all that is had inside the loop
 --   Place, At, Nearer          where the loop is; its invariant there; a later place
---   adding, turning, leaving   a turn: `turn_on` and `add` are called, or the loop ends
+--   adding, turning, leaving   a turn: `turn_searching` and `add` are called, or the loop ends
 --   closing                    after the loop: `closed` answers
 --
 -- Main law: looped.
@@ -37,14 +37,15 @@ use Rattle.job.specs.declared.Tally.{Tally}
 use Rattle.job.specs.declared.Played.{Played}
 use Rattle.reader.specs.declared.Checked.{Checked}
 use Rattle.turns.specs.declared.Progress.{Progress}
-use Rattle.turns.specs.Turns.{countedOf, Roomy}
-use Rattle.lent.specs.Lent.{closedOf}
-use Rattle.lent.proofs.Along.{along-turnable, along-roomy, along-number, along-next, along-end}
+use Rattle.turns.specs.Turns.{countedOf, Addable}
+use Rattle.player.specs.Plan.{closedOf}
+use Rattle.player.proofs.Along.{along-turnable, along-addable, along-number, along-next}
+use Rattle.lent.proofs.Ended.{accepted-ended}
 use Rattle.lent.proofs.Walks.{Setting, row, value, IsValue, told, typed, sees, makes, opens-value, tally-struct, checked-struct, progress-struct, played-struct}
 use Rattle.lent.proofs.grouping_play_lent.Code.Mir as mir-of
 use Rattle.lent.proofs.Again.{loan}
 use Rattle.lent.proofs.grouping_play_lent.Proof.Held.{Parameters, Lists, Loans, TallyHeld, Back, Buffers, Owner, Passed, Kept, Lending, Over, lends, comes}
-use Rattle.lent.proofs.grouping_play_lent.Proof.Calls.{TurnOn, Add, Closed, Known, Told, Turns, to-turn, goes-turn, Turned-with, told-turn, TallyLent, to-add, goes-add, told-add, to-closed, goes-closed, told-closed}
+use Rattle.lent.proofs.grouping_play_lent.Proof.Calls.{TurnSearching, Add, Closed, Known, Told, Turns, to-turn, goes-turn, Turned-with, told-turn, TallyLent, to-add, goes-add, told-add, to-closed, goes-closed, told-closed}
 use Rattle.lent.proofs.grouping_play_lent.Proof.Frame.{entry, τ, Here, listsOf, long, En, room, full, Locals, Post, ends, Runs}
 
 -- a turn's last two statements: the tally is lent on, and `add` is called
@@ -123,7 +124,7 @@ module _ (w : Setting) (P : Parameters) (known : Known w) (L : ℕ → ℕ) (cou
         returns ! (look ! 62 refl) $
         forget ! 62 refl $ forget ! 60 refl $ forget ! 58 refl $ forget ! 56 refl $ forget ! 54 refl $ forget ! 52 refl $
         forget ! 48 refl $ forget ! 46 refl $ forget ! 30 refl $
-        ends w P b (a .tally) (long P counts a) r v (along-end (entry P) counts a over r e) L)))))
+        ends w P b (a .tally) (long P counts a) r v (accepted-ended (entry P) (P .tally .entry) counts a over r e) L)))))
 
     abbrev TallyKept : ℕ → GName → Fml
     TallyKept ν δ = LentRef (row tally-struct) (P .tally .lifetime) (ν ∷ []) (P .tally .share) (P .tally .name) (P .tally .block) (P .tally .offset) δ (a .tally)
@@ -148,8 +149,8 @@ module _ (w : Setting) (P : Parameters) (known : Known w) (L : ℕ → ℕ) (cou
           forget ! 10 refl $ forget ! 12 refl $ move ! (2 ∷ 3 ∷ 4 ∷ 5 ∷ 6 ∷ 7 ∷ 8 ∷ 9 ∷ []) $
           again ! Nearer At s (next, is-p) nearer))))
         where
-          roomy : Roomy (a .tally)
-          roomy = along-roomy (entry P) counts a more
+          roomy : Addable (a .tally)
+          roomy = along-addable (entry P) counts a more
 
           h′ : Tally
           h′ = countedOf (a .tally) (z .result .done) (z .result .mask)
@@ -160,7 +161,7 @@ module _ (w : Setting) (P : Parameters) (known : Known w) (L : ℕ → ℕ) (cou
           nearer : counts .grants - z .result .number < counts .grants - a .progress .number
           nearer = omega (arith, more, along-number (entry P) counts a more (z .result) (z .left .table) (z .left .report) (z .left .linearization) h′ (turned .same .table) (turned .same .report) (turned .same .linearization) (turned .does) refl)
 
-      -- the slices are lent on to `turn_on`, and come back
+      -- the slices are lent on to `turn_searching`, and come back
       turning : ltb (a .progress .number) (counts .grants) ≡ true → Sq W (At s) (runs C Λ (En w L) mir-of.turn-1 (anyQ (Turned s)))
       turning test =
           assigns ! (bin ! (load ! (from ! (fld ! refl (stop !))) (look-in ! 44 (sub ! 3 refl (whole !)))) (load ! (from ! (fld ! refl (stop !))) (look-in ! 46 (sub ! 4 refl (whole !)))) tt) (from ! (stop !)) (init ! 26 refl (tt, tt)) $
@@ -173,8 +174,8 @@ module _ (w : Setting) (P : Parameters) (known : Known w) (L : ℕ → ℕ) (cou
           assigns ! (agg ! (and-then ! (load ! (from ! (stop !)) (look ! 16 refl)) (and-then ! (load ! (from ! (fld ! refl (stop !))) (look-in ! 52 (sub ! 1 refl (whole !)))) (no-more !)))) (from ! (stop !)) (init ! 14 refl (tt, (tt, (record { fits = P .linearization-room .0 }, tt)))) $
           cut (Buffers w P b) (later (some (λ (n : Loans). raw (⋆ 𝓤 H A (Lending w P n b)))) ∷ []) _ (lends w P b (long P counts a)) $ await ! tt $ pick ! (λ n.
           cut (raw (⋆ 𝓤 H A (Lending w P n b)) ∷ []) (Lending w P n b) _ (id⊢ 𝓤 _) $
-          cut (Passed w P n b) (raw (TurnOn w .pre (to-turn w P counts (a .progress) b n)) ∷ []) _ (goes-turn w P counts (a .progress) b is-counts (s .1) (along-turnable (entry P) counts a more) n) $
-          calls-at ! fm (TurnOn w) (known .turn-on) (to-turn w P counts (a .progress) b n)
+          cut (Passed w P n b) (raw (TurnSearching w .pre (to-turn w P counts (a .progress) b n)) ∷ []) _ (goes-turn w P counts (a .progress) b is-counts (s .1) (along-turnable (entry P) counts a more) n) $
+          calls-at ! fm (TurnSearching w) (known .turn-searching) (to-turn w P counts (a .progress) b n)
           (and-then ! (load ! (from ! (stop !)) (look ! 55 refl)) (and-then ! (load ! (from ! (stop !)) (look ! 43 refl)) (and-then ! (load ! (from ! (stop !)) (look ! 41 refl)) (and-then ! (load ! (from ! (stop !)) (look ! 19 refl)) (and-then ! (load ! (from ! (stop !)) (look ! 15 refl)) (and-then ! (load ! (from ! (stop !)) (look ! 11 refl)) (no-more !))))))) (λ v.
           use1 W (later (some (λ (z : Told Progress). given (Turns P counts (a .progress) b z) (raw (⋆ 𝓤 H A (Turned-with w P counts (a .progress) b n v z)))))) (told-turn w P counts (a .progress) b n v) $ await ! tt $ pick ! (λ z. learn ! (λ turned.
           cut (raw (⋆ 𝓤 H A (Turned-with w P counts (a .progress) b n v z)) ∷ []) (Turned-with w P counts (a .progress) b n v z) _ (id⊢ 𝓤 _) $

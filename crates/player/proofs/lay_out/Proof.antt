@@ -1,0 +1,104 @@
+-- `player::lay_out`: the table's start, the report's zeros, and every head before its first request; the rest stays.
+use mathlib.Core.Path.{sym}
+use Prim.Native.Nat.{_*_}
+use native.Mathlib.Omega.{arith}
+use lib.Seq.{length-take-le}
+use borrow.Author.Needs.{needs}
+use Rattle.jobfile.specs.Admitted.{Bytes}
+use Rattle.player.proofs.Prepared.{checks-admitted, checks-playing, laid-nodes, laid}
+use Rattle.player.proofs.lay_out.Statement.{statement}
+use Rattle.player.proofs.lay_out.Tie as tie
+
+cast-nodes : tie.Need-cast-nodes
+cast-nodes c = search needs
+
+cast-rows : tie.Need-cast-rows
+cast-rows c = search needs
+
+mul-rows : tie.Need-mul-rows
+mul-rows c = search needs
+
+slice-relend-prefix-fresh-table : tie.Need-slice-relend-prefix-fresh-table
+slice-relend-prefix-fresh-table c = search needs
+
+slice-aggregate-fresh-table : tie.Need-slice-aggregate-fresh-table
+slice-aggregate-fresh-table c =
+    let k = c .before .before .before .before .before .before in
+    sym (length-take-le (k .args .counts .nodes) (k .args .table .now) (k .pre .1 .0))
+
+fresh-table-requires : tie.Need-fresh-table-requires
+fresh-table-requires c κs =
+    let known = c .before .before .before .before .before in
+    let k = known .before in
+    let bytes : Bytes (k .args .file .now) = λ i. omega (arith, known .shared-slice-known .given i) in
+    omega (
+      arith,
+      laid-nodes (k .pre .0) (k .args .table .now) (k .args .report .now) (k .pre .1 .0) (k .pre .1 .1),
+      checks-admitted (k .pre .0) bytes .few-nodes,
+    )
+
+slice-relend-prefix-clear-report : tie.Need-slice-relend-prefix-clear-report
+slice-relend-prefix-clear-report c = search needs
+
+slice-aggregate-clear-report : tie.Need-slice-aggregate-clear-report
+slice-aggregate-clear-report c =
+    let k = c .before .before .before .before .before .before .before .before .before .before in
+    sym (length-take-le (4 * k .args .counts .requests) (k .args .report .now) (k .pre .1 .1))
+
+clear-report-requires : tie.Need-clear-report-requires
+clear-report-requires c κs = search needs
+
+first-requests-requires : tie.Need-first-requests-requires
+first-requests-requires c κs =
+    let known = c .before .before .before .before .before .before .before .before .before .before .before .before in
+    let k = known .before in
+    checks-playing (k .pre .0) (λ i. omega (arith, known .shared-slice-known .given i))
+
+resting-heads-requires : tie.Need-resting-heads-requires
+resting-heads-requires c κs = search needs
+
+first-mask-requires : tie.Need-first-mask-requires
+first-mask-requires c κs = search needs
+
+first-progress-requires : tie.Need-first-progress-requires
+first-progress-requires c κs = search needs
+
+same-length : tie.Need-same-length
+same-length c = search needs
+
+same-length-2 : tie.Need-same-length-2
+same-length-2 c = search needs
+
+returns : tie.Need-returns
+returns c =
+    let masked = c .before in
+    let rested = masked .before in
+    let found = rested .before in
+    let cleared = found .before .before .before in
+    let tabled = cleared .before .before .before .before in
+    let k = tabled .before .before .before .before .before .before .before in
+    laid (k .pre .0) (k .args .table .now) (k .args .report .now) (k .pre .1 .0) (k .pre .1 .1) (found .first-requests .result)
+    (rested .resting-heads .result) (masked .first-mask .result) _ _ (c .first-progress .result)
+    (tabled .fresh-table .ensures) (cleared .clear-report .ensures) (found .first-requests .ensures)
+    (rested .resting-heads .ensures) (masked .first-mask .ensures) (c .first-progress .ensures)
+
+pub lay-out-spec : {M : Type 1} → statement M
+lay-out-spec =
+    tie.close
+    (tie.spec
+    cast-nodes
+    cast-rows
+    mul-rows
+    slice-relend-prefix-fresh-table
+    slice-aggregate-fresh-table
+    fresh-table-requires
+    slice-relend-prefix-clear-report
+    slice-aggregate-clear-report
+    clear-report-requires
+    first-requests-requires
+    resting-heads-requires
+    first-mask-requires
+    first-progress-requires
+    same-length
+    same-length-2
+    returns)

@@ -1,0 +1,71 @@
+-- `player::turn_on`: one grant on the parts that the job needs, the rest stays.
+use mathlib.Core.Path.{sym}
+use Prim.Native.Nat.{_*_}
+use lib.Seq.{length-take-le}
+use borrow.Author.Needs.{needs}
+use Rattle.player.proofs.Along.{turned-on}
+use Rattle.player.proofs.turn_on.Statement.{statement}
+use Rattle.player.proofs.turn_on.Tie as tie
+
+cast-nodes : tie.Need-cast-nodes
+cast-nodes c = search needs
+
+cast-rows : tie.Need-cast-rows
+cast-rows c = search needs
+
+mul-rows : tie.Need-mul-rows
+mul-rows c = search needs
+
+slice-relend-prefix-turn : tie.Need-slice-relend-prefix-turn
+slice-relend-prefix-turn c = search needs
+
+slice-aggregate-turn : tie.Need-slice-aggregate-turn
+slice-aggregate-turn c =
+    let k = c .before .before .before .before .before .before .before .before in
+    sym (length-take-le (k .args .counts .nodes) (k .args .table .now) (k .pre .0 .nodes))
+
+slice-relend-prefix-turn-2 : tie.Need-slice-relend-prefix-turn-2
+slice-relend-prefix-turn-2 c = search needs
+
+slice-aggregate-turn-2 : tie.Need-slice-aggregate-turn-2
+slice-aggregate-turn-2 c =
+    let k = c .before .before .before .before .before .before .before .before .before in
+    sym (length-take-le (4 * k .args .counts .requests) (k .args .report .now) (k .pre .0 .rows))
+
+turn-requires : tie.Need-turn-requires
+turn-requires c κs =
+    let k = c .before .before .before .before .before .before .before .before .before .before in
+    (k .pre .0 .turnable, k .pre .1)
+
+same-length : tie.Need-same-length
+same-length c = search needs
+
+same-length-2 : tie.Need-same-length-2
+same-length-2 c = search needs
+
+same-length-3 : tie.Need-same-length-3
+same-length-3 c = search needs
+
+returns : tie.Need-returns
+returns c =
+    let turned = c .before .before .before .before .before .before in
+    let k = turned .before .before .before .before .before .before .before .before .before .before .before in
+    λ lent standing. turned-on (k .args .table .now) (k .args .report .now) _ _ (k .pre .0)
+    (turned .turn .kept .1 .1 .1 .1 .0) (turned .turn .kept .1 .1 .1 .1 .1 .0) (turned .turn .ensures lent standing)
+
+pub turn-on-spec : {M : Type 1} → statement M
+turn-on-spec =
+    tie.close
+    (tie.spec
+    cast-nodes
+    cast-rows
+    mul-rows
+    slice-relend-prefix-turn
+    slice-aggregate-turn
+    slice-relend-prefix-turn-2
+    slice-aggregate-turn-2
+    turn-requires
+    same-length
+    same-length-2
+    same-length-3
+    returns)
