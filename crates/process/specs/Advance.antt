@@ -2,7 +2,7 @@
 -- Comparing, choosing and finishing cost nothing, so they are part of the grant before.
 --
 --   quiet, failure      nothing to record beyond one more grant used; nothing but a swap that failed
---   continue k t        the head of task k on to stage t
+--   goOn k t        the head of task k on to stage t
 --   retry k t           the same after a swap that failed
 --   together k, apart k now   the answer, or the next stage, once both finds have ended at one root, or at two
 --   compared, ended     both finds have ended; one of them has
@@ -41,8 +41,8 @@ abbrev pub failure : Event
 failure = record { failed = true; found = false; linked = false; answer = Unfinished; point = 0 }
 
 -- On to the next stage,
-abbrev pub continue : Task → Stage → Advanced
-continue k t = record { head = record { stage = t; task = k }; event = quiet }
+abbrev pub goOn : Task → Stage → Advanced
+goOn k t = record { head = record { stage = t; task = k }; event = quiet }
 
 -- also after a swap that did not write.
 abbrev pub retry : Task → Stage → Advanced
@@ -75,13 +75,13 @@ compared k kind now =
 
 -- A find ended: find from x, then from y, keeping each root as the new x and y.
 abbrev pub ended : Task → Errand → ℕ → Advanced
-ended k e now = cond (servesX e) (continue k (Find (nextErrand e) ReadNode)) (compared k (kindOf e) now)
+ended k e now = cond (servesX e) (goOn k (Find (nextErrand e) ReadNode)) (compared k (kindOf e) now)
 
 -- The find goes on, fails to swap and goes on, moves up and starts over, or ends.
 abbrev pub followed : Task → Errand → ℕ → Walked → Advanced
-followed k e now (On s) = continue k (Find e s)
+followed k e now (On s) = goOn k (Find e s)
 followed k e now (Failed s) = retry k (Find e s)
-followed k e now (Up v) = continue (movedTo k e v) (Find e ReadNode)
+followed k e now (Up v) = goOn (movedTo k e v) (Find e ReadNode)
 followed k e now Ended = ended k e now
 
 -- Still a root, no, at the point where the find from y ended; otherwise try again.
@@ -92,7 +92,7 @@ reread k p w =
       head = record { stage = Resting; task = k };
       event = record { failed = false; found = false; linked = false; answer = No; point = p };
     })
-    (continue k (restart SameSet))
+    (goOn k (restart SameSet))
 
 -- ---- a union after its finds
 
@@ -100,8 +100,8 @@ reread k p w =
 abbrev pub rankBoth : Task → ℕ → ℕ → Advanced
 rankBoth k rx ry =
     cond (before ry (k .y) rx (k .x))
-    (continue (record { x = k .y; y = k .x; request = k .request; waits = k .waits }) (Link ry (eqb rx ry)))
-    (continue k (Link rx (eqb rx ry)))
+    (goOn (record { x = k .y; y = k .x; request = k .request; waits = k .waits }) (Link ry (eqb rx ry)))
+    (goOn k (Link rx (eqb rx ry)))
 
 -- The link is written: the answer is joined, after the rank swap where the ranks read were equal.
 abbrev pub linked : Task → ℕ → Bool → ℕ → Advanced
@@ -138,10 +138,10 @@ raise k r w =
 
 -- Where the access of each stage leads.
 abbrev pub advanceAt : Task → Node → ℕ → Stage → Advanced
-advanceAt k w now Resting = continue k Resting
+advanceAt k w now Resting = goOn k Resting
 advanceAt k w now (Find e s) = followed k e now (walked (nodeAt k e) w s)
 advanceAt k w now (RereadX p) = reread k p w
-advanceAt k w now ReadRankX = continue k (ReadRankY (w .rank))
+advanceAt k w now ReadRankX = goOn k (ReadRankY (w .rank))
 advanceAt k w now (ReadRankY r) = rankBoth k r (w .rank)
 advanceAt k w now (Link r e) = link k r e w now
 advanceAt k w now (Raise r) = raise k r w

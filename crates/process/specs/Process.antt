@@ -18,6 +18,7 @@ use Prim.Native.Nat.{ℕ, _+_, _<_}
 use Rattle.job.specs.declared.Kind.{Kind}
 use Rattle.job.specs.declared.Kind.the-variants.{Union, SameSet}
 use Rattle.job.specs.declared.Request.{Request}
+use Rattle.word.specs.Word.{rankLimit}
 use Rattle.process.specs.declared.Step.the-variants.{ReadNode}
 use Rattle.process.specs.declared.Errand.{Errand}
 use Rattle.process.specs.declared.Errand.the-variants.{UnionX, UnionY, SameX, SameY}
@@ -54,7 +55,7 @@ traitsOf (Raise r) = traits false true 0 (r + 1)
 
 -- A rank that is stored is one byte.
 abbrev pub Raisable : Stage → Type 0
-Raisable t = traitsOf t .raised < 256
+Raisable t = traitsOf t .raised < rankLimit
 
 -- A head that rests serves no request.
 abbrev pub isResting : Head → Bool

@@ -11,11 +11,11 @@ use job::Kind;
 use word::Node;
 ghost use mathlib.Core.Path.{_≡_};
 ghost use Rattle.process.specs.Process.{kindOf, servesX, nextErrand, nodeAt, movedTo};
-ghost use Rattle.process.specs.Advance.{continue, retry, together, apart, compared, ended, reread};
+ghost use Rattle.process.specs.Advance.{goOn, retry, together, apart, compared, ended, reread};
 
 // The head at its next stage, with nothing more to record.
-pub fn going(task: Task, stage: Stage) -> Advanced
-    ensures { λ r. ⌜ r ≡ continue task stage ⌝ }
+pub fn go_on(task: Task, stage: Stage) -> Advanced
+    ensures { λ r. ⌜ r ≡ goOn task stage ⌝ }
 {
     Advanced {
         head: Head { stage, task },
@@ -30,7 +30,7 @@ pub fn going(task: Task, stage: Stage) -> Advanced
 }
 
 // The head at its next stage after a swap that did not write.
-pub fn retrying(task: Task, stage: Stage) -> Advanced
+pub fn retry(task: Task, stage: Stage) -> Advanced
     ensures { λ r. ⌜ r ≡ retry task stage ⌝ }
 {
     Advanced {
@@ -102,7 +102,7 @@ pub fn moved_to(task: Task, errand: Errand, node: u16) -> Task
 }
 
 // The answer of a request whose two finds ended at one root.
-fn together_answer(kind: Kind) -> Answer
+fn together(kind: Kind) -> Answer
     ensures { λ r. ⌜ r ≡ together kind ⌝ }
 {
     match kind {
@@ -112,7 +112,7 @@ fn together_answer(kind: Kind) -> Answer
 }
 
 // The stage of a request whose find from y ended at grant now at another node than x.
-fn apart_stage(kind: Kind, now: u32) -> Stage
+fn apart(kind: Kind, now: u32) -> Stage
     ensures { λ r. ⌜ r ≡ apart kind now ⌝ }
 {
     match kind {
@@ -135,14 +135,14 @@ fn compared(task: Task, kind: Kind, now: u32) -> Advanced
                 failed: false,
                 found: true,
                 linked: false,
-                answer: together_answer(kind),
+                answer: together(kind),
                 point: now,
             },
         };
     }
     Advanced {
         head: Head {
-            stage: apart_stage(kind, now),
+            stage: apart(kind, now),
             task,
         },
         event: Event {
@@ -160,7 +160,7 @@ pub fn ended(task: Task, errand: Errand, now: u32) -> Advanced
     ensures { λ r. ⌜ r ≡ ended task errand now ⌝ }
 {
     if serves_x(errand) {
-        return going(task, Stage::Find(next_errand(errand), Step::ReadNode));
+        return go_on(task, Stage::Find(next_errand(errand), Step::ReadNode));
     }
     compared(task, kind_of(errand), now)
 }
@@ -184,5 +184,5 @@ pub fn reread(task: Task, point: u32, seen: Node) -> Advanced
             },
         };
     }
-    going(task, Stage::Find(Errand::SameX, Step::ReadNode))
+    go_on(task, Stage::Find(Errand::SameX, Step::ReadNode))
 }

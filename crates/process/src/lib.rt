@@ -88,7 +88,7 @@ fn first_errand(kind: Kind) -> Errand
 }
 
 // The head as it begins a request: the find from x is about to read.
-pub fn begun(request: Request, number: u16) -> Head
+pub fn begin(request: Request, number: u16) -> Head
     ensures { λ r. ⌜ r ≡ begin request number ⌝ }
 {
     let kind = request.kind;

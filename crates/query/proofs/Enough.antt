@@ -41,7 +41,7 @@ use Rattle.process.specs.declared.Advanced.{Advanced}
 use Rattle.process.specs.Process.{traitsOf, kindOf, servesX, nextErrand, nodeAt, restart, begin}
 use Rattle.process.specs.Find.{findAccess, walked}
 use Rattle.process.specs.Access.{accessAt, accessOf}
-use Rattle.process.specs.Advance.{continue, compared, followed, reread, advanceAt, advanceOf}
+use Rattle.process.specs.Advance.{goOn, compared, followed, reread, advanceAt, advanceOf}
 use Rattle.rules.specs.Report.{isFinal}
 use Rattle.rules.specs.Table.{noNode, at, parent, rank, seen, touched}
 use Rattle.rules.proofs.History.{final-number}
@@ -177,7 +177,7 @@ module _ {n : ℕ} {t : List Node} (r : ℕ → ℕ) (admitted : Admitted n t) (
 
   find-ended : (e : Errand) (x : Bool) → servesX e ≡ x → SameSet ≡ kindOf e → parent t (cond x (k .x) (k .y)) ≡ cond x (k .x) (k .y)
       → Needs (Fixed (parent t) (k .x) x) (tailNeed n r (k .y) x) m
-      → Goes t (cond x (continue k (Find (nextErrand e) ReadNode)) (compared k (kindOf e) (suc used)))
+      → Goes t (cond x (goOn k (Find (nextErrand e) ReadNode)) (compared k (kindOf e) (suc used)))
   find-ended e true first kind root needs =
       λ f. from-y (nextErrand e) (next-serves e first) root (omega (arith, find-most n (parent t) r (k .y), needs .enough))
   find-ended e false second kind root needs =

@@ -35,7 +35,7 @@ use Rattle.process.specs.Process.{traitsOf, isResting, kindOf, servesX, nextErr
 use Rattle.process.specs.Find.{findAccess, Walked, walked}
 use Rattle.process.specs.Find.Walked.{On, Failed, Up, Ended}
 use Rattle.process.specs.Access.{accessAt, accessOf}
-use Rattle.process.specs.Advance.{continue, compared, followed, reread, advanceAt, advanceOf}
+use Rattle.process.specs.Advance.{goOn, compared, followed, reread, advanceAt, advanceOf}
 use Rattle.forest.proofs.Forest.{Labelled}
 use Rattle.rules.specs.Report.{isFinal}
 use Rattle.rules.specs.Table.{at, parent, rank, seen, touched}
@@ -126,7 +126,7 @@ module _ {n : ℕ} (B : ℕ → ℕ) {a b : ℕ} (inside : Inside n (sameSet a b
 
     module _ (e : Errand) (f : Finding n B (sameSet a b) (kindOf e) (k .x) (k .y)) where
       find-ended : (x : Bool) → parent t′ (cond x (k .x) (k .y)) ≡ cond x (k .x) (k .y)
-          → Next t′ (cond x (continue k (Find (nextErrand e) ReadNode)) (compared k (kindOf e) (suc used)))
+          → Next t′ (cond x (goOn k (Find (nextErrand e) ReadNode)) (compared k (kindOf e) (suc used)))
       find-ended true root =
           goes-on k (Find (nextErrand e) ReadNode) refl
           (record { finding = subst (λ kind. Finding n B (sameSet a b) kind (k .x) (k .y)) (sym (next-kind e)) f; find = tt })

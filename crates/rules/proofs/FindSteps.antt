@@ -29,7 +29,7 @@ use Rattle.process.specs.declared.Task.{Task}
 use Rattle.process.specs.declared.Advanced.{Advanced}
 use Rattle.process.specs.Process.{kindOf, servesX, nextErrand, nodeAt, movedTo, restart}
 use Rattle.process.specs.Find.{findAccess, walked}
-use Rattle.process.specs.Advance.{continue, together, compared, ended, followed, reread}
+use Rattle.process.specs.Advance.{goOn, together, compared, ended, followed, reread}
 use Rattle.rules.specs.Table.{at, parent, rank, seen, touched}
 use Rattle.rules.proofs.Finds.{Walks, find-walks, find-halved}
 use Rattle.rules.proofs.Stages.{Moment, Apart, Finding, Searching, Rereading, find-node, restart-knows}
@@ -114,7 +114,7 @@ module _ {n : ℕ} {m : Moment n} {q : Request} (present : Present m q) (k : Tas
       where
         go : (b : Bool) → parent t′ (cond b (k .x) (k .y)) ≡ cond b (k .x) (k .y)
             → Gives t′ (Find e s)
-            (cond b (continue k (Find (nextErrand e) ReadNode)) (compared k (kindOf e) (suc (m .now))))
+            (cond b (goOn k (Find (nextErrand e) ReadNode)) (compared k (kindOf e) (suc (m .now))))
         go true root =
             goes-on (Find e s) k (Find (nextErrand e) ReadNode) false false refl refl table
             (record { finding = subst Here (sym (next-kind e)) f; find = tt })

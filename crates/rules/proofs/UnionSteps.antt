@@ -22,7 +22,7 @@ use Rattle.process.specs.declared.Task.{Task}
 use Rattle.process.specs.declared.Advanced.{Advanced}
 use Rattle.process.specs.declared.Access.the-variants.{Cas}
 use Rattle.process.specs.Process.{restart}
-use Rattle.process.specs.Advance.{continue, rankBoth, linked, link, raise}
+use Rattle.process.specs.Advance.{goOn, rankBoth, linked, link, raise}
 use Rattle.forest.proofs.Merge.{merged-ends}
 use Rattle.forest.proofs.Linking as linking
 use Rattle.forest.proofs.Raising as raising
@@ -45,7 +45,7 @@ module _ {n : ℕ} {m : Moment n} {q : Request} (present : Present m q) (k : Tas
 
   -- ---- the two ranks
 
-  pub read-rank-x : ReadingRanks m q (k .x) (k .y) 0 → Gives t ReadRankX (continue k (ReadRankY (rank t (k .x))))
+  pub read-rank-x : ReadingRanks m q (k .x) (k .y) 0 → Gives t ReadRankX (goOn k (ReadRankY (rank t (k .x))))
   read-rank-x a =
       goes-on ReadRankX k (ReadRankY (rank t (k .x))) false false refl refl (unchanged present)
       (record { finding = a .finding; distinct = a .distinct; rank = omega arith })

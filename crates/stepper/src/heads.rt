@@ -17,7 +17,7 @@ pub fn ready_head(file: &[u8], requests: u32, head: Head) -> Head
 {
     if process::is_resting(head) {
         let number = head.task.request;
-        return process::begun(reader::request_at(file, number as u32), number);
+        return process::begin(reader::request_at(file, number as u32), number);
     }
     head
 }

@@ -8,14 +8,14 @@ use process::Stage;
 use process::Step;
 use process::Task;
 use process::finding::ended;
-use process::finding::going;
+use process::finding::go_on;
 use process::finding::moved_to;
 use process::finding::node_at;
 use process::finding::reread;
-use process::finding::retrying;
-use process::joining::linking;
-use process::joining::raising;
-use process::joining::ranked;
+use process::finding::retry;
+use process::joining::link;
+use process::joining::raise;
+use process::joining::rank_both;
 use word::Node;
 use word::Word;
 ghost use mathlib.Core.Path.{_≡_};
@@ -66,26 +66,26 @@ fn walk(table: &mut [Word], task: Task, errand: Errand, step: Step, number: u32)
             if seen.parent == node {
                 return ended(task, errand, number);
             }
-            going(
+            go_on(
                 task,
                 Stage::Find(errand, Step::ReadParent(seen.rank, seen.parent)),
             )
         }
         Step::ReadParent(rank, t) => {
             let seen = load(table, t);
-            going(task, Stage::Find(errand, Step::Halve(rank, t, seen.parent)))
+            go_on(task, Stage::Find(errand, Step::Halve(rank, t, seen.parent)))
         }
         Step::Halve(rank, t, u) => {
             let expected = Node { rank, parent: t };
             let seen = swap(table, node, expected, Node { rank, parent: u });
             if word::is_same(seen, expected) {
-                return going(task, Stage::Find(errand, Step::ReadAgain(t)));
+                return go_on(task, Stage::Find(errand, Step::ReadAgain(t)));
             }
-            retrying(task, Stage::Find(errand, Step::ReadAgain(t)))
+            retry(task, Stage::Find(errand, Step::ReadAgain(t)))
         }
         Step::ReadAgain(t) => {
             let seen = load(table, t);
-            going(
+            go_on(
                 moved_to(task, errand, seen.parent),
                 Stage::Find(errand, Step::ReadNode),
             )
@@ -106,20 +106,20 @@ pub fn stepped(table: &mut [Word], head: Head, number: u32) -> Advanced
     let x = task.x;
     let y = task.y;
     match stage {
-        Stage::Resting => going(task, Stage::Resting),
+        Stage::Resting => go_on(task, Stage::Resting),
         Stage::Find(errand, step) => walk(table, task, errand, step, number),
         Stage::RereadX(point) => reread(task, point, load(table, x)),
         Stage::ReadRankX => {
             let seen = load(table, x);
-            going(task, Stage::ReadRankY(seen.rank))
+            go_on(task, Stage::ReadRankY(seen.rank))
         }
         Stage::ReadRankY(rank) => {
             let seen = load(table, y);
-            ranked(task, rank, seen.rank)
+            rank_both(task, rank, seen.rank)
         }
         Stage::Link(rank, equal) => {
             let seen = swap(table, x, Node { rank, parent: x }, Node { rank, parent: y });
-            linking(task, rank, equal, seen, number)
+            link(task, rank, equal, seen, number)
         }
         Stage::Raise(rank) => {
             let seen = swap(
@@ -131,7 +131,7 @@ pub fn stepped(table: &mut [Word], head: Head, number: u32) -> Advanced
                     parent: y,
                 },
             );
-            raising(task, rank, seen)
+            raise(task, rank, seen)
         }
     }
 }

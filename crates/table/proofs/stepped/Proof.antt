@@ -10,8 +10,8 @@ use Rattle.table.proofs.stepped.Tie as tie
 enum-told : tie.Need-enum-told
 enum-told c = search needs
 
-going-requires : tie.Need-going-requires
-going-requires c κs = search needs
+go-on-requires : tie.Need-go-on-requires
+go-on-requires c κs = search needs
 
 enum-known-stage : tie.Need-enum-known-stage
 enum-known-stage c = search needs
@@ -40,8 +40,8 @@ load-requires-2 c κs =
     let start = c .before .before .before .before .before in
     head-able (now (start .args .table)) (start .args .head) (c .before .enum-told2 .given .1) (start .pre .0)
 
-going-requires-2 : tie.Need-going-requires-2
-going-requires-2 c κs = search needs
+go-on-requires-2 : tie.Need-go-on-requires-2
+go-on-requires-2 c κs = search needs
 
 enum-known-stage-3 : tie.Need-enum-known-stage-3
 enum-known-stage-3 c = search needs
@@ -51,8 +51,8 @@ load-requires-3 c κs =
     let start = c .before .before .before .before .before .before in
     head-able (now (start .args .table)) (start .args .head) (c .before .before .stage3 .given .1) (start .pre .0)
 
-ranked-requires : tie.Need-ranked-requires
-ranked-requires c κs = search needs
+rank-both-requires : tie.Need-rank-both-requires
+rank-both-requires c κs = search needs
 
 enum-known-stage-4 : tie.Need-enum-known-stage-4
 enum-known-stage-4 c = search needs
@@ -62,8 +62,8 @@ swap-requires c κs =
     let start = c .before .before .before .before .before .before in
     head-able (now (start .args .table)) (start .args .head) (c .before .before .stage4 .given .1) (start .pre .0)
 
-linking-requires : tie.Need-linking-requires
-linking-requires c κs = search needs
+link-requires : tie.Need-link-requires
+link-requires c κs = search needs
 
 enum-known-stage-5 : tie.Need-enum-known-stage-5
 enum-known-stage-5 c = search needs
@@ -78,15 +78,15 @@ swap-requires-2 c κs =
     let start = c .before .before .before .before .before .before in
     head-able (now (start .args .table)) (start .args .head) (c .before .before .stage5 .given .1) (start .pre .0)
 
-raising-requires : tie.Need-raising-requires
-raising-requires c κs = search needs
+raise-requires : tie.Need-raise-requires
+raise-requires c κs = search needs
 
 returns : tie.Need-returns
 returns c =
     let case = c .before .enum-told .given .1 in
     let start = c .before .before .before .before .before in
     let able = head-able (now (start .args .table)) (start .args .head) case (start .pre .0) in
-    moves (now (start .args .table)) (start .args .head) case _ _ _ _ (sees-idle _ (able .worded)) (c .going .ensures)
+    moves (now (start .args .table)) (start .args .head) case _ _ _ _ (sees-idle _ (able .worded)) (c .go-on .ensures)
 
 same-length : tie.Need-same-length
 same-length c = search needs
@@ -119,7 +119,7 @@ returns-4 c =
     let start = c .before .before .before .before .before .before .before in
     let able = head-able (now (start .args .table)) (start .args .head) case (start .pre .0) in
     moves (now (start .args .table)) (start .args .head) case _ _ _ _
-    (sees-load (now (start .args .table)) (able .worded) _ (able .node) (loaded .result) (loaded .ensures)) (c .going2 .ensures)
+    (sees-load (now (start .args .table)) (able .worded) _ (able .node) (loaded .result) (loaded .ensures)) (c .go-on2 .ensures)
 
 same-length-4 : tie.Need-same-length-4
 same-length-4 c = search needs
@@ -131,7 +131,7 @@ returns-5 c =
     let start = c .before .before .before .before .before .before .before .before in
     let able = head-able (now (start .args .table)) (start .args .head) case (start .pre .0) in
     moves (now (start .args .table)) (start .args .head) case _ _ _ _
-    (sees-load (now (start .args .table)) (able .worded) _ (able .node) (loaded .result) (loaded .ensures)) (c .ranked .ensures)
+    (sees-load (now (start .args .table)) (able .worded) _ (able .node) (loaded .result) (loaded .ensures)) (c .rank-both .ensures)
 
 same-length-5 : tie.Need-same-length-5
 same-length-5 c = search needs
@@ -141,7 +141,7 @@ returns-6 c =
     let swapped = c .before .before .before .swap in
     let case = c .before .before .before .before .before .before .stage4 .given .1 in
     let start = c .before .before .before .before .before .before .before .before .before .before in
-    moves (now (start .args .table)) (start .args .head) case _ _ _ _ (swapped .ensures) (c .linking .ensures)
+    moves (now (start .args .table)) (start .args .head) case _ _ _ _ (swapped .ensures) (c .link .ensures)
 
 same-length-6 : tie.Need-same-length-6
 same-length-6 c = search needs
@@ -151,14 +151,14 @@ returns-7 c =
     let swapped = c .before .before .before .swap2 in
     let case = c .before .before .before .before .before .before .stage5 .given .1 in
     let start = c .before .before .before .before .before .before .before .before .before .before in
-    moves (now (start .args .table)) (start .args .head) case _ _ _ _ (swapped .ensures) (c .raising .ensures)
+    moves (now (start .args .table)) (start .args .head) case _ _ _ _ (swapped .ensures) (c .raise .ensures)
 
 pub stepped-spec : {M : Type 1} → statement M
 stepped-spec =
     tie.close
     (tie.spec
     enum-told
-    going-requires
+    go-on-requires
     enum-known-stage
     walk-requires
     enum-known-stage-2
@@ -166,17 +166,17 @@ stepped-spec =
     reread-requires
     enum-told-2
     load-requires-2
-    going-requires-2
+    go-on-requires-2
     enum-known-stage-3
     load-requires-3
-    ranked-requires
+    rank-both-requires
     enum-known-stage-4
     swap-requires
-    linking-requires
+    link-requires
     enum-known-stage-5
     add-t38
     swap-requires-2
-    raising-requires
+    raise-requires
     returns
     same-length
     returns-2

@@ -39,8 +39,8 @@ returns c =
     (sees-load (now (a .table)) (able .worded) _ (able .node) (loaded .result) (loaded .ensures))
     (simp (eq-eqb _ _ (c .before .if1 .taken), c .ended .ensures))
 
-going-requires : tie.Need-going-requires
-going-requires c κs = search needs
+go-on-requires : tie.Need-go-on-requires
+go-on-requires c κs = search needs
 
 enum-known-step : tie.Need-enum-known-step
 enum-known-step c = search needs
@@ -53,8 +53,8 @@ load-requires-2 c κs =
     let case = c .before .before .step .given .1 in
     find-able (now (a .table)) (a .task) (a .errand) (node .result) (node .ensures) case (found .before .before .pre)
 
-going-requires-2 : tie.Need-going-requires-2
-going-requires-2 c κs = search needs
+go-on-requires-2 : tie.Need-go-on-requires-2
+go-on-requires-2 c κs = search needs
 
 enum-known-step-2 : tie.Need-enum-known-step-2
 enum-known-step-2 c = search needs
@@ -70,8 +70,8 @@ swap-requires c κs =
 is-same-requires : tie.Need-is-same-requires
 is-same-requires c κs = search needs
 
-going-requires-3 : tie.Need-going-requires-3
-going-requires-3 c κs = search needs
+go-on-requires-3 : tie.Need-go-on-requires-3
+go-on-requires-3 c κs = search needs
 
 same-length-2 : tie.Need-same-length-2
 same-length-2 c = search needs
@@ -84,10 +84,10 @@ returns-2 c =
     let case = c .before .before .before .before .before .before .before .before .step2 .given .1 in
     let swapped = c .before .before .before .before .before .swap in
     walks (now (a .table)) (a .task) (a .errand) (node .result) (node .ensures) case _ (a .number) _ _ (swapped .ensures)
-    (simp (← c .before .before .is-same .ensures, c .before .if2 .taken, c .going3 .ensures))
+    (simp (← c .before .before .is-same .ensures, c .before .if2 .taken, c .go-on3 .ensures))
 
-retrying-requires : tie.Need-retrying-requires
-retrying-requires c κs = search needs
+retry-requires : tie.Need-retry-requires
+retry-requires c κs = search needs
 
 enum-known-step-3 : tie.Need-enum-known-step-3
 enum-known-step-3 c = search needs
@@ -103,8 +103,8 @@ load-requires-3 c κs =
 moved-to-requires : tie.Need-moved-to-requires
 moved-to-requires c κs = search needs
 
-going-requires-4 : tie.Need-going-requires-4
-going-requires-4 c κs = search needs
+go-on-requires-4 : tie.Need-go-on-requires-4
+go-on-requires-4 c κs = search needs
 
 same-length-3 : tie.Need-same-length-3
 same-length-3 c = search needs
@@ -119,7 +119,7 @@ returns-3 c =
     let able = find-able (now (a .table)) (a .task) (a .errand) (node .result) (node .ensures) case (found .before .before .pre) in
     walks (now (a .table)) (a .task) (a .errand) (node .result) (node .ensures) case _ (a .number) _ _
     (sees-load (now (a .table)) (able .worded) _ (able .node) (loaded .result) (loaded .ensures))
-    (simp (ne-eqb _ _ (c .before .if1 .left), c .going .ensures))
+    (simp (ne-eqb _ _ (c .before .if1 .left), c .go-on .ensures))
 
 same-length-4 : tie.Need-same-length-4
 same-length-4 c = search needs
@@ -134,7 +134,7 @@ returns-4 c =
     let able = find-able (now (a .table)) (a .task) (a .errand) (node .result) (node .ensures) case (found .before .before .pre) in
     walks (now (a .table)) (a .task) (a .errand) (node .result) (node .ensures) case _ (a .number) _ _
     (sees-load (now (a .table)) (able .worded) _ (able .node) (loaded .result) (loaded .ensures))
-    (c .going2 .ensures)
+    (c .go-on2 .ensures)
 
 same-length-5 : tie.Need-same-length-5
 same-length-5 c = search needs
@@ -147,7 +147,7 @@ returns-5 c =
     let case = c .before .before .before .before .before .before .before .before .step2 .given .1 in
     let swapped = c .before .before .before .before .before .swap in
     walks (now (a .table)) (a .task) (a .errand) (node .result) (node .ensures) case _ (a .number) _ _ (swapped .ensures)
-    (simp (← c .before .before .is-same .ensures, c .before .if2 .left, c .retrying .ensures))
+    (simp (← c .before .before .is-same .ensures, c .before .if2 .left, c .retry .ensures))
 
 same-length-6 : tie.Need-same-length-6
 same-length-6 c = search needs
@@ -162,7 +162,7 @@ returns-6 c =
     let able = find-able (now (a .table)) (a .task) (a .errand) (node .result) (node .ensures) case (found .before .before .pre) in
     walks (now (a .table)) (a .task) (a .errand) (node .result) (node .ensures) case _ (a .number) _ _
     (sees-load (now (a .table)) (able .worded) _ (able .node) (loaded .result) (loaded .ensures))
-    (simp (c .before .moved-to .ensures, c .going4 .ensures))
+    (simp (c .before .moved-to .ensures, c .go-on4 .ensures))
 
 pub walk-spec : {M : Type 1} → statement M
 walk-spec =
@@ -174,21 +174,21 @@ walk-spec =
     ended-requires
     same-length
     returns
-    going-requires
+    go-on-requires
     enum-known-step
     load-requires-2
-    going-requires-2
+    go-on-requires-2
     enum-known-step-2
     swap-requires
     is-same-requires
-    going-requires-3
+    go-on-requires-3
     same-length-2
     returns-2
-    retrying-requires
+    retry-requires
     enum-known-step-3
     load-requires-3
     moved-to-requires
-    going-requires-4
+    go-on-requires-4
     same-length-3
     returns-3
     same-length-4

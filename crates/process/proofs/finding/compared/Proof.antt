@@ -4,18 +4,18 @@ use borrow.Author.Needs.{needs}
 use Rattle.process.proofs.finding.compared.Statement.{statement}
 use Rattle.process.proofs.finding.compared.Tie as tie
 
-together-answer-requires : tie.Need-together-answer-requires
-together-answer-requires c κs = search needs
+together-requires : tie.Need-together-requires
+together-requires c κs = search needs
 
 returns : tie.Need-returns
-returns c = simp (eq-eqb _ _ (c .before .if1 .taken), c .together-answer .ensures)
+returns c = simp (eq-eqb _ _ (c .before .if1 .taken), c .together .ensures)
 
-apart-stage-requires : tie.Need-apart-stage-requires
-apart-stage-requires c κs = search needs
+apart-requires : tie.Need-apart-requires
+apart-requires c κs = search needs
 
 returns-2 : tie.Need-returns-2
-returns-2 c = simp (ne-eqb _ _ (c .before .if1 .left), c .apart-stage .ensures)
+returns-2 c = simp (ne-eqb _ _ (c .before .if1 .left), c .apart .ensures)
 
 pub compared-spec : {M : Type 1} → statement M
 compared-spec =
-    tie.close (tie.spec together-answer-requires returns apart-stage-requires returns-2)
+    tie.close (tie.spec together-requires returns apart-requires returns-2)

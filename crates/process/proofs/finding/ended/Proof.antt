@@ -9,13 +9,13 @@ serves-x-requires c κs = search needs
 next-errand-requires : tie.Need-next-errand-requires
 next-errand-requires c κs = search needs
 
-going-requires : tie.Need-going-requires
-going-requires c κs = search needs
+go-on-requires : tie.Need-go-on-requires
+go-on-requires c κs = search needs
 
 returns : tie.Need-returns
 returns c =
     let tested = c .before .before in
-    simp (← tested .before .serves-x .ensures, tested .if1 .taken, c .before .next-errand .ensures, c .going .ensures)
+    simp (← tested .before .serves-x .ensures, tested .if1 .taken, c .before .next-errand .ensures, c .go-on .ensures)
 
 kind-of-requires : tie.Need-kind-of-requires
 kind-of-requires c κs = search needs
@@ -34,7 +34,7 @@ ended-spec =
     (tie.spec
     serves-x-requires
     next-errand-requires
-    going-requires
+    go-on-requires
     returns
     kind-of-requires
     compared-requires

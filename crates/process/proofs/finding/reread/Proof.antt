@@ -7,11 +7,11 @@ use Rattle.process.proofs.finding.reread.Tie as tie
 returns : tie.Need-returns
 returns c = simp (eq-eqb _ _ (c .if1 .taken))
 
-going-requires : tie.Need-going-requires
-going-requires c κs = search needs
+go-on-requires : tie.Need-go-on-requires
+go-on-requires c κs = search needs
 
 returns-2 : tie.Need-returns-2
-returns-2 c = simp (ne-eqb _ _ (c .before .if1 .left), c .going .ensures)
+returns-2 c = simp (ne-eqb _ _ (c .before .if1 .left), c .go-on .ensures)
 
 pub reread-spec : {M : Type 1} → statement M
-reread-spec = tie.close (tie.spec returns going-requires returns-2)
+reread-spec = tie.close (tie.spec returns go-on-requires returns-2)

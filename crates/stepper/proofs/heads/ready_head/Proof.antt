@@ -14,13 +14,13 @@ cast-request-at c = search needs
 request-at-requires : tie.Need-request-at-requires
 request-at-requires c κs = search needs
 
-begun-requires : tie.Need-begun-requires
-begun-requires c κs = search needs
+begin-requires : tie.Need-begin-requires
+begin-requires c κs = search needs
 
 returns : tie.Need-returns
 returns c =
     let t = sym (c .before .before .before .is-resting .ensures) ∙ c .before .before .if1 .taken in
-    c .begun .ensures ∙ simp (t, c .before .request-at .ensures noRequest)
+    c .begin .ensures ∙ simp (t, c .before .request-at .ensures noRequest)
 
 returns-2 : tie.Need-returns-2
 returns-2 c = search needs
@@ -32,6 +32,6 @@ ready-head-spec =
     is-resting-requires
     cast-request-at
     request-at-requires
-    begun-requires
+    begin-requires
     returns
     returns-2)

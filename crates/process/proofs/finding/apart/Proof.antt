@@ -1,7 +1,7 @@
 -- `finding::apart_stage`: one case a kind.
 use borrow.Author.Needs.{needs}
-use Rattle.process.proofs.finding.apart_stage.Statement.{statement}
-use Rattle.process.proofs.finding.apart_stage.Tie as tie
+use Rattle.process.proofs.finding.apart.Statement.{statement}
+use Rattle.process.proofs.finding.apart.Tie as tie
 
 enum-told : tie.Need-enum-told
 enum-told c = search needs
@@ -15,5 +15,5 @@ returns c = rw (c .enum-told .given .1)
 returns-2 : tie.Need-returns-2
 returns-2 c = rw (c .enum-told2 .given .1)
 
-pub apart-stage-spec : {M : Type 1} → statement M
-apart-stage-spec = tie.close (tie.spec enum-told enum-told-2 returns returns-2)
+pub apart-spec : {M : Type 1} → statement M
+apart-spec = tie.close (tie.spec enum-told enum-told-2 returns returns-2)
