@@ -48,15 +48,6 @@ returns c =
 
 pub print-job-spec : {M : Type 1} → statement M
 print-job-spec =
-    tie.close
-    (tie.spec
-    slice-aggregate-play
-    slice-aggregate-play-2
-    slice-aggregate-play-3
-    play-requires
-    slice-aggregate-put-text
-    slice-aggregate-put-text-2
-    slice-aggregate-put-text-3
-    put-text-requires
-    same-length
+    tie.close (tie.spec slice-aggregate-play slice-aggregate-play-2 slice-aggregate-play-3 play-requires
+    slice-aggregate-put-text slice-aggregate-put-text-2 slice-aggregate-put-text-3 put-text-requires same-length
     returns)

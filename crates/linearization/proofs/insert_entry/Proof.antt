@@ -82,20 +82,6 @@ returns c =
 
 pub insert-entry-spec : {M : Type 1} → statement M
 insert-entry-spec =
-    tie.close
-    (tie.spec
-    position-requires
-    mul-end
-    add-end
-    mul-move-up
-    sub-move-up
-    part-move-up-start
-    part-move-up-end
-    move-up-requires
-    mul-linearization
-    slice-write-linearization
-    add-linearization
-    mul-linearization-2
-    slice-write-linearization-2
-    same-length
-    returns)
+    tie.close (tie.spec position-requires mul-end add-end mul-move-up sub-move-up part-move-up-start part-move-up-end
+    move-up-requires mul-linearization slice-write-linearization add-linearization mul-linearization-2
+    slice-write-linearization-2 same-length returns)

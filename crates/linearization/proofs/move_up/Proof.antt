@@ -52,18 +52,5 @@ returns c =
 
 pub move-up-spec : {M : Type 1} → statement M
 move-up-spec =
-    tie.close
-    (tie.spec
-    Inv-loop
-    μ-loop
-    loop-holds
-    sub-i
-    sub-part
-    mul-part
-    slice-read-part
-    mul-part-2
-    slice-write-part
-    loop-less
-    loop-again
-    same-length
-    returns)
+    tie.close (tie.spec Inv-loop μ-loop loop-holds sub-i sub-part mul-part slice-read-part mul-part-2 slice-write-part
+    loop-less loop-again same-length returns)

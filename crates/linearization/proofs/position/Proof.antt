@@ -56,18 +56,5 @@ returns-2 c =
 
 pub position-spec : {M : Type 1} → statement M
 position-spec =
-    tie.close
-    (tie.spec
-    Inv-loop
-    μ-loop
-    loop-holds
-    mul-if1
-    sub-if1
-    mul-if1-2
-    shared-slice-read-if1
-    mul-result
-    returns
-    sub-at
-    loop-less
-    loop-again
-    returns-2)
+    tie.close (tie.spec Inv-loop μ-loop loop-holds mul-if1 sub-if1 mul-if1-2 shared-slice-read-if1 mul-result returns
+    sub-at loop-less loop-again returns-2)

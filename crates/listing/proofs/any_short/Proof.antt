@@ -34,11 +34,4 @@ returns-3 c =
 
 pub any-short-spec : {M : Type 1} → statement M
 any-short-spec =
-    tie.close
-    (tie.spec
-    is-short-requires
-    returns
-    is-short-requires-2
-    returns-2
-    is-short-requires-3
-    returns-3)
+    tie.close (tie.spec is-short-requires returns is-short-requires-2 returns-2 is-short-requires-3 returns-3)

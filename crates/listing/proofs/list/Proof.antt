@@ -52,12 +52,5 @@ returns-3 c =
 
 pub list-spec : {M : Type 1} → statement M
 list-spec =
-    tie.close
-    (tie.spec
-    any-short-requires
-    returns
-    listing-length-requires
-    returns-2
-    put-listing-requires
-    same-length
+    tie.close (tie.spec any-short-requires returns listing-length-requires returns-2 put-listing-requires same-length
     returns-3)

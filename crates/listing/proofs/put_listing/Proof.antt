@@ -32,11 +32,4 @@ returns-2 c =
 
 pub put-listing-spec : {M : Type 1} → statement M
 put-listing-spec =
-    tie.close
-    (tie.spec
-    put-refused-requires
-    same-length
-    returns
-    put-accepted-requires
-    same-length-2
-    returns-2)
+    tie.close (tie.spec put-refused-requires same-length returns put-accepted-requires same-length-2 returns-2)

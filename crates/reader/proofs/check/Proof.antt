@@ -29,12 +29,5 @@ returns-3 c = search needs
 
 pub check-spec : {M : Type 1} → statement M
 check-spec =
-    tie.close
-    (tie.spec
-    refuse-requires
-    returns
-    header-refusal-requires
-    refuse-requires-2
-    returns-2
-    check-records-requires
-    returns-3)
+    tie.close (tie.spec refuse-requires returns header-refusal-requires refuse-requires-2 returns-2
+    check-records-requires returns-3)

@@ -105,21 +105,6 @@ returns-4 c =
 
 pub check-records-spec : {M : Type 1} → statement M
 check-records-spec =
-    tie.close
-    (tie.spec
-    word-at-requires
-    cast-nodes
-    word-at-requires-2
-    cast-heads
-    read-requests-requires
-    refuse-requires
-    returns
-    request-place-requires
-    read-runs-requires
-    refuse-requires-2
-    returns-2
-    run-place-requires
-    close-refusal-requires
-    refuse-requires-3
-    returns-3
-    returns-4)
+    tie.close (tie.spec word-at-requires cast-nodes word-at-requires-2 cast-heads read-requests-requires
+    refuse-requires returns request-place-requires read-runs-requires refuse-requires-2 returns-2 run-place-requires
+    close-refusal-requires refuse-requires-3 returns-3 returns-4)

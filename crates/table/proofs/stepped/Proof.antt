@@ -155,38 +155,8 @@ returns-7 c =
 
 pub stepped-spec : {M : Type 1} → statement M
 stepped-spec =
-    tie.close
-    (tie.spec
-    enum-told
-    go-on-requires
-    enum-known-stage
-    walk-requires
-    enum-known-stage-2
-    load-requires
-    reread-requires
-    enum-told-2
-    load-requires-2
-    go-on-requires-2
-    enum-known-stage-3
-    load-requires-3
-    rank-both-requires
-    enum-known-stage-4
-    swap-requires
-    link-requires
-    enum-known-stage-5
-    add-t38
-    swap-requires-2
-    raise-requires
-    returns
-    same-length
-    returns-2
-    same-length-2
-    returns-3
-    same-length-3
-    returns-4
-    same-length-4
-    returns-5
-    same-length-5
-    returns-6
-    same-length-6
-    returns-7)
+    tie.close (tie.spec enum-told go-on-requires enum-known-stage walk-requires enum-known-stage-2 load-requires
+    reread-requires enum-told-2 load-requires-2 go-on-requires-2 enum-known-stage-3 load-requires-3 rank-both-requires
+    enum-known-stage-4 swap-requires link-requires enum-known-stage-5 add-t38 swap-requires-2 raise-requires returns
+    same-length returns-2 same-length-2 returns-3 same-length-3 returns-4 same-length-4 returns-5 same-length-5
+    returns-6 same-length-6 returns-7)

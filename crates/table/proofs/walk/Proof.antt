@@ -166,34 +166,7 @@ returns-6 c =
 
 pub walk-spec : {M : Type 1} → statement M
 walk-spec =
-    tie.close
-    (tie.spec
-    node-at-requires
-    enum-told
-    load-requires
-    ended-requires
-    same-length
-    returns
-    go-on-requires
-    enum-known-step
-    load-requires-2
-    go-on-requires-2
-    enum-known-step-2
-    swap-requires
-    is-same-requires
-    go-on-requires-3
-    same-length-2
-    returns-2
-    retry-requires
-    enum-known-step-3
-    load-requires-3
-    moved-to-requires
-    go-on-requires-4
-    same-length-3
-    returns-3
-    same-length-4
-    returns-4
-    same-length-5
-    returns-5
-    same-length-6
-    returns-6)
+    tie.close (tie.spec node-at-requires enum-told load-requires ended-requires same-length returns go-on-requires
+    enum-known-step load-requires-2 go-on-requires-2 enum-known-step-2 swap-requires is-same-requires go-on-requires-3
+    same-length-2 returns-2 retry-requires enum-known-step-3 load-requires-3 moved-to-requires go-on-requires-4
+    same-length-3 returns-3 same-length-4 returns-4 same-length-5 returns-5 same-length-6 returns-6)

@@ -62,17 +62,5 @@ returns c =
 
 pub put-fields-spec : {M : Type 1} → statement M
 put-fields-spec =
-    tie.close
-    (tie.spec
-    Inv-loop
-    μ-loop
-    loop-holds
-    put-byte-requires
-    mul-put-decimal
-    shared-slice-read-put-decimal
-    put-decimal-requires
-    add-i
-    loop-less
-    loop-again
-    same-length
-    returns)
+    tie.close (tie.spec Inv-loop μ-loop loop-holds put-byte-requires mul-put-decimal shared-slice-read-put-decimal
+    put-decimal-requires add-i loop-less loop-again same-length returns)

@@ -56,21 +56,6 @@ returns-3 c = search needs
 
 pub read-input-spec : {M : Type 1} → statement M
 read-input-spec =
-    tie.close
-    (tie.spec
-    Inv-loop
-    μ-loop
-    loop-holds
-    sub-read-some
-    part-read-some-start
-    part-read-some-end
-    read-some-requires
-    same-length
-    returns
-    add-done
-    loop-less
-    loop-again
-    same-length-2
-    returns-2
-    same-length-3
+    tie.close (tie.spec Inv-loop μ-loop loop-holds sub-read-some part-read-some-start part-read-some-end
+    read-some-requires same-length returns add-done loop-less loop-again same-length-2 returns-2 same-length-3
     returns-3)

@@ -42,16 +42,5 @@ returns c = search needs
 
 pub balance-spec : {M : Type 1} → statement M
 balance-spec =
-    tie.close
-    (tie.spec
-    Inv-loop
-    μ-loop
-    loop-holds
-    shared-slice-read-weight
-    weight-requires
-    add-sum
-    add-i
-    loop-less
-    loop-again
-    sub-result
-    returns)
+    tie.close (tie.spec Inv-loop μ-loop loop-holds shared-slice-read-weight weight-requires add-sum add-i loop-less
+    loop-again sub-result returns)

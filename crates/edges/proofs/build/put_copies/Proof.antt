@@ -41,16 +41,5 @@ returns c = search needs
 
 pub put-copies-spec : {M : Type 1} → statement M
 put-copies-spec =
-    tie.close
-    (tie.spec
-    Inv-loop
-    μ-loop
-    loop-holds
-    put-bytes-requires
-    put-meant-requires
-    add-i
-    loop-less
-    loop-again
-    same-length
-    same-length-2
-    returns)
+    tie.close (tie.spec Inv-loop μ-loop loop-holds put-bytes-requires put-meant-requires add-i loop-less loop-again
+    same-length same-length-2 returns)

@@ -61,22 +61,6 @@ returns-2 c = search needs
 
 pub put-field-spec : {M : Type 1} → statement M
 put-field-spec =
-    tie.close
-    (tie.spec
-    Inv-loop
-    μ-loop
-    loop-holds
-    find-requires
-    sub-put-word
-    part-put-word-start
-    part-put-word-end
-    put-word-requires
-    same-length
-    same-length-2
-    returns
-    add-i
-    loop-less
-    loop-again
-    same-length-3
-    same-length-4
+    tie.close (tie.spec Inv-loop μ-loop loop-holds find-requires sub-put-word part-put-word-start part-put-word-end
+    put-word-requires same-length same-length-2 returns add-i loop-less loop-again same-length-3 same-length-4
     returns-2)

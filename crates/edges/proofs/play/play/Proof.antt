@@ -47,18 +47,5 @@ returns-2 c = search needs
 
 pub play-spec : {M : Type 1} → statement M
 play-spec =
-    tie.close
-    (tie.spec
-    Inv-loop
-    μ-loop
-    loop-holds
-    find-requires
-    sub-play-row
-    part-play-row-start
-    part-play-row-end
-    play-row-requires
-    returns
-    add-from
-    loop-less
-    loop-again
-    returns-2)
+    tie.close (tie.spec Inv-loop μ-loop loop-holds find-requires sub-play-row part-play-row-start part-play-row-end
+    play-row-requires returns add-from loop-less loop-again returns-2)

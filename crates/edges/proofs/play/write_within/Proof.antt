@@ -31,13 +31,5 @@ returns-2 c = search needs
 
 pub write-within-spec : {M : Type 1} → statement M
 write-within-spec =
-    tie.close
-    (tie.spec
-    slice-aggregate-written-in
-    written-in-requires
-    returns
-    slice-relend-prefix-write-row
-    slice-aggregate-write-row
-    write-row-requires
-    same-length
-    returns-2)
+    tie.close (tie.spec slice-aggregate-written-in written-in-requires returns slice-relend-prefix-write-row
+    slice-aggregate-write-row write-row-requires same-length returns-2)

@@ -50,19 +50,5 @@ returns-2 c = search needs
 
 pub decimal-spec : {M : Type 1} → statement M
 decimal-spec =
-    tie.close
-    (tie.spec
-    Inv-loop
-    μ-loop
-    loop-holds
-    shared-slice-read-if1
-    returns
-    mul-value
-    shared-slice-read-digit
-    digit-requires
-    cast-value
-    add-value
-    add-i
-    loop-less
-    loop-again
-    returns-2)
+    tie.close (tie.spec Inv-loop μ-loop loop-holds shared-slice-read-if1 returns mul-value shared-slice-read-digit
+    digit-requires cast-value add-value add-i loop-less loop-again returns-2)

@@ -39,15 +39,5 @@ returns-2 c = search needs
 
 pub find-behind-spec : {M : Type 1} → statement M
 find-behind-spec =
-    tie.close
-    (tie.spec
-    Inv-loop
-    μ-loop
-    loop-holds
-    shared-slice-read-if1
-    returns
-    sub-left
-    add-i
-    loop-less
-    loop-again
+    tie.close (tie.spec Inv-loop μ-loop loop-holds shared-slice-read-if1 returns sub-left add-i loop-less loop-again
     returns-2)

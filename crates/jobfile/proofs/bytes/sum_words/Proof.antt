@@ -45,17 +45,5 @@ returns c = sum-end (c .before .before .before .loop .inv) _ (rw (← c .before 
 
 pub sum-words-spec : {M : Type 1} → statement M
 sum-words-spec =
-    tie.close
-    (tie.spec
-    Inv-loop
-    μ-loop
-    loop-holds
-    add-loop
-    whole-word-requires
-    wrapping-add-u16-requires
-    add-at
-    loop-less
-    loop-again
-    word-at-requires
-    wrapping-add-u16-requires-2
-    returns)
+    tie.close (tie.spec Inv-loop μ-loop loop-holds add-loop whole-word-requires wrapping-add-u16-requires add-at
+    loop-less loop-again word-at-requires wrapping-add-u16-requires-2 returns)

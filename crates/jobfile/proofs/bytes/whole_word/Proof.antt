@@ -33,13 +33,5 @@ returns c = simp (c .wide2 .ensures, c .before .before .wide .ensures, getD-drop
 
 pub whole-word-spec : {M : Type 1} → statement M
 whole-word-spec =
-    tie.close
-    (tie.spec
-    shared-slice-read-wide
-    wide-requires
-    add-wide
-    shared-slice-read-wide-2
-    wide-requires-2
-    mul-result
-    add-result
-    returns)
+    tie.close (tie.spec shared-slice-read-wide wide-requires add-wide shared-slice-read-wide-2 wide-requires-2
+    mul-result add-result returns)

@@ -34,12 +34,4 @@ returns-3 c = search needs
 
 pub word-at-spec : {M : Type 1} → statement M
 word-at-spec =
-    tie.close
-    (tie.spec
-    returns
-    sub-if2
-    shared-slice-read-wide
-    wide-requires
-    returns-2
-    whole-word-requires
-    returns-3)
+    tie.close (tie.spec returns sub-if2 shared-slice-read-wide wide-requires returns-2 whole-word-requires returns-3)

@@ -42,17 +42,5 @@ returns-3 c = rw (c .before .before .before .before .enum-told3 .given .1) (c .b
 
 pub put-row-spec : {M : Type 1} → statement M
 put-row-spec =
-    tie.close
-    (tie.spec
-    enum-told
-    put-word-requires
-    enum-told-2
-    put-request-requires
-    enum-told-3
-    put-entry-requires
-    same-length
-    returns
-    same-length-2
-    returns-2
-    same-length-3
-    returns-3)
+    tie.close (tie.spec enum-told put-word-requires enum-told-2 put-request-requires enum-told-3 put-entry-requires
+    same-length returns same-length-2 returns-2 same-length-3 returns-3)

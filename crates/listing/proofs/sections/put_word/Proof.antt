@@ -36,14 +36,5 @@ returns c =
 
 pub put-word-spec : {M : Type 1} → statement M
 put-word-spec =
-    tie.close
-    (tie.spec
-    mul-word
-    shared-slice-read-word
-    parent-requires
-    rank-requires
-    slice-aggregate-put-line
-    slice-aggregate-put-line-2
-    put-line-requires
-    same-length
-    returns)
+    tie.close (tie.spec mul-word shared-slice-read-word parent-requires rank-requires slice-aggregate-put-line
+    slice-aggregate-put-line-2 put-line-requires same-length returns)

@@ -30,12 +30,5 @@ returns-2 c =
 
 pub ended-spec : {M : Type 1} → statement M
 ended-spec =
-    tie.close
-    (tie.spec
-    serves-x-requires
-    next-errand-requires
-    go-on-requires
-    returns
-    kind-of-requires
-    compared-requires
-    returns-2)
+    tie.close (tie.spec serves-x-requires next-errand-requires go-on-requires returns kind-of-requires
+    compared-requires returns-2)

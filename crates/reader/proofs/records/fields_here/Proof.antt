@@ -48,18 +48,5 @@ returns c =
 
 pub fields-here-spec : {M : Type 1} → statement M
 fields-here-spec =
-    tie.close
-    (tie.spec
-    add-byte-at
-    byte-at-requires
-    add-byte-at-2
-    byte-at-requires-2
-    add-word-at
-    word-at-requires
-    add-word-at-2
-    word-at-requires-2
-    cast-t8
-    cast-t9
-    cast-t10
-    cast-t11
-    returns)
+    tie.close (tie.spec add-byte-at byte-at-requires add-byte-at-2 byte-at-requires-2 add-word-at word-at-requires
+    add-word-at-2 word-at-requires-2 cast-t8 cast-t9 cast-t10 cast-t11 returns)

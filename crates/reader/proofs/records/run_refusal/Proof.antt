@@ -70,14 +70,5 @@ returns-5 c =
 
 pub run-refusal-spec : {M : Type 1} → statement M
 run-refusal-spec =
-    tie.close
-    (tie.spec
-    sub-if1
-    returns
-    run-here-requires
-    cast-if2
-    returns-2
-    returns-3
-    does-extend-requires
-    returns-4
+    tie.close (tie.spec sub-if1 returns run-here-requires cast-if2 returns-2 returns-3 does-extend-requires returns-4
     returns-5)

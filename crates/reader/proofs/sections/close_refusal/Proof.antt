@@ -61,14 +61,5 @@ returns-6 c =
 
 pub close-refusal-spec : {M : Type 1} → statement M
 close-refusal-spec =
-    tie.close
-    (tie.spec
-    sub-left
-    returns
-    word-at-requires
-    returns-2
-    returns-3
-    returns-4
-    sum-words-requires
-    returns-5
+    tie.close (tie.spec sub-left returns word-at-requires returns-2 returns-3 returns-4 sum-words-requires returns-5
     returns-6)

@@ -49,15 +49,5 @@ returns-4 c =
 
 pub header-refusal-spec : {M : Type 1} → statement M
 header-refusal-spec =
-    tie.close
-    (tie.spec
-    returns
-    word-at-requires
-    returns-2
-    returns-3
-    word-at-requires-2
-    cast-sizes-refusal
-    word-at-requires-3
-    cast-sizes-refusal-2
-    sizes-refusal-requires
-    returns-4)
+    tie.close (tie.spec returns word-at-requires returns-2 returns-3 word-at-requires-2 cast-sizes-refusal
+    word-at-requires-3 cast-sizes-refusal-2 sizes-refusal-requires returns-4)

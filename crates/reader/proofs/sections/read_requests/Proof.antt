@@ -45,16 +45,5 @@ returns-2 c = requests-end _ _ (c .before .before .loop .inv) (λ e. c .if1 .lef
 
 pub read-requests-spec : {M : Type 1} → statement M
 read-requests-spec =
-    tie.close
-    (tie.spec
-    Inv-loop
-    μ-loop
-    loop-holds
-    word-at-requires
-    request-refusal-requires
-    returns
-    add-at
-    add-count
-    loop-less
-    loop-again
-    returns-2)
+    tie.close (tie.spec Inv-loop μ-loop loop-holds word-at-requires request-refusal-requires returns add-at add-count
+    loop-less loop-again returns-2)

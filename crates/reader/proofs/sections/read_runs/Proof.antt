@@ -55,19 +55,5 @@ returns-2 c = runs-end (c .before .before .loop .inv) (λ e. c .if1 .left (c .be
 
 pub read-runs-spec : {M : Type 1} → statement M
 read-runs-spec =
-    tie.close
-    (tie.spec
-    Inv-loop
-    μ-loop
-    loop-holds
-    word-at-requires
-    run-refusal-requires
-    returns
-    run-here-requires
-    add-at
-    add-count
-    cast-grants
-    add-grants
-    loop-less
-    loop-again
-    returns-2)
+    tie.close (tie.spec Inv-loop μ-loop loop-holds word-at-requires run-refusal-requires returns run-here-requires
+    add-at add-count cast-grants add-grants loop-less loop-again returns-2)

@@ -101,21 +101,6 @@ returns-4 c =
 
 pub checked-spec : {M : Type 1} → statement M
 checked-spec =
-    tie.close
-    (tie.spec
-    numbers-refusal-requires
-    refusal-requires
-    returns
-    cast-request-place
-    request-place-requires
-    add-others
-    run-count-requires
-    sub-if2
-    refusal-requires-2
-    returns-2
-    mul-bytes
-    add-bytes
-    refusal-requires-3
-    returns-3
-    cast-t14
-    returns-4)
+    tie.close (tie.spec numbers-refusal-requires refusal-requires returns cast-request-place request-place-requires
+    add-others run-count-requires sub-if2 refusal-requires-2 returns-2 mul-bytes add-bytes refusal-requires-3
+    returns-3 cast-t14 returns-4)

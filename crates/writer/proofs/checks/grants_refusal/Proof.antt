@@ -47,15 +47,5 @@ returns-2 c =
 
 pub grants-refusal-spec : {M : Type 1} → statement M
 grants-refusal-spec =
-    tie.close
-    (tie.spec
-    Inv-loop
-    μ-loop
-    loop-holds
-    shared-slice-read-wide
-    wide-requires
-    returns
-    add-i
-    loop-less
-    loop-again
-    returns-2)
+    tie.close (tie.spec Inv-loop μ-loop loop-holds shared-slice-read-wide wide-requires returns add-i loop-less
+    loop-again returns-2)

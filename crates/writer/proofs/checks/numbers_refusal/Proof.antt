@@ -51,12 +51,5 @@ returns-4 c =
 
 pub numbers-refusal-spec : {M : Type 1} → statement M
 numbers-refusal-spec =
-    tie.close
-    (tie.spec
-    sizes-refusal-requires
-    returns
-    returns-2
-    requests-refusal-requires
-    returns-3
-    grants-refusal-requires
-    returns-4)
+    tie.close (tie.spec sizes-refusal-requires returns returns-2 requests-refusal-requires returns-3
+    grants-refusal-requires returns-4)

@@ -56,16 +56,5 @@ returns-2 c =
 
 pub requests-refusal-spec : {M : Type 1} → statement M
 requests-refusal-spec =
-    tie.close
-    (tie.spec
-    Inv-loop
-    μ-loop
-    loop-holds
-    sub-loop
-    fields-at-requires
-    fields-refusal-requires
-    returns
-    add-at
-    loop-less
-    loop-again
-    returns-2)
+    tie.close (tie.spec Inv-loop μ-loop loop-holds sub-loop fields-at-requires fields-refusal-requires returns add-at
+    loop-less loop-again returns-2)

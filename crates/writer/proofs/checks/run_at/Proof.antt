@@ -64,18 +64,5 @@ returns-2 c =
 
 pub run-at-spec : {M : Type 1} → statement M
 run-at-spec =
-    tie.close
-    (tie.spec
-    Inv-loop
-    μ-loop
-    shared-slice-read-t6
-    add-i
-    loop-holds
-    shared-slice-read-does-extend
-    does-extend-requires
-    returns
-    add-run
-    add-i-2
-    loop-less
-    loop-again
-    returns-2)
+    tie.close (tie.spec Inv-loop μ-loop shared-slice-read-t6 add-i loop-holds shared-slice-read-does-extend
+    does-extend-requires returns add-run add-i-2 loop-less loop-again returns-2)

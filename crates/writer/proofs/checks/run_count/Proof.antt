@@ -50,15 +50,4 @@ returns c = let l = c .before .loop in counted-all (now (c .before .before .befo
 
 pub run-count-spec : {M : Type 1} → statement M
 run-count-spec =
-    tie.close
-    (tie.spec
-    Inv-loop
-    μ-loop
-    loop-holds
-    run-at-requires
-    cast-i
-    add-i
-    add-runs
-    loop-less
-    loop-again
-    returns)
+    tie.close (tie.spec Inv-loop μ-loop loop-holds run-at-requires cast-i add-i add-runs loop-less loop-again returns)

@@ -44,14 +44,5 @@ returns c =
 
 pub put-close-spec : {M : Type 1} → statement M
 put-close-spec =
-    tie.close
-    (tie.spec
-    put-word-requires
-    add-end
-    slice-reshare-prefix-sum-words
-    slice-aggregate-sum-words
-    sum-words-requires
-    wrapping-sub-u16-requires
-    put-word-requires-2
-    same-length
-    returns)
+    tie.close (tie.spec put-word-requires add-end slice-reshare-prefix-sum-words slice-aggregate-sum-words
+    sum-words-requires wrapping-sub-u16-requires put-word-requires-2 same-length returns)

@@ -76,13 +76,5 @@ returns c =
 
 pub put-file-spec : {M : Type 1} → statement M
 put-file-spec =
-    tie.close
-    (tie.spec
-    cast-put-header
-    cast-put-header-2
-    put-header-requires
-    put-requests-requires
-    put-runs-requires
-    put-close-requires
-    same-length
-    returns)
+    tie.close (tie.spec cast-put-header cast-put-header-2 put-header-requires put-requests-requires put-runs-requires
+    put-close-requires same-length returns)

@@ -63,18 +63,6 @@ returns c =
 
 pub put-request-spec : {M : Type 1} → statement M
 put-request-spec =
-    tie.close
-    (tie.spec
-    put-word-requires
-    add-put-bytes
-    cast-put-bytes
-    cast-put-bytes-2
-    put-bytes-requires
-    add-put-word
-    cast-put-word
-    put-word-requires-2
-    add-put-word-2
-    cast-put-word-2
-    put-word-requires-3
-    same-length
+    tie.close (tie.spec put-word-requires add-put-bytes cast-put-bytes cast-put-bytes-2 put-bytes-requires
+    add-put-word cast-put-word put-word-requires-2 add-put-word-2 cast-put-word-2 put-word-requires-3 same-length
     returns)

@@ -62,17 +62,5 @@ returns c =
 
 pub put-requests-spec : {M : Type 1} → statement M
 put-requests-spec =
-    tie.close
-    (tie.spec
-    Inv-loop
-    μ-loop
-    loop-holds
-    sub-loop
-    fields-at-requires
-    put-request-requires
-    add-i
-    add-at
-    loop-less
-    loop-again
-    same-length
-    returns)
+    tie.close (tie.spec Inv-loop μ-loop loop-holds sub-loop fields-at-requires put-request-requires add-i add-at
+    loop-less loop-again same-length returns)

@@ -69,17 +69,5 @@ returns c =
 
 pub put-runs-spec : {M : Type 1} → statement M
 put-runs-spec =
-    tie.close
-    (tie.spec
-    Inv-loop
-    μ-loop
-    loop-holds
-    run-at-requires
-    put-run-requires
-    cast-i
-    add-i
-    add-at
-    loop-less
-    loop-again
-    same-length
-    returns)
+    tie.close (tie.spec Inv-loop μ-loop loop-holds run-at-requires put-run-requires cast-i add-i add-at loop-less
+    loop-again same-length returns)
