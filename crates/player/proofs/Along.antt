@@ -268,10 +268,14 @@ module _ (E : Entry) (table report linearization : List ℕ) (plan : Plan) (byte
     rows = 4 * plan .counts .requests
 
     table-is : table ≡ map encode (fresh (meaning file .job .nodes)) ++ drop size table₀
-    table-is = ap (λ x. x .table) was-accepted ∙ ap (λ k. map encode (fresh (meaning file .job .nodes)) ++ drop k table₀) (sym (nodes-are (roomy .checks)))
+    table-is =
+        ap (λ x. x .table) was-accepted
+        ∙ ap (λ k. map encode (fresh (meaning file .job .nodes)) ++ drop k table₀) (sym (nodes-are (roomy .checks)))
 
     report-is : report ≡ replicate (4 * length (requestsIn file)) 0 ++ drop rows report₀
-    report-is = ap (λ x. x .report) was-accepted ∙ ap (λ k. replicate (4 * length (requestsIn file)) 0 ++ drop k report₀) (sym (rows-are (roomy .checks)))
+    report-is =
+        ap (λ x. x .report) was-accepted
+        ∙ ap (λ k. replicate (4 * length (requestsIn file)) 0 ++ drop k report₀) (sym (rows-are (roomy .checks)))
 
     fresh-long : length (map encode (fresh (meaning file .job .nodes))) ≡ size
     fresh-long = length-words (meaning file .job .nodes) ∙ sym (nodes-are (roomy .checks))
@@ -303,8 +307,10 @@ module _ (E : Entry) (table report linearization : List ℕ) (plan : Plan) (byte
             linearization-long = linearization-long;
             nodes = omega (arith, nodes-are (roomy .checks), table-long, roomy .nodes);
             rows = omega (arith, rows-are (roomy .checks), report-long, roomy .rows);
-            table-rest = ap (drop size) table-is ∙ drop-at (map encode (fresh (meaning file .job .nodes))) (drop size table₀) size fresh-long;
-            report-rest = ap (drop rows) report-is ∙ drop-at (replicate (4 * length (requestsIn file)) 0) (drop rows report₀) rows zeros-long;
+            table-rest = ap (drop size) table-is
+                ∙ drop-at (map encode (fresh (meaning file .job .nodes))) (drop size table₀) size fresh-long;
+            report-rest = ap (drop rows) report-is
+                ∙ drop-at (replicate (4 * length (requestsIn file)) 0) (drop rows report₀) rows zeros-long;
             going = going-start (checks-playing (roomy .checks) bytes) (plan .progress) tally
                 (ap (λ x. x .plan .progress) was-accepted) is-tally
                 (subst (λ b. Standing (meaning file .job) b 1 [] linearization₀) (sym starts)

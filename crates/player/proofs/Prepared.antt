@@ -11,6 +11,7 @@ use lib.Seq.{length-take-le}
 use borrow.Author.Tests.{eq-eqb, ne-eqb}
 use Rattle.word.specs.Word.{encode}
 use Rattle.process.specs.declared.Head.{Head}
+use Rattle.jobfile.specs.Format.{mostHeads}
 use Rattle.jobfile.specs.Meaning.{meaning}
 use Rattle.jobfile.specs.Admitted.{Admitted, Bytes}
 use Rattle.jobfile.proofs.RoundTrip.{admitted-meaning}
@@ -53,7 +54,7 @@ module _ {file : List ℕ} {counts : Checked} (checks : Checks file counts) wher
     pub laid : (firsts : List ℕ) (heads : List Head) (mask : ℕ) (words zeros : List ℕ) (progress : Progress)
         → words ≡ map encode (fresh (length (take (counts .nodes) table)))
         → zeros ≡ replicate (length (take (4 * counts .requests) report)) 0
-        → firsts ≡ firstRequests (requestsIn file) 0 16 → heads ≡ map resting firsts
+        → firsts ≡ firstRequests (requestsIn file) 0 mostHeads → heads ≡ map resting firsts
         → mask ≡ maskOf (map (isRequest (counts .requests)) firsts) → progress ≡ firstProgress heads mask
         → _≡_ {A = Laid} (record {
           table = words ++ drop (counts .nodes) table;

@@ -37,11 +37,13 @@ module _ (j : Job) (table report linearization : ℕ) where
     module _ (rows : 4 * length (j .requests) ≤ report) where
       pub short-linearization : linearization < 2 * length (j .requests) → lentRefusal j table report linearization ≡ 14
       unfolding lentRefusal
-      short-linearization l = rw (le-ltb table (j .nodes) long, le-ltb report (4 * length (j .requests)) rows, lt-ltb linearization (2 * length (j .requests)) l)
+      short-linearization l =
+          rw (le-ltb table (j .nodes) long, le-ltb report (4 * length (j .requests)) rows, lt-ltb linearization (2 * length (j .requests)) l)
 
       pub long-enough : 2 * length (j .requests) ≤ linearization → lentRefusal j table report linearization ≡ 0
       unfolding lentRefusal
-      long-enough l = rw (le-ltb table (j .nodes) long, le-ltb report (4 * length (j .requests)) rows, le-ltb linearization (2 * length (j .requests)) l)
+      long-enough l =
+          rw (le-ltb table (j .nodes) long, le-ltb report (4 * length (j .requests)) rows, le-ltb linearization (2 * length (j .requests)) l)
 
 -- the other way round: what is not refused is long enough
 unless-short : (a b : ℕ) → (a < b → ⊥) → b ≤ a

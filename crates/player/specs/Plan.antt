@@ -19,6 +19,7 @@ use Rattle.job.specs.declared.Tally.{Tally}
 use Rattle.job.specs.declared.Played.{Played}
 use Rattle.word.specs.Word.{encode}
 use Rattle.process.specs.declared.Head.{Head}
+use Rattle.jobfile.specs.Format.{mostHeads}
 use Rattle.jobfile.specs.Meaning.{refused, meaning}
 use Rattle.mask.specs.Mask.{maskOf}
 use Rattle.reader.specs.declared.Checked.{Checked}
@@ -39,13 +40,13 @@ planOf counts heads mask = record { counts = counts; progress = firstProgress he
 
 -- Every head rests, and none has work.
 abbrev pub idlePlan : Checked → Plan
-idlePlan counts = planOf counts (replicate 16 (resting 0)) 0
+idlePlan counts = planOf counts (replicate mostHeads (resting 0)) 0
 
 -- Every head rests before its first request.
 abbrev pub acceptedPlan : List ℕ → Plan
 acceptedPlan file =
-    planOf (countsOf (meaning file)) (headsFrom (requestsIn file) 0 16)
-    (maskOf (map (workFlag (length (requestsIn file))) (headsFrom (requestsIn file) 0 16)))
+    planOf (countsOf (meaning file)) (headsFrom (requestsIn file) 0 mostHeads)
+    (maskOf (map (workFlag (length (requestsIn file))) (headsFrom (requestsIn file) 0 mostHeads)))
 
 pub record Laid : Type 0 where
   pub table : List ℕ

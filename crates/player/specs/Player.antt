@@ -9,20 +9,18 @@
 --   playedOf            what a play leaves
 use mathlib.Core.Path.{_≡_}
 use mathlib.Core.Bool.{cond}
-use mathlib.Core.List.{List, _++_, map}
+use mathlib.Core.List.{List, _++_}
 use Prim.Native.Nat.{ℕ, _*_, _≤_}
 use lib.Dec.{eqb, ltb}
 use lib.ListN.{length, drop}
 use Rattle.job.specs.declared.Played.{Played}
 use Rattle.job.specs.Job.{Job}
-use Rattle.word.specs.Word.{encode}
-use Rattle.linearization.specs.Entry.{flat}
 use Rattle.jobfile.specs.Format.{_then_}
 use Rattle.jobfile.specs.Meaning.{refused, meaning}
 use Rattle.reader.specs.declared.Checked.{Checked}
 use Rattle.reader.specs.Reader.{countsOf}
 use Rattle.rules.specs.State.{State, tallyOf}
-use Rattle.stepper.specs.Buffers.{flatRows}
+use Rattle.stepper.specs.Shown.{shown}
 use Rattle.turns.specs.Turns.{runOf}
 
 -- Each refusal gives its number and zero for every count.
@@ -79,12 +77,8 @@ left table report linearization result = record { table = table; report = report
 -- "Numbers past the table's places, the report's requests and the line-up's entries remain as lent."
 abbrev pub leftAt : Job → State → List ℕ → List ℕ → List ℕ → Left
 leftAt j S table report linearization =
-    record {
-      table = map encode (S .table) ++ drop (j .nodes) table;
-      report = flatRows (S .report) ++ drop (4 * length (j .requests)) report;
-      linearization = flat (S .entries) ++ drop (2 * length (S .entries)) linearization;
-      result = acceptedWith j S;
-    }
+    let b = shown (j .requests) S linearization in
+    left (b .table ++ drop (j .nodes) table) (b .report ++ drop (4 * length (j .requests)) report) (b .linearization) (acceptedWith j S)
 
 abbrev pub cutOf : Job → List ℕ → List ℕ → List ℕ → Left
 cutOf j table report linearization = leftAt j (runOf j) table report linearization

@@ -8,6 +8,7 @@ use start::first_requests;
 use start::fresh_table;
 use start::resting_heads;
 use start::successors;
+use stepper::MOST_HEADS;
 use turns::Progress;
 use turns::counted;
 use turns::first_progress;
@@ -55,7 +56,7 @@ pub fn admission(file: &[u8], table: usize, report: usize, linearization: usize)
 fn turned_down(counts: Checked) -> Plan
     ensures { λ r. ⌜ r ≡ idlePlan counts ⌝ }
 {
-    let heads = resting_heads([0u16; 16]);
+    let heads = resting_heads([0u16; MOST_HEADS]);
     Plan {
         counts,
         progress: first_progress(heads, 0),

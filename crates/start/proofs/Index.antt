@@ -10,6 +10,7 @@ use native.Mathlib.Omega.{arith}
 use native.Mathlib.Decide.{ℕ-discrete}
 use lib.ListN.{length, getD, set, replicate, length-set, getD-replicate}
 use lib.Seq.{getD-set-same, getD-set-other}
+use Rattle.jobfile.specs.Format.{mostHeads}
 use Rattle.job.specs.declared.Request.{Request}
 use Rattle.rules.specs.State.{noRequest, requestAt, seek}
 use Rattle.stepper.specs.Shown.{requestsIn, Playing}
@@ -19,27 +20,27 @@ use Rattle.stepper.proofs.Reached.{playing-admitted}
 
 pub record Indexed (qs : List Request) (firsts index : List ℕ) (q : ℕ) : Type 0 where
   pub within : q ≤ length qs
-  pub heads : length firsts ≡ 16
+  pub heads : length firsts ≡ mostHeads
   pub size : length index ≡ 512
-  pub first : (h : ℕ) → h < 16 → getD firsts h 0 ≡ seek qs h q
+  pub first : (h : ℕ) → h < mostHeads → getD firsts h 0 ≡ seek qs h q
   pub successor : (p : ℕ) → q ≤ p → p < length qs → getD index p 0 ≡ seek qs (requestAt qs p .head) (suc p)
 
-pub indexed-none : (qs : List Request) (count : ℕ) → count ≡ length qs → Indexed qs (replicate 16 count) (replicate 512 0) count
+pub indexed-none : (qs : List Request) (count : ℕ) → count ≡ length qs → Indexed qs (replicate mostHeads count) (replicate 512 0) count
 indexed-none qs count all =
     record {
       within = omega (arith, all);
       heads = refl;
       size = refl;
-      first = λ h l. getD-replicate {A = ℕ} 16 h count 0 l ∙ sym (seek-none qs h count (omega (arith, all)));
+      first = λ h l. getD-replicate {A = ℕ} mostHeads h count 0 l ∙ sym (seek-none qs h count (omega (arith, all)));
       successor = λ p l inside. absurd (omega (arith, all));
     }
 
 module _ {qs : List Request} {firsts index : List ℕ} {q : ℕ} (i : Indexed qs firsts index q) (p head : ℕ) (is : suc p ≡ q)
-    (own : requestAt qs p .head ≡ head) (few : head < 16) (room : p < 512) where
+    (own : requestAt qs p .head ≡ head) (few : head < mostHeads) (room : p < 512) where
   here : p < length qs
   here = omega (arith, is, i .within)
 
-  first-on : (h : ℕ) → h < 16 → Dec (h ≡ head) → getD (set firsts head p) h 0 ≡ seek qs h p
+  first-on : (h : ℕ) → h < mostHeads → Dec (h ≡ head) → getD (set firsts head p) h 0 ≡ seek qs h p
   first-on h l (yes e) = rw e (getD-set-same firsts head p 0 (omega (arith, i .heads)) ∙ sym (seek-here qs head p here own))
   first-on h l (no d) =
       getD-set-other firsts head h p 0 d ∙ i .first h l ∙ ap (seek qs h) (sym is)
@@ -72,7 +73,7 @@ module _ {file : List ℕ} {requests : ℕ} (playing : Playing file requests) wh
   pub few-requests : requests ≤ 512
   few-requests = omega (arith, playing .count, playing-admitted playing .few-requests)
 
-  pub few-heads : (q : ℕ) → q < requests → (r : Request) → ((none : Request) → r ≡ getD (requestsIn file) q none) → r .head < 16
+  pub few-heads : (q : ℕ) → q < requests → (r : Request) → ((none : Request) → r ≡ getD (requestsIn file) q none) → r .head < mostHeads
   few-heads q l r is =
       omega (
         arith,

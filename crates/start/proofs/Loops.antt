@@ -11,6 +11,7 @@ use native.Mathlib.Decide.{ℕ-discrete}
 use lib.ListN.{length, getD, set, drop, length-set, length-drop, length-map, drop-of-length-le}
 use lib.Pow.{pow-mono}
 use lib.Seq.{drop-cons, getD-set-same, getD-set-other, ext-getD}
+use Rattle.jobfile.specs.Format.{mostHeads}
 use Rattle.mask.specs.Mask.{bitOf, maskOf}
 use Rattle.mask.proofs.Laws.{mask-none, mask-more, mask-bound}
 
@@ -53,10 +54,10 @@ module _ (flag : ℕ → Bool) (numbers : List ℕ) where
       }
 
   -- the mask of sixteen flags leaves room for a flag more
-  pub gathered-small : (h mask : ℕ) → length numbers ≤ 16 → Gathered flag numbers h mask → mask < 2 ^ 31
+  pub gathered-small : (h mask : ℕ) → length numbers ≤ mostHeads → Gathered flag numbers h mask → mask < 2 ^ 31
   gathered-small h mask few before =
       let flags = map flag (drop h numbers) in
-      let size : length flags ≤ 16 = omega (arith, length-map (drop h numbers) flag, length-drop h numbers) in
+      let size : length flags ≤ mostHeads = omega (arith, length-map (drop h numbers) flag, length-drop h numbers) in
       omega (arith, before .same, mask-bound flags, pow-mono size)
 
   -- one flag more, below the others

@@ -18,6 +18,7 @@ use Rattle.job.specs.Job.{Job}
 use Rattle.word.specs.declared.Node.{Node}
 use Rattle.word.specs.Word.{encode}
 use Rattle.process.specs.declared.Head.{Head}
+use Rattle.jobfile.specs.Format.{mostHeads}
 use Rattle.mask.specs.Mask.{maskOf}
 use Rattle.rules.specs.Table.{noNode, fresh}
 use Rattle.rules.specs.Report.{noRow}
@@ -73,13 +74,13 @@ flags-first k qs h (suc m) = ap (λ l. isRequest k (firstRequest qs h) ∷ l) (f
 
 -- the heads that rest before the first requests are the heads of the start, and their flags are those of the mask
 module _ (qs : List Request) (firsts : List ℕ) where
-  pub first-heads : (heads : List Head) → firsts ≡ firstRequests qs 0 16 → heads ≡ map resting firsts → heads ≡ headsFrom qs 0 16
-  first-heads heads are-first are = are ∙ ap (map resting) are-first ∙ resting-first qs 0 16
+  pub first-heads : (heads : List Head) → firsts ≡ firstRequests qs 0 mostHeads → heads ≡ map resting firsts → heads ≡ headsFrom qs 0 mostHeads
+  first-heads heads are-first are = are ∙ ap (map resting) are-first ∙ resting-first qs 0 mostHeads
 
-  pub first-flags : (mask : ℕ) {requests : ℕ} → firsts ≡ firstRequests qs 0 16 → requests ≡ length qs → mask ≡ maskOf (map (isRequest requests) firsts)
-      → mask ≡ maskOf (map (workFlag (length qs)) (headsFrom qs 0 16))
+  pub first-flags : (mask : ℕ) {requests : ℕ} → firsts ≡ firstRequests qs 0 mostHeads → requests ≡ length qs → mask ≡ maskOf (map (isRequest requests) firsts)
+      → mask ≡ maskOf (map (workFlag (length qs)) (headsFrom qs 0 mostHeads))
   first-flags mask are-first count are =
-      are ∙ ap₂ (λ k l. maskOf (map (isRequest k) l)) count are-first ∙ ap maskOf (flags-first (length qs) qs 0 16)
+      are ∙ ap₂ (λ k l. maskOf (map (isRequest k) l)) count are-first ∙ ap maskOf (flags-first (length qs) qs 0 mostHeads)
 
 -- ---- the report
 
@@ -93,13 +94,13 @@ start-rows (suc k) =
 
 pub start-standing : (j : Job) (lent : List ℕ) → 2 * length (j .requests) ≤ length lent
     → Standing j
-    (buffers (headsFrom (j .requests) 0 16) (map encode (fresh (j .nodes))) (replicate (4 * length (j .requests)) 0) lent 0
-    (maskOf (map (workFlag (length (j .requests))) (headsFrom (j .requests) 0 16))))
+    (buffers (headsFrom (j .requests) 0 mostHeads) (map encode (fresh (j .nodes))) (replicate (4 * length (j .requests)) 0) lent 0
+    (maskOf (map (workFlag (length (j .requests))) (headsFrom (j .requests) 0 mostHeads))))
     1 [] lent
 start-standing j lent room =
     record {
-      shows = ap (λ rows. buffers (headsFrom (j .requests) 0 16) (map encode (fresh (j .nodes))) rows lent 0
-          (maskOf (map (workFlag (length (j .requests))) (headsFrom (j .requests) 0 16)))) (sym (start-rows (length (j .requests))));
+      shows = ap (λ rows. buffers (headsFrom (j .requests) 0 mostHeads) (map encode (fresh (j .nodes))) rows lent 0
+          (maskOf (map (workFlag (length (j .requests))) (headsFrom (j .requests) 0 mostHeads)))) (sym (start-rows (length (j .requests))));
       next = refl;
       granted = λ h m. absurd (elim m [ ]);
       room = room;

@@ -3,6 +3,8 @@ use process::Head;
 use process::NO_WAIT;
 use process::Stage;
 use process::Task;
+use stepper::Heads;
+use stepper::MOST_HEADS;
 use stepper::requests::next_request;
 use word::Node;
 ghost use mathlib.Core.Path.{_≡_};
@@ -10,6 +12,7 @@ ghost use mathlib.Core.List.{map};
 ghost use Prim.Native.Nat.{_≤_};
 ghost use lib.ListN.{length, replicate};
 ghost use Rattle.word.specs.Word.{encode, nodeLimit};
+ghost use Rattle.jobfile.specs.Format.{mostHeads};
 ghost use Rattle.mask.specs.Mask.{maskOf};
 ghost use Rattle.rules.specs.Table.{fresh};
 ghost use Rattle.rules.specs.State.{resting};
@@ -44,14 +47,14 @@ pub fn clear_report(report: &mut [u32])
 }
 
 // The first request of each head, or the number of requests where it has none.
-pub fn first_requests(file: &[u8], requests: u32) -> [u16; 16]
+pub fn first_requests(file: &[u8], requests: u32) -> [u16; MOST_HEADS]
     requires { ⌜ Playing (now file) requests ⌝ }
-    ensures { λ r. ⌜ r ≡ firstRequests (requestsIn (now (file .entry))) 0 16 ⌝ }
+    ensures { λ r. ⌜ r ≡ firstRequests (requestsIn (now (file .entry))) 0 mostHeads ⌝ }
 {
-    let mut firsts = [0u16; 16];
-    let mut h: u32 = 0;
-    while h < 16 {
-        firsts[h as usize] = next_request(file, requests, h, 0) as u16;
+    let mut firsts = [0u16; MOST_HEADS];
+    let mut h: usize = 0;
+    while h < MOST_HEADS {
+        firsts[h] = next_request(file, requests, h as u32, 0) as u16;
         h += 1;
     }
     firsts
@@ -63,7 +66,7 @@ pub fn successors(file: &[u8], requests: u32) -> [u16; 512]
     requires { ⌜ Playing (now file) requests ⌝ }
     ensures { λ r. ⌜ Indexes (requestsIn (now (file .entry))) r ⌝ }
 {
-    let mut firsts = [requests as u16; 16];
+    let mut firsts = [requests as u16; MOST_HEADS];
     let mut index = [0u16; 512];
     let mut q = requests;
     while 0 < q {
@@ -90,16 +93,16 @@ fn resting_task(request: u16) -> Task
 
 // Every head resting before its first request. The loop only stores whole heads, so that the compiler cuts the array into
 // pieces of a register's size and a grant copies it fast (docs/DECISIONS.md, "Heads by value, and speed").
-pub fn resting_heads(firsts: [u16; 16]) -> [Head; 16]
+pub fn resting_heads(firsts: [u16; MOST_HEADS]) -> Heads
     ensures { λ r. ⌜ r ≡ map resting firsts ⌝ }
 {
     let first = Head {
         stage: Stage::Resting,
         task: resting_task(0),
     };
-    let mut heads = [first; 16];
+    let mut heads = [first; MOST_HEADS];
     let mut h: usize = 0;
-    while h < 16 {
+    while h < MOST_HEADS {
         heads[h] = Head {
             task: resting_task(firsts[h]),
             ..first
@@ -110,11 +113,11 @@ pub fn resting_heads(firsts: [u16; 16]) -> [Head; 16]
 }
 
 // The work mask of the heads: a bit for each that has a first request.
-pub fn first_mask(firsts: [u16; 16], requests: u32) -> u32
+pub fn first_mask(firsts: [u16; MOST_HEADS], requests: u32) -> u32
     ensures { λ r. ⌜ r ≡ maskOf (map (isRequest requests) firsts) ⌝ }
 {
     let mut mask: u32 = 0;
-    let mut h: usize = 16;
+    let mut h = MOST_HEADS;
     while 0 < h {
         h -= 1;
         mask = mask::pushed(mask, (firsts[h] as u32) < requests);

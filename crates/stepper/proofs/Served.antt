@@ -9,6 +9,7 @@ use native.Mathlib.Omega.{arith}
 use lib.Dec.{eqb, ltb}
 use lib.ListN.{length, getD, set, drop}
 use Rattle.basics.proofs.Conditions.{split}
+use Rattle.jobfile.specs.Format.{mostHeads}
 use Rattle.job.specs.declared.Request.{Request}
 use Rattle.word.specs.Word.{decode, encode}
 use Rattle.process.specs.declared.Head.{Head}
@@ -58,7 +59,7 @@ invariant-worded {n = n} inv =
     }
 
 module _ {qs : List Request} {n : ℕ} {b : Buffers} {number : ℕ} {S : State} {past : List Happening} {lent : List ℕ}
-    (here : Reached qs n b number S past lent) (h : ℕ) (present : h < 16)
+    (here : Reached qs n b number S past lent) (h : ℕ) (present : h < mostHeads)
     (in-service : Serving qs n apart S past h (ready qs (headAt S h))) where
   abbrev head : Head
   head = ready qs (headAt S h)

@@ -15,6 +15,12 @@ ghost use lib.Dec.{eqb, ltb};
 ghost use Rattle.stepper.specs.Shown.{buffers, requestsIn, Ready, Grants};
 ghost use Rattle.stepper.specs.Index.{Indexes};
 
+// The heads of every play; those that a job does not have get no request and no grant.
+pub const MOST_HEADS: usize = 16;
+
+// What a grant takes and leaves by value.
+pub type Heads = [Head; MOST_HEADS];
+
 // What a grant adds to the tally: an idle grant, a swap that did not write, a link.
 pub struct Done {
     pub idle: bool,
@@ -24,7 +30,7 @@ pub struct Done {
 
 // What a grant leaves beside the lent buffers: the heads, the number of entries, the work mask, and what it was.
 pub struct Granted {
-    pub heads: [Head; 16],
+    pub heads: Heads,
     pub entries: u32,
     pub mask: u32,
     pub done: Done,
@@ -47,7 +53,7 @@ fn serve(
     file: &[u8],
     successors: &[u16],
     requests: u32,
-    mut heads: [Head; 16],
+    mut heads: Heads,
     h: u32,
     number: u32,
     table: &mut [u32],
@@ -91,7 +97,7 @@ pub fn grant(
     file: &[u8],
     successors: &[u16],
     requests: u32,
-    heads: [Head; 16],
+    heads: Heads,
     h: u32,
     number: u32,
     table: &mut [u32],

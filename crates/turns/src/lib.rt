@@ -1,7 +1,7 @@
 // The grants of an accepted file: a cursor over its runs, one grant a turn, and the tally.
 use job::Tally;
-use process::Head;
 use stepper::Done;
+use stepper::Heads;
 use stepper::grant;
 ghost use mathlib.Core.Path.{_≡_};
 ghost use Prim.Native.Nat.{_<_};
@@ -20,7 +20,7 @@ pub struct Cursor {
 
 // What a play carries from grant to grant beside the lent buffers; `done` is what the last grant was.
 pub struct Progress {
-    pub heads: [Head; 16],
+    pub heads: Heads,
     pub entries: u32,
     pub mask: u32,
     pub number: u32,
@@ -127,7 +127,7 @@ pub fn turn(
 }
 
 // What a play carries before its first grant.
-pub fn first_progress(heads: [Head; 16], mask: u32) -> Progress
+pub fn first_progress(heads: Heads, mask: u32) -> Progress
     ensures { λ r. ⌜ r ≡ firstProgress heads mask ⌝ }
 {
     Progress {

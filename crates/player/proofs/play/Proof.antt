@@ -1,21 +1,23 @@
 -- `player::play`: refused, nothing is written; else the loop keeps what the start laid out, and demand 3 and the laws of
 -- every moment hold of what it leaves.
-use mathlib.Core.Path.{refl}
+use mathlib.Core.Path.{_≡_, refl, _∙_}
 use mathlib.Core.List.{List}
 use Prim.Native.Nat.{ℕ, _-_}
 use native.Mathlib.Omega.{arith}
 use borrow.Author.Needs.{needs}
+use lib.ListN.{length}
 use Rattle.turns.specs.Turns.{firstTally}
 use Rattle.player.proofs.Along.{entry, Lending, along, lending-start, refused-end}
 use Rattle.player.proofs.Along.{along-turnable, along-addable, along-next, along-end}
 use Rattle.player.proofs.play.Statement.{statement}
 use Rattle.player.proofs.play.Tie as tie
 
--- whatever the buffers were when they were lent, a turn keeps what the loop began with
+-- the buffers are as long as they were, and whatever they were when they were lent, a turn keeps what the loop began with
 abbrev Inv-loop : tie.InvT-loop
 Inv-loop file table₀ report₀ linearization₀ counts index progress₀ tally₀ table report linearization progress tally =
-    (t r l : List ℕ) → Lending (entry file t r l) counts progress₀ tally₀ table₀ report₀ linearization₀
-    → Lending (entry file t r l) counts progress tally table report linearization
+    (length table ≡ length table₀) × (length report ≡ length report₀) × (length linearization ≡ length linearization₀)
+    × ((t r l : List ℕ) → Lending (entry file t r l) counts progress₀ tally₀ table₀ report₀ linearization₀
+    → Lending (entry file t r l) counts progress tally table report linearization)
 
 abbrev μ-loop : tie.MeasureT-loop
 μ-loop file table₀ report₀ linearization₀ counts index progress₀ tally₀ table report linearization progress tally =
@@ -60,7 +62,7 @@ first-tally-requires : tie.Need-first-tally-requires Inv-loop μ-loop
 first-tally-requires c κs = search needs
 
 loop-holds : tie.Need-loop-holds Inv-loop μ-loop
-loop-holds c = λ t r l begun. begun
+loop-holds c = (refl, refl, refl, λ t r l begun. begun)
 
 slice-aggregate-turn-on : tie.Need-slice-aggregate-turn-on Inv-loop μ-loop
 slice-aggregate-turn-on c = search needs
@@ -72,10 +74,11 @@ turn-on-requires c κs =
     let made = judged .before .before .before .before .before .before .before .before .before in
     let a = made .before .before .before .before .before .before .before .before .args in
     let here =
-    looped .loop .inv (a .table .now) (a .report .now) (a .linearization .now)
+    looped .loop .inv .3 (a .table .now) (a .report .now) (a .linearization .now)
     (lending-start (entry (a .file .now) (a .table .now) (a .report .now) (a .linearization .now)) _ _ _ (made .prepare .result)
     (made .prepare .ensures .1) (made .prepare .ensures .0) (judged .if1 .left) (made .prepare .kept .1 .0)
-    (made .prepare .kept .1 .1 .0) (made .prepare .kept .1 .1 .1 .0) (looped .before .first-tally .result) (looped .before .first-tally .ensures)) in
+    (made .prepare .kept .1 .1 .0) (made .prepare .kept .1 .1 .1 .0) (looped .before .first-tally .result)
+    (looped .before .first-tally .ensures)) in
     (along-turnable _ _ (along _ _ here) (c .before .before .before .before .if2 .taken), looped .before .before .before .successors .ensures)
 
 counted-requires : tie.Need-counted-requires Inv-loop μ-loop
@@ -85,10 +88,11 @@ counted-requires c κs =
     let made = judged .before .before .before .before .before .before .before .before .before in
     let a = made .before .before .before .before .before .before .before .before .args in
     let here =
-    looped .loop .inv (a .table .now) (a .report .now) (a .linearization .now)
+    looped .loop .inv .3 (a .table .now) (a .report .now) (a .linearization .now)
     (lending-start (entry (a .file .now) (a .table .now) (a .report .now) (a .linearization .now)) _ _ _ (made .prepare .result)
     (made .prepare .ensures .1) (made .prepare .ensures .0) (judged .if1 .left) (made .prepare .kept .1 .0)
-    (made .prepare .kept .1 .1 .0) (made .prepare .kept .1 .1 .1 .0) (looped .before .first-tally .result) (looped .before .first-tally .ensures)) in
+    (made .prepare .kept .1 .1 .0) (made .prepare .kept .1 .1 .1 .0) (looped .before .first-tally .result)
+    (looped .before .first-tally .ensures)) in
     along-addable _ _ (along _ _ here) (c .before .before .before .before .before .before .before .before .before .before .before .if2 .taken)
 
 loop-less : tie.Need-loop-less Inv-loop μ-loop
@@ -98,20 +102,28 @@ loop-less c =
     let made = judged .before .before .before .before .before .before .before .before .before in
     let a = made .before .before .before .before .before .before .before .before .args in
     let here =
-    looped .loop .inv (a .table .now) (a .report .now) (a .linearization .now)
+    looped .loop .inv .3 (a .table .now) (a .report .now) (a .linearization .now)
     (lending-start (entry (a .file .now) (a .table .now) (a .report .now) (a .linearization .now)) _ _ _ (made .prepare .result)
     (made .prepare .ensures .1) (made .prepare .ensures .0) (judged .if1 .left) (made .prepare .kept .1 .0)
-    (made .prepare .kept .1 .1 .0) (made .prepare .kept .1 .1 .1 .0) (looped .before .first-tally .result) (looped .before .first-tally .ensures)) in
-    omega (arith, c .before .before .before .before .before .before .before .before .before .before .before .before .if2 .taken, c .before .before .before .before .before .before .before .turn-on .ensures _ (here .going .standing) .turned .number)
+    (made .prepare .kept .1 .1 .0) (made .prepare .kept .1 .1 .1 .0) (looped .before .first-tally .result)
+    (looped .before .first-tally .ensures)) in
+    let turned = c .before .before .before .before .before .before .before in
+    omega (arith, turned .before .before .before .before .before .if2 .taken, turned .turn-on .ensures _ (here .going .standing) .turned .number)
 
 loop-again : tie.Need-loop-again Inv-loop μ-loop
 loop-again c =
     let turned = c .before .before .before .before .before .before .before in
     let tested = turned .before .before .before .before .before in
-    let looped = tested .before .before .before in
-    λ t r l begun. along-next _ _ (along _ _ (looped .loop .inv t r l begun)) (tested .if2 .taken) (turned .turn-on .result) _ _ _
-    (c .counted .result) (turned .turn-on .kept .1 .1 .1 .1 .0) (turned .turn-on .kept .1 .1 .1 .1 .1 .0)
-    (turned .turn-on .kept .1 .1 .1 .1 .1 .1 .0) (turned .turn-on .ensures) (c .counted .ensures) .lending
+    let inv = tested .before .before .before .loop .inv in
+    let same-table = turned .turn-on .kept .1 .1 .1 .1 .0 in
+    let same-report = turned .turn-on .kept .1 .1 .1 .1 .1 .0 in
+    let same-linearization = turned .turn-on .kept .1 .1 .1 .1 .1 .1 .0 in (
+      same-table ∙ inv .0,
+      same-report ∙ inv .1,
+      same-linearization ∙ inv .2,
+      λ t r l begun. along-next _ _ (along _ _ (inv .3 t r l begun)) (tested .if2 .taken) (turned .turn-on .result) _ _ _
+          (c .counted .result) same-table same-report same-linearization (turned .turn-on .ensures) (c .counted .ensures) .lending,
+    )
 
 closed-requires : tie.Need-closed-requires Inv-loop μ-loop
 closed-requires c κs = search needs
@@ -119,41 +131,20 @@ closed-requires c κs = search needs
 same-length-4 : tie.Need-same-length-4 Inv-loop μ-loop
 same-length-4 c =
     let looped = c .before .before .before .before in
-    let judged = looped .before .before .before .before in
-    let made = judged .before .before .before .before .before .before .before .before .before in
-    let a = made .before .before .before .before .before .before .before .before .args in
-    let here =
-    looped .loop .inv (a .table .now) (a .report .now) (a .linearization .now)
-    (lending-start (entry (a .file .now) (a .table .now) (a .report .now) (a .linearization .now)) _ _ _ (made .prepare .result)
-    (made .prepare .ensures .1) (made .prepare .ensures .0) (judged .if1 .left) (made .prepare .kept .1 .0)
-    (made .prepare .kept .1 .1 .0) (made .prepare .kept .1 .1 .1 .0) (looped .before .first-tally .result) (looped .before .first-tally .ensures)) in
-    here .table-long
+    let made = looped .before .before .before .before .before .before .before .before .before .before .before .before .before in
+    looped .loop .inv .0 ∙ made .prepare .kept .1 .0
 
 same-length-5 : tie.Need-same-length-5 Inv-loop μ-loop
 same-length-5 c =
     let looped = c .before .before .before .before in
-    let judged = looped .before .before .before .before in
-    let made = judged .before .before .before .before .before .before .before .before .before in
-    let a = made .before .before .before .before .before .before .before .before .args in
-    let here =
-    looped .loop .inv (a .table .now) (a .report .now) (a .linearization .now)
-    (lending-start (entry (a .file .now) (a .table .now) (a .report .now) (a .linearization .now)) _ _ _ (made .prepare .result)
-    (made .prepare .ensures .1) (made .prepare .ensures .0) (judged .if1 .left) (made .prepare .kept .1 .0)
-    (made .prepare .kept .1 .1 .0) (made .prepare .kept .1 .1 .1 .0) (looped .before .first-tally .result) (looped .before .first-tally .ensures)) in
-    here .report-long
+    let made = looped .before .before .before .before .before .before .before .before .before .before .before .before .before in
+    looped .loop .inv .1 ∙ made .prepare .kept .1 .1 .0
 
 same-length-6 : tie.Need-same-length-6 Inv-loop μ-loop
 same-length-6 c =
     let looped = c .before .before .before .before in
-    let judged = looped .before .before .before .before in
-    let made = judged .before .before .before .before .before .before .before .before .before in
-    let a = made .before .before .before .before .before .before .before .before .args in
-    let here =
-    looped .loop .inv (a .table .now) (a .report .now) (a .linearization .now)
-    (lending-start (entry (a .file .now) (a .table .now) (a .report .now) (a .linearization .now)) _ _ _ (made .prepare .result)
-    (made .prepare .ensures .1) (made .prepare .ensures .0) (judged .if1 .left) (made .prepare .kept .1 .0)
-    (made .prepare .kept .1 .1 .0) (made .prepare .kept .1 .1 .1 .0) (looped .before .first-tally .result) (looped .before .first-tally .ensures)) in
-    here .linearization-long
+    let made = looped .before .before .before .before .before .before .before .before .before .before .before .before .before in
+    looped .loop .inv .2 ∙ made .prepare .kept .1 .1 .1 .0
 
 returns-2 : tie.Need-returns-2 Inv-loop μ-loop
 returns-2 c =
@@ -162,10 +153,11 @@ returns-2 c =
     let made = judged .before .before .before .before .before .before .before .before .before in
     let a = made .before .before .before .before .before .before .before .before .args in
     let here =
-    looped .loop .inv (a .table .now) (a .report .now) (a .linearization .now)
+    looped .loop .inv .3 (a .table .now) (a .report .now) (a .linearization .now)
     (lending-start (entry (a .file .now) (a .table .now) (a .report .now) (a .linearization .now)) _ _ _ (made .prepare .result)
     (made .prepare .ensures .1) (made .prepare .ensures .0) (judged .if1 .left) (made .prepare .kept .1 .0)
-    (made .prepare .kept .1 .1 .0) (made .prepare .kept .1 .1 .1 .0) (looped .before .first-tally .result) (looped .before .first-tally .ensures)) in
+    (made .prepare .kept .1 .1 .0) (made .prepare .kept .1 .1 .1 .0) (looped .before .first-tally .result)
+    (looped .before .first-tally .ensures)) in
     let e = along-end _ _ (along _ _ here) (c .before .if2 .left) (c .closed .result) (c .closed .ensures) in
     (e .exact, (e .linearized, e .lawful))
 

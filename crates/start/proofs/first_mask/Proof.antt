@@ -1,6 +1,7 @@
 -- `start::first_mask`: the mask has the flags from place h on.
 use borrow.Author.Needs.{needs}
 use native.Mathlib.Omega.{arith}
+use Rattle.jobfile.specs.Format.{mostHeads}
 use Rattle.start.specs.Start.{isRequest}
 use Rattle.start.proofs.Loops.{Gathered, gathered-none, gathered-on, gathered-all, gathered-small}
 use Rattle.start.proofs.first_mask.Statement.{statement}
@@ -13,7 +14,7 @@ abbrev μ-loop : tie.MeasureT-loop
 μ-loop requests firsts mask₀ h₀ mask h = h
 
 loop-holds : tie.Need-loop-holds Inv-loop μ-loop
-loop-holds c = gathered-none (isRequest (c .args .requests)) (c .args .t1) 16 (search needs)
+loop-holds c = gathered-none (isRequest (c .args .requests)) (c .args .t1) mostHeads (search needs)
 
 sub-h : tie.Need-sub-h Inv-loop μ-loop
 sub-h c = search needs

@@ -3,6 +3,7 @@ use mathlib.Core.Path.{refl}
 use borrow.Author.Needs.{needs}
 use native.Mathlib.Omega.{arith}
 use Prim.Native.Nat.{_-_}
+use Rattle.jobfile.specs.Format.{mostHeads}
 use Rattle.stepper.specs.Shown.{requestsIn}
 use Rattle.stepper.proofs.Needs.{next-small}
 use denote.Ref.{now}
@@ -13,22 +14,24 @@ use Rattle.start.proofs.first_requests.Statement.{statement}
 use Rattle.start.proofs.first_requests.Tie as tie
 
 abbrev Inv-loop : tie.InvT-loop
-Inv-loop file requests firsts₀ h₀ firsts h = Filled 0 (firstRequest (requestsIn file)) 16 h firsts
+Inv-loop file requests firsts₀ h₀ firsts h = Filled 0 (firstRequest (requestsIn file)) mostHeads h firsts
 
 abbrev μ-loop : tie.MeasureT-loop
-μ-loop file requests firsts₀ h₀ firsts h = 16 - h
+μ-loop file requests firsts₀ h₀ firsts h = mostHeads - h
 
 loop-holds : tie.Need-loop-holds Inv-loop μ-loop
-loop-holds c = filled-none 0 (firstRequest (requestsIn (now (c .before .args .file)))) 16 _ refl
+loop-holds c = filled-none 0 (firstRequest (requestsIn (now (c .before .args .file)))) mostHeads _ refl
+
+cast-next-request : tie.Need-cast-next-request Inv-loop μ-loop
+cast-next-request c = search needs
 
 next-request-requires : tie.Need-next-request-requires Inv-loop μ-loop
 next-request-requires c κs = (c .before .before .before .pre, omega arith)
 
 cast-firsts : tie.Need-cast-firsts Inv-loop μ-loop
-cast-firsts c = omega (arith, c .next-request .ensures, next-small (c .before .before .before .before .pre) (c .before .before .loop .h) 0 (omega arith))
-
-cast-firsts-2 : tie.Need-cast-firsts-2 Inv-loop μ-loop
-cast-firsts-2 c = search needs
+cast-firsts c =
+    let l = c .before .before .loop in
+    omega (arith, c .next-request .ensures, next-small (c .before .before .before .before .pre) (l .h) 0 (omega arith))
 
 mul-firsts : tie.Need-mul-firsts Inv-loop μ-loop
 mul-firsts c = search needs
@@ -45,13 +48,15 @@ loop-less c = search needs
 loop-again : tie.Need-loop-again Inv-loop μ-loop
 loop-again c =
     let l = c .before .before .loop in
-    filled-on 0 (firstRequest (requestsIn (now (c .before .before .before .before .args .file)))) 16 (l .firsts) (l .h) _ (omega arith) (c .next-request .ensures) (l .inv)
+    filled-on 0 (firstRequest (requestsIn (now (c .before .before .before .before .args .file)))) mostHeads (l .firsts) (l .h) _
+    (omega arith) (c .next-request .ensures) (l .inv)
 
 returns : tie.Need-returns Inv-loop μ-loop
 returns c =
     let l = c .before .loop in
     let qs = requestsIn (now (c .before .before .before .args .file)) in
-    filled-all 0 (firstRequest qs) 16 (l .firsts) (firstRequests qs 0 16) (length-first-requests qs 0 16) (first-request qs 16) (l .h) (omega arith) (l .inv)
+    filled-all 0 (firstRequest qs) mostHeads (l .firsts) (firstRequests qs 0 mostHeads) (length-first-requests qs 0 mostHeads)
+    (first-request qs mostHeads) (l .h) (omega arith) (l .inv)
 
 pub first-requests-spec : {M : Type 1} → statement M
 first-requests-spec =
@@ -60,9 +65,9 @@ first-requests-spec =
     Inv-loop
     μ-loop
     loop-holds
+    cast-next-request
     next-request-requires
     cast-firsts
-    cast-firsts-2
     mul-firsts
     array-write-firsts
     add-h

@@ -6,6 +6,7 @@ use native.Mathlib.Omega.{arith}
 use Prim.Native.Nat.{_-_}
 use lib.ListN.{length, getD, length-map}
 use Rattle.basics.proofs.Lists.{getD-mapped}
+use Rattle.jobfile.specs.Format.{mostHeads}
 use Rattle.process.specs.declared.Stage.the-variants.{Resting}
 use Rattle.rules.specs.State.{resting}
 use Rattle.start.proofs.Loops.{Filled, filled-none, filled-on, filled-all}
@@ -13,16 +14,16 @@ use Rattle.start.proofs.resting_heads.Statement.{statement}
 use Rattle.start.proofs.resting_heads.Tie as tie
 
 abbrev Inv-loop : tie.InvT-loop
-Inv-loop firsts first heads₀ h₀ heads h = Filled (resting 0) (λ j. resting (getD firsts j 0)) 16 h heads
+Inv-loop firsts first heads₀ h₀ heads h = Filled (resting 0) (λ j. resting (getD firsts j 0)) mostHeads h heads
 
 abbrev μ-loop : tie.MeasureT-loop
-μ-loop firsts first heads₀ h₀ heads h = 16 - h
+μ-loop firsts first heads₀ h₀ heads h = mostHeads - h
 
 resting-task-requires : tie.Need-resting-task-requires Inv-loop μ-loop
 resting-task-requires c κs = search needs
 
 loop-holds : tie.Need-loop-holds Inv-loop μ-loop
-loop-holds c = filled-none (resting 0) (λ j. resting (getD (c .before .args .t1) j 0)) 16 _ refl
+loop-holds c = filled-none (resting 0) (λ j. resting (getD (c .before .args .t1) j 0)) mostHeads _ refl
 
 mul-resting-task : tie.Need-mul-resting-task Inv-loop μ-loop
 mul-resting-task c = search needs
@@ -49,15 +50,15 @@ loop-again : tie.Need-loop-again Inv-loop μ-loop
 loop-again c =
     let l = c .before .before .loop in
     let firsts = c .before .before .before .before .args .t1 in
-    filled-on (resting 0) (λ j. resting (getD firsts j 0)) 16 (l .heads) (l .h) _ (omega arith)
+    filled-on (resting 0) (λ j. resting (getD firsts j 0)) mostHeads (l .heads) (l .h) _ (omega arith)
     (ap (λ t. record { stage = Resting; task = t }) (c .resting-task2 .ensures)) (l .inv)
 
 returns : tie.Need-returns Inv-loop μ-loop
 returns c =
     let l = c .before .loop in
     let firsts = c .before .before .before .args .t1 in
-    let size : length firsts ≡ 16 = search needs in
-    filled-all (resting 0) (λ j. resting (getD firsts j 0)) 16 (l .heads) (map resting firsts) (length-map firsts resting ∙ size)
+    let size : length firsts ≡ mostHeads = search needs in
+    filled-all (resting 0) (λ j. resting (getD firsts j 0)) mostHeads (l .heads) (map resting firsts) (length-map firsts resting ∙ size)
     (λ j h. getD-mapped resting firsts j 0 (resting 0) (omega (arith, size))) (l .h) (omega arith) (l .inv)
 
 pub resting-heads-spec : {M : Type 1} → statement M
