@@ -86,7 +86,7 @@ enum {
 
 /* The stack that each call needs at most, in bytes. */
 enum {
-    GROUPING_STACK_PLAY = 1024,
+    GROUPING_STACK_PLAY = 3072,
     GROUPING_STACK_PLAY_LENT = 1024,
     GROUPING_STACK_WRITE = 512,
     GROUPING_STACK_QUERY = 17408,

@@ -34,7 +34,7 @@ pub const SAME_SET: u32 = 2;
 /// 4 KB more for the loader then; Rust programs find them when they start.)
 pub mod stack {
     /// [`play`](crate::play)
-    pub const PLAY: usize = 1_024;
+    pub const PLAY: usize = 3_072;
     /// [`play_lent`](crate::play_lent)
     pub const PLAY_LENT: usize = 1_024;
     /// [`write`](crate::write)
