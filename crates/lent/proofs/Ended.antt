@@ -13,17 +13,16 @@ use Rattle.reader.specs.declared.Checked.{Checked}
 use Rattle.player.specs.declared.Plan.{Plan}
 use Rattle.player.specs.Player.{refusedWith}
 use Rattle.player.specs.Plan.{prepared, preparedOf, closedOf}
-use Rattle.player.proofs.Along.{Entry, number₀, Along, along-end, along-tally, refused-number, refused-end}
-use Rattle.player.proofs.Along.{Ended as PlayEnded}
+use Rattle.player.proofs.Along.{Entry, number₀, Along, along-end, along-tally, refused-number, refused-end, PlayEnded}
 use Rattle.lent.specs.Lent.{tallyLeft}
 
 module _ (E : Entry) (tally₀ : Tally) where
-  pub record Ended (tally : Tally) (table report linearization : List ℕ) (result : Played) : Type 0 where
+  pub record LentEnded (tally : Tally) (table report linearization : List ℕ) (result : Played) : Type 0 where
     pub played : PlayEnded E table report linearization result
     pub counted : tally ≡ tallyLeft (E .file) (E .table) (E .report) (E .linearization) tally₀
 
   pub accepted-ended : (counts : Checked) (a : Along E counts) → counts .grants ≤ a .progress .number → (result : Played)
-      → result ≡ closedOf counts (a .progress) (a .tally) → Ended (a .tally) (a .table) (a .report) (a .linearization) result
+      → result ≡ closedOf counts (a .progress) (a .tally) → LentEnded (a .tally) (a .table) (a .report) (a .linearization) result
   unfolding tallyLeft
   accepted-ended counts a over result is =
       record {
@@ -34,7 +33,7 @@ module _ (E : Entry) (tally₀ : Tally) where
   pub refused-ended : (table report linearization : List ℕ) (plan : Plan) → Bytes (E .file)
       → prepared table report linearization plan ≡ preparedOf (E .file) (E .table) (E .report) (E .linearization)
       → plan .counts .number ≢ 0 → (result : Played) → result ≡ refusedWith (plan .counts .number)
-      → Ended tally₀ table report linearization result
+      → LentEnded tally₀ table report linearization result
   unfolding tallyLeft
   refused-ended table report linearization plan bytes e d result is =
       record {

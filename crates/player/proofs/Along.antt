@@ -1,7 +1,7 @@
 -- The invariant of the loop over the grants, on lent buffers; and what the play ends with, refused or not.
 --
 --   Entry     the file and the buffers as they were lent
---   Ended     what holds when the play returns
+--   PlayEnded what holds when the play returns
 --   Lending   accepted: the parts that the job needs stand as the rules' run so far, the rest is as lent, and as long
 --   Along     where the loop is, with that
 --
@@ -26,18 +26,19 @@ use Rattle.rules.specs.State.{tallyOf}
 use Rattle.rules.specs.Table.{fresh}
 use Rattle.start.proofs.Start.{length-words, start-standing}
 use Rattle.stepper.specs.Shown.{requestsIn, Standing}
+use Rattle.stepper.proofs.Reached.{playing-admitted}
 use Rattle.turns.specs.declared.Progress.{Progress}
 use Rattle.turns.specs.Turns.{Addable, countedOf, stateAt, buffersOf, Turned, firstTally, runOf}
 use Rattle.turns.proofs.Runs.{grants-few}
 use Rattle.turns.proofs.Counters.{small-addable}
 use Rattle.turns.proofs.Going.{Going, going-start, going-turnable, going-next, going-end}
 use Rattle.player.specs.declared.Plan.{Plan}
-use Rattle.player.specs.Player.{left, leftAt, refusedWith, cutOf, playedOf, Checks, Roomy}
+use Rattle.player.specs.Player.{left, leftAt, refusedWith, cutOf, playedOf, Roomy}
 use Rattle.player.specs.Plan.{idlePlan, acceptedPlan, laidOf, Prepared, prepared, preparedOf}
 use Rattle.player.specs.Plan.{TurnableOn, TurnedOn, TurnsOn, closedOf}
 use Rattle.player.specs.Demand.{LinearizedHere, LawfulHere}
 use Rattle.player.proofs.Refusals.{refusal, accepted-roomy, refused-left, accepted-left}
-use Rattle.player.proofs.Prepared.{nodes-are, rows-are, checks-admitted, checks-playing}
+use Rattle.player.proofs.Prepared.{nodes-are, rows-are}
 use Rattle.player.proofs.Demand.{linearized-here, lawful-here}
 
 -- ---- one turn on the lent buffers
@@ -78,7 +79,7 @@ module _ (E : Entry) where
   abbrev pub number₀ : ℕ
   number₀ = refusal file (length table₀) (length report₀) (length linearization₀)
 
-  pub record Ended (table report linearization : List ℕ) (result : Played) : Type 0 where
+  pub record PlayEnded (table report linearization : List ℕ) (result : Played) : Type 0 where
     pub exact : left table report linearization result ≡ playedOf file table₀ report₀ linearization₀
     pub linearized : result .number ≡ 0 → LinearizedHere file result table report linearization
     pub lawful : result .number ≡ 0 → LawfulHere file result table report
@@ -94,8 +95,6 @@ module _ (E : Entry) (counts : Checked) where
 
   pub record Lending (p : Progress) (tally : Tally) (table report linearization : List ℕ) : Type 0 where
     pub accepted : number₀ E ≡ 0
-    pub bytes : Bytes file
-    pub checks : Checks file counts
     pub table-long : length table ≡ length table₀
     pub report-long : length report ≡ length report₀
     pub linearization-long : length linearization ≡ length linearization₀
@@ -103,7 +102,7 @@ module _ (E : Entry) (counts : Checked) where
     pub rows : m ≤ length report
     pub table-rest : drop n table ≡ drop n table₀
     pub report-rest : drop m report ≡ drop m report₀
-    pub going : Going file (counts .requests) linearization₀ p tally (take n table) (take m report) linearization
+    pub going : Going file counts linearization₀ p tally (take n table) (take m report) linearization
 
   pub record Along : Type 0 where
     pub progress : Progress
@@ -122,7 +121,7 @@ module _ (E : Entry) (counts : Checked) where
 
   module _ (a : Along) (more : a .progress .number < counts .grants) where
     more-left : a .progress .number < length (meaning file .job .schedule)
-    more-left = omega (arith, more, ap (λ k. k .grants) (a .lending .checks .counts))
+    more-left = omega (arith, more, ap (λ k. k .grants) (a .lending .going .playing .checked))
 
     pub along-turnable : TurnableOn file counts (a .progress) (a .table) (a .report) (a .linearization)
     along-turnable = record { nodes = a .lending .nodes; rows = a .lending .rows; turnable = going-turnable (a .lending .going) more-left }
@@ -146,8 +145,6 @@ module _ (E : Entry) (counts : Checked) where
       lending-next =
           record {
             accepted = a .lending .accepted;
-            bytes = a .lending .bytes;
-            checks = a .lending .checks;
             table-long = table-long ∙ a .lending .table-long;
             report-long = report-long ∙ a .lending .report-long;
             linearization-long = linearization-long ∙ a .lending .linearization-long;
@@ -183,15 +180,15 @@ module _ (E : Entry) (counts : Checked) where
     report-cut = sym (take-append-drop m (a .report)) ∙ ap (λ d. take m (a .report) ++ d) (a .lending .report-rest)
 
     last : stateAt file (a .progress .number) ≡ runOf (meaning file .job)
-    last = going-end (a .lending .going) (omega (arith, over, ap (λ k. k .grants) (a .lending .checks .counts)))
+    last = going-end (a .lending .going) (omega (arith, over, ap (λ k. k .grants) (a .lending .going .playing .checked)))
 
     ended-cut : left (a .table) (a .report) (a .linearization) answer ≡ cutOf (meaning file .job) table₀ report₀ linearization₀
     ended-cut =
-        let counts-are = a .lending .checks .counts in
+        let counts-are = a .lending .going .playing .checked in
         let shows = a .lending .going .standing .shows in
         (λ i. left (table-cut i) (report-cut i) (a .linearization) answer)
-        ∙ (λ i. left (shows i .table ++ drop (nodes-are (a .lending .checks) i) table₀)
-        (shows i .report ++ drop (rows-are (a .lending .checks) i) report₀) (shows i .linearization)
+        ∙ (λ i. left (shows i .table ++ drop (nodes-are (a .lending .going .playing) i) table₀)
+        (shows i .report ++ drop (rows-are (a .lending .going .playing) i) report₀) (shows i .linearization)
         (record {
           number = 0;
           nodes = counts-are i .nodes;
@@ -199,24 +196,24 @@ module _ (E : Entry) (counts : Checked) where
           requests = counts-are i .requests;
           grants = counts-are i .grants;
           entries = shows i .entries;
-          tally = a .lending .going .counts i;
+          tally = a .lending .going .tallied i;
         }))
         ∙ ap (λ T. leftAt (meaning file .job) T table₀ report₀ linearization₀) last
 
     pub along-tally : a .tally ≡ tallyOf (requestsIn file) (runOf (meaning file .job))
     along-tally = ap (λ x. x .result .tally) ended-cut
 
-    accepted-end : Ended E (a .table) (a .report) (a .linearization) answer
+    accepted-end : PlayEnded E (a .table) (a .report) (a .linearization) answer
     accepted-end =
-        let admitted = checks-admitted (a .lending .checks) (a .lending .bytes) in
+        let admitted = playing-admitted (a .lending .going .playing) in
         record {
           exact = ended-cut ∙ accepted-left file table₀ report₀ linearization₀ (a .lending .accepted);
           linearized = λ z. linearized-here file admitted table₀ report₀ linearization₀ _ ended-cut;
           lawful = λ z. lawful-here file admitted table₀ report₀ linearization₀ _ ended-cut;
         }
 
-    pub along-end : (result : Played) → result ≡ answer → Ended E (a .table) (a .report) (a .linearization) result
-    along-end result is = subst (Ended E (a .table) (a .report) (a .linearization)) (sym is) accepted-end
+    pub along-end : (result : Played) → result ≡ answer → PlayEnded E (a .table) (a .report) (a .linearization) result
+    along-end result is = subst (PlayEnded E (a .table) (a .report) (a .linearization)) (sym is) accepted-end
 
 -- ---- what `prepare` left
 
@@ -238,7 +235,7 @@ module _ (E : Entry) (table report linearization : List ℕ) (plan : Plan) (byte
     number-refused : plan .counts .number ≡ number
     number-refused = ap (λ x. x .plan .counts .number) was-refused
 
-    unchanged : Ended E table report linearization (refusedWith (plan .counts .number))
+    unchanged : PlayEnded E table report linearization (refusedWith (plan .counts .number))
     unchanged =
         record {
           exact = (λ i. left (was-refused i .table) (was-refused i .report) (was-refused i .linearization) (refusedWith (number-refused i)))
@@ -259,7 +256,7 @@ module _ (E : Entry) (table report linearization : List ℕ) (plan : Plan) (byte
     counts-are = ap (λ x. x .plan .counts) was-accepted
 
     roomy : Roomy file (plan .counts) (length table₀) (length report₀) (length linearization₀)
-    roomy = accepted-roomy file (length table₀) (length report₀) (length linearization₀) e (plan .counts) counts-are
+    roomy = accepted-roomy file (length table₀) (length report₀) (length linearization₀) bytes e (plan .counts) counts-are
 
     abbrev size : ℕ
     size = plan .counts .nodes
@@ -270,18 +267,18 @@ module _ (E : Entry) (table report linearization : List ℕ) (plan : Plan) (byte
     table-is : table ≡ map encode (fresh (meaning file .job .nodes)) ++ drop size table₀
     table-is =
         ap (λ x. x .table) was-accepted
-        ∙ ap (λ k. map encode (fresh (meaning file .job .nodes)) ++ drop k table₀) (sym (nodes-are (roomy .checks)))
+        ∙ ap (λ k. map encode (fresh (meaning file .job .nodes)) ++ drop k table₀) (sym (nodes-are (roomy .playing)))
 
     report-is : report ≡ replicate (4 * length (requestsIn file)) 0 ++ drop rows report₀
     report-is =
         ap (λ x. x .report) was-accepted
-        ∙ ap (λ k. replicate (4 * length (requestsIn file)) 0 ++ drop k report₀) (sym (rows-are (roomy .checks)))
+        ∙ ap (λ k. replicate (4 * length (requestsIn file)) 0 ++ drop k report₀) (sym (rows-are (roomy .playing)))
 
     fresh-long : length (map encode (fresh (meaning file .job .nodes))) ≡ size
-    fresh-long = length-words (meaning file .job .nodes) ∙ sym (nodes-are (roomy .checks))
+    fresh-long = length-words (meaning file .job .nodes) ∙ sym (nodes-are (roomy .playing))
 
     zeros-long : length {A = ℕ} (replicate (4 * length (requestsIn file)) 0) ≡ rows
-    zeros-long = length-replicate (4 * length (requestsIn file)) 0 ∙ sym (rows-are (roomy .checks))
+    zeros-long = length-replicate (4 * length (requestsIn file)) 0 ∙ sym (rows-are (roomy .playing))
 
     -- the parts that the job needs are the start of the rules
     starts : buffersOf (plan .progress) (take size table) (take rows report) linearization
@@ -300,18 +297,16 @@ module _ (E : Entry) (table report linearization : List ℕ) (plan : Plan) (byte
       lending-accepted =
           record {
             accepted = e;
-            bytes = bytes;
-            checks = roomy .checks;
             table-long = table-long;
             report-long = report-long;
             linearization-long = linearization-long;
-            nodes = omega (arith, nodes-are (roomy .checks), table-long, roomy .nodes);
-            rows = omega (arith, rows-are (roomy .checks), report-long, roomy .rows);
+            nodes = omega (arith, nodes-are (roomy .playing), table-long, roomy .nodes);
+            rows = omega (arith, rows-are (roomy .playing), report-long, roomy .rows);
             table-rest = ap (drop size) table-is
                 ∙ drop-at (map encode (fresh (meaning file .job .nodes))) (drop size table₀) size fresh-long;
             report-rest = ap (drop rows) report-is
                 ∙ drop-at (replicate (4 * length (requestsIn file)) 0) (drop rows report₀) rows zeros-long;
-            going = going-start (checks-playing (roomy .checks) bytes) (plan .progress) tally
+            going = going-start (roomy .playing) (plan .progress) tally
                 (ap (λ x. x .plan .progress) was-accepted) is-tally
                 (subst (λ b. Standing (meaning file .job) b 1 [] linearization₀) (sym starts)
                 (start-standing (meaning file .job) linearization₀ (roomy .room)));
@@ -320,15 +315,15 @@ module _ (E : Entry) (table report linearization : List ℕ) (plan : Plan) (byte
   -- ---- either way
 
   refused-by : Dec (number ≡ 0) → plan .counts .number ≢ 0 → number ≢ 0
-  refused-by (yes e) d = absurd (d (ap (λ c. c .number) (counts-are e) ∙ roomy e .checks .accepted))
+  refused-by (yes e) d = absurd (d (ap (λ c. c .number) (counts-are e) ∙ roomy e .playing .accepted))
   refused-by (no d) _ = d
 
   pub refused-number : plan .counts .number ≢ 0 → number ≢ 0
   refused-number d = refused-by (ℕ-discrete number 0) d
 
   pub refused-end : plan .counts .number ≢ 0 → (result : Played) → result ≡ refusedWith (plan .counts .number)
-      → Ended E table report linearization result
-  refused-end d result is-result = subst (Ended E table report linearization) (sym is-result) (unchanged (refused-number d))
+      → PlayEnded E table report linearization result
+  refused-end d result is-result = subst (PlayEnded E table report linearization) (sym is-result) (unchanged (refused-number d))
 
   accepted-by : Dec (number ≡ 0) → plan .counts .number ≡ 0 → number ≡ 0
   accepted-by (yes e) _ = e

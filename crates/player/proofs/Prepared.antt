@@ -1,6 +1,6 @@
 -- The start on lent buffers: from the parts of `lay_out` and `prepare` to what they leave.
 --
--- Main laws: checks-playing, what is checked can be played; laid, the start; prepared-refused and prepared-accepted.
+-- Main laws: laid, the start; prepared-refused and prepared-accepted.
 use mathlib.Core.Path.{_≡_, refl, sym, ap, _∙_}
 use mathlib.Core.Logic.{_≢_}
 use mathlib.Core.List.{List, _++_, map}
@@ -13,8 +13,6 @@ use Rattle.word.specs.Word.{encode}
 use Rattle.process.specs.declared.Head.{Head}
 use Rattle.jobfile.specs.Format.{mostHeads}
 use Rattle.jobfile.specs.Meaning.{meaning}
-use Rattle.jobfile.specs.Admitted.{Admitted, Bytes}
-use Rattle.jobfile.proofs.RoundTrip.{admitted-meaning}
 use Rattle.mask.specs.Mask.{maskOf}
 use Rattle.reader.specs.declared.Checked.{Checked}
 use Rattle.rules.specs.Table.{fresh}
@@ -25,22 +23,16 @@ use Rattle.start.proofs.Start.{first-heads, first-flags}
 use Rattle.turns.specs.declared.Progress.{Progress}
 use Rattle.turns.specs.Turns.{firstProgress}
 use Rattle.player.specs.declared.Plan.{Plan}
-use Rattle.player.specs.Player.{admissionOf, Checks}
+use Rattle.player.specs.Player.{admissionOf}
 use Rattle.player.specs.Plan.{planOf, idlePlan, Laid, laidOf, prepared, preparedOf}
 use Rattle.player.proofs.Refusals.{refusal, admission-number, admission-counts}
 
-module _ {file : List ℕ} {counts : Checked} (checks : Checks file counts) where
+module _ {file : List ℕ} {counts : Checked} (playing : Playing file counts) where
   pub nodes-are : counts .nodes ≡ meaning file .job .nodes
-  nodes-are = ap (λ k. k .nodes) (checks .counts)
+  nodes-are = ap (λ k. k .nodes) (playing .checked)
 
   pub rows-are : 4 * counts .requests ≡ 4 * length (requestsIn file)
-  rows-are = ap (λ k. 4 * k .requests) (checks .counts)
-
-  pub checks-admitted : Bytes file → Admitted (meaning file .job)
-  checks-admitted bytes = admitted-meaning file bytes (checks .accepted)
-
-  pub checks-playing : Bytes file → Playing file (counts .requests)
-  checks-playing bytes = record { accepted = checks .accepted; bytes = bytes; count = ap (λ k. k .requests) (checks .counts) }
+  rows-are = ap (λ k. 4 * k .requests) (playing .checked)
 
   -- ---- the start
 
@@ -64,9 +56,9 @@ module _ {file : List ℕ} {counts : Checked} (checks : Checks file counts) wher
         (laidOf file table report)
     laid firsts heads mask words zeros progress is-words is-zeros are-first resting-are flags-are is-progress =
         let heads-are = first-heads (requestsIn file) firsts heads are-first resting-are in
-        let mask-is = first-flags (requestsIn file) firsts mask are-first (ap (λ k. k .requests) (checks .counts)) flags-are in
+        let mask-is = first-flags (requestsIn file) firsts mask are-first (ap (λ k. k .requests) (playing .checked)) flags-are in
         let plans : _≡_ {A = Plan} (record { counts = counts; progress = progress }) _ =
-        ap (λ p. record { counts = counts; progress = p }) is-progress ∙ (λ i. planOf (checks .counts i) (heads-are i) (mask-is i)) in
+        ap (λ p. record { counts = counts; progress = p }) is-progress ∙ (λ i. planOf (playing .checked i) (heads-are i) (mask-is i)) in
         λ i. record {
           table = (is-words ∙ ap (λ k. map encode (fresh k)) laid-nodes) i ++ drop (nodes-are i) table;
           report = (is-zeros ∙ ap (λ k. replicate k 0) laid-rows) i ++ drop (rows-are i) report;

@@ -18,6 +18,7 @@ use borrow.Author.Tests.{ltb-true, ltb-false, eq-eqb, ne-eqb, lt-ltb, le-ltb}
 use Rattle.job.specs.declared.Played.{Played}
 use Rattle.job.specs.Job.{Job}
 use Rattle.jobfile.specs.Meaning.{refused, meaning}
+use Rattle.jobfile.specs.Admitted.{Bytes}
 use Rattle.reader.specs.declared.Checked.{Checked}
 use Rattle.reader.specs.Reader.{countsOf}
 use Rattle.player.specs.Player.{refusedWith, lentRefusal, playRefusal, admissionOf, Left, cutOf, playedOf, Roomy}
@@ -38,12 +39,20 @@ module _ (j : Job) (table report linearization : ℕ) where
       pub short-linearization : linearization < 2 * length (j .requests) → lentRefusal j table report linearization ≡ 14
       unfolding lentRefusal
       short-linearization l =
-          rw (le-ltb table (j .nodes) long, le-ltb report (4 * length (j .requests)) rows, lt-ltb linearization (2 * length (j .requests)) l)
+          rw (
+            le-ltb table (j .nodes) long,
+            le-ltb report (4 * length (j .requests)) rows,
+            lt-ltb linearization (2 * length (j .requests)) l,
+          )
 
       pub long-enough : 2 * length (j .requests) ≤ linearization → lentRefusal j table report linearization ≡ 0
       unfolding lentRefusal
       long-enough l =
-          rw (le-ltb table (j .nodes) long, le-ltb report (4 * length (j .requests)) rows, le-ltb linearization (2 * length (j .requests)) l)
+          rw (
+            le-ltb table (j .nodes) long,
+            le-ltb report (4 * length (j .requests)) rows,
+            le-ltb linearization (2 * length (j .requests)) l,
+          )
 
 -- the other way round: what is not refused is long enough
 unless-short : (a b : ℕ) → (a < b → ⊥) → b ≤ a
@@ -91,11 +100,12 @@ module _ (file : List ℕ) (table report linearization : ℕ) where
       at (yes z) = z
       at (no d) = absurd (d (sym (refusal-file d) ∙ e))
 
-  pub accepted-roomy : refusal ≡ 0 → (checked : Checked) → checked ≡ countsOf (meaning file) → Roomy file checked table report linearization
-  accepted-roomy none checked is =
+  pub accepted-roomy : Bytes file → refusal ≡ 0 → (checked : Checked) → checked ≡ countsOf (meaning file)
+      → Roomy file checked table report linearization
+  accepted-roomy bytes none checked is =
       let room : lent ≡ 0 = sym (refusal-lent (accepted-file none)) ∙ none in
       record {
-        checks = record { accepted = accepted-file none; counts = is };
+        playing = record { accepted = accepted-file none; bytes = bytes; checked = is };
         nodes = long-table (meaning file .job) table report linearization room;
         rows = long-report (meaning file .job) table report linearization room;
         room = long-linearization (meaning file .job) table report linearization room;
@@ -131,10 +141,10 @@ module _ (file : List ℕ) (table report linearization : ℕ) where
     pub admission-counts : refusal ≢ 0 → checked ≡ countsOf (refused refusal)
     admission-counts d = is ∙ sym (admission-refused refusal refl d)
 
-    pub admission-roomy : checked .number ≡ 0 → Roomy file checked table report linearization
-    admission-roomy none =
+    pub admission-roomy : Bytes file → checked .number ≡ 0 → Roomy file checked table report linearization
+    admission-roomy bytes none =
         let accepted = sym admission-number ∙ none in
-        accepted-roomy accepted checked (is ∙ sym (admission-accepted accepted))
+        accepted-roomy bytes accepted checked (is ∙ sym (admission-accepted accepted))
 
 -- ---- what a play leaves
 

@@ -89,7 +89,7 @@ partOf counts b =
 pub record TurnableOn (file : List ℕ) (counts : Checked) (p : Progress) (table report linearization : List ℕ) : Type 0 where
   pub nodes : counts .nodes ≤ length table
   pub rows : 4 * counts .requests ≤ length report
-  pub turnable : Turnable file (counts .requests) p (take (counts .nodes) table) (take (4 * counts .requests) report) linearization
+  pub turnable : Turnable file counts p (take (counts .nodes) table) (take (4 * counts .requests) report) linearization
 
 -- The turn is made on the parts, and what is past them stays.
 pub record TurnedOn (file : List ℕ) (counts : Checked) (p p′ : Progress) (b b′ : Buffers) (lent : List ℕ) : Type 0 where

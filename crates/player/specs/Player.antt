@@ -20,7 +20,7 @@ use Rattle.jobfile.specs.Meaning.{refused, meaning}
 use Rattle.reader.specs.declared.Checked.{Checked}
 use Rattle.reader.specs.Reader.{countsOf}
 use Rattle.rules.specs.State.{State, tallyOf}
-use Rattle.stepper.specs.Shown.{shown}
+use Rattle.stepper.specs.Shown.{shown, Playing}
 use Rattle.turns.specs.Turns.{runOf}
 
 -- Each refusal gives its number and zero for every count.
@@ -92,12 +92,8 @@ playedOf file table report linearization =
 
 -- ---- for the inner functions
 
-pub record Checks (file : List ℕ) (checked : Checked) : Type 0 where
-  pub accepted : meaning file .number ≡ 0
-  pub counts : checked ≡ countsOf (meaning file)
-
 pub record Roomy (file : List ℕ) (checked : Checked) (table report linearization : ℕ) : Type 0 where
-  pub checks : Checks file checked
+  pub playing : Playing file checked
   pub nodes : meaning file .job .nodes ≤ table
   pub rows : 4 * length (meaning file .job .requests) ≤ report
   pub room : 2 * length (meaning file .job .requests) ≤ linearization

@@ -18,10 +18,10 @@ ghost use mathlib.Core.Path.{_≡_};
 ghost use Prim.Native.Nat.{_*_, _≤_};
 ghost use lib.ListN.{length};
 ghost use Rattle.jobfile.specs.Admitted.{Bytes};
-ghost use Rattle.stepper.specs.Shown.{requestsIn};
+ghost use Rattle.stepper.specs.Shown.{requestsIn, Playing};
 ghost use Rattle.stepper.specs.Index.{Indexes};
 ghost use Rattle.turns.specs.Turns.{buffersOf};
-ghost use Rattle.player.specs.Player.{refusedWith, left, Checks, admissionOf, playedOf};
+ghost use Rattle.player.specs.Player.{refusedWith, left, admissionOf, playedOf};
 ghost use Rattle.player.specs.Plan.{idlePlan, laidOf, preparedOf, TurnableOn, TurnsOn, closedOf};
 ghost use Rattle.player.specs.Demand.{LinearizedHere, LawfulHere};
 
@@ -65,7 +65,7 @@ fn turned_down(counts: Checked) -> Plan
 
 // Lays out the start on buffers that are long enough; what is past the nodes and the requests stays as lent.
 fn lay_out(file: &[u8], counts: Checked, table: &mut [u32], report: &mut [u32]) -> Plan
-    requires { ⌜ Checks (now file) counts ⌝ }
+    requires { ⌜ Playing (now file) counts ⌝ }
     requires { ⌜ counts .nodes ≤ length (now table) ⌝ }
     requires { ⌜ 4 * counts .requests ≤ length (now report) ⌝ }
     ensures { λ r. ⌜ record { table = now (table .exit); report = now (report .exit); plan = r }
@@ -75,7 +75,7 @@ fn lay_out(file: &[u8], counts: Checked, table: &mut [u32], report: &mut [u32]) 
     let rows = 4 * (counts.requests as usize);
     fresh_table(&mut table[..nodes]);
     clear_report(&mut report[..rows]);
-    let firsts = first_requests(file, counts.requests);
+    let firsts = first_requests(file, counts);
     let heads = resting_heads(firsts);
     let mask = first_mask(firsts, counts.requests);
     Plan {
@@ -123,7 +123,7 @@ pub fn turn_on(
     turn(
         file,
         successors,
-        counts.requests,
+        counts,
         progress,
         &mut table[..nodes],
         &mut report[..rows],
@@ -179,7 +179,7 @@ pub fn play(file: &[u8], table: &mut [u32], report: &mut [u32], linearization: &
     if counts.number != 0 {
         return refused(counts);
     }
-    let index = successors(file, counts.requests);
+    let index = successors(file, counts);
     let mut progress = plan.progress;
     let mut tally = first_tally(progress);
     while progress.number < counts.grants {

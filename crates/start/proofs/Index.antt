@@ -10,12 +10,13 @@ use native.Mathlib.Omega.{arith}
 use native.Mathlib.Decide.{ℕ-discrete}
 use lib.ListN.{length, getD, set, replicate, length-set, getD-replicate}
 use lib.Seq.{getD-set-same, getD-set-other}
+use Rattle.reader.specs.declared.Checked.{Checked}
 use Rattle.jobfile.specs.Format.{mostHeads}
 use Rattle.job.specs.declared.Request.{Request}
 use Rattle.rules.specs.State.{noRequest, requestAt, seek}
 use Rattle.stepper.specs.Shown.{requestsIn, Playing}
 use Rattle.stepper.specs.Index.{Indexes}
-use Rattle.stepper.proofs.Seek.{seek-here, seek-on, seek-none}
+use Rattle.stepper.proofs.Seek.{seek-here, seek-on, seek-none, playing-count}
 use Rattle.stepper.proofs.Reached.{playing-admitted}
 
 pub record Indexed (qs : List Request) (firsts index : List ℕ) (q : ℕ) : Type 0 where
@@ -69,15 +70,16 @@ indexed-all {qs} none i = record { successor = λ p l inside. i .successor p (om
 
 -- ---- what an accepted file says
 
-module _ {file : List ℕ} {requests : ℕ} (playing : Playing file requests) where
-  pub few-requests : requests ≤ 512
-  few-requests = omega (arith, playing .count, playing-admitted playing .few-requests)
+module _ {file : List ℕ} {counts : Checked} (playing : Playing file counts) where
+  pub few-requests : counts .requests ≤ 512
+  few-requests = omega (arith, playing-count playing, playing-admitted playing .few-requests)
 
-  pub few-heads : (q : ℕ) → q < requests → (r : Request) → ((none : Request) → r ≡ getD (requestsIn file) q none) → r .head < mostHeads
+  pub few-heads : (q : ℕ) → q < counts .requests → (r : Request)
+      → ((none : Request) → r ≡ getD (requestsIn file) q none) → r .head < mostHeads
   few-heads q l r is =
       omega (
         arith,
         ap (λ k. k .head) (is noRequest),
-        playing-admitted playing .each-request q noRequest (omega (arith, playing .count)) .head,
+        playing-admitted playing .each-request q noRequest (omega (arith, playing-count playing)) .head,
         playing-admitted playing .few-heads,
       )

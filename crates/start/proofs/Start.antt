@@ -74,10 +74,12 @@ flags-first k qs h (suc m) = ap (λ l. isRequest k (firstRequest qs h) ∷ l) (f
 
 -- the heads that rest before the first requests are the heads of the start, and their flags are those of the mask
 module _ (qs : List Request) (firsts : List ℕ) where
-  pub first-heads : (heads : List Head) → firsts ≡ firstRequests qs 0 mostHeads → heads ≡ map resting firsts → heads ≡ headsFrom qs 0 mostHeads
+  pub first-heads : (heads : List Head) → firsts ≡ firstRequests qs 0 mostHeads → heads ≡ map resting firsts
+      → heads ≡ headsFrom qs 0 mostHeads
   first-heads heads are-first are = are ∙ ap (map resting) are-first ∙ resting-first qs 0 mostHeads
 
-  pub first-flags : (mask : ℕ) {requests : ℕ} → firsts ≡ firstRequests qs 0 mostHeads → requests ≡ length qs → mask ≡ maskOf (map (isRequest requests) firsts)
+  pub first-flags : (mask : ℕ) {requests : ℕ} → firsts ≡ firstRequests qs 0 mostHeads → requests ≡ length qs
+      → mask ≡ maskOf (map (isRequest requests) firsts)
       → mask ≡ maskOf (map (workFlag (length qs)) (headsFrom qs 0 mostHeads))
   first-flags mask are-first count are =
       are ∙ ap₂ (λ k l. maskOf (map (isRequest k) l)) count are-first ∙ ap maskOf (flags-first (length qs) qs 0 mostHeads)

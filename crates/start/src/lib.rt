@@ -3,6 +3,7 @@ use process::Head;
 use process::NO_WAIT;
 use process::Stage;
 use process::Task;
+use reader::Checked;
 use stepper::Heads;
 use stepper::MOST_HEADS;
 use stepper::requests::next_request;
@@ -47,14 +48,14 @@ pub fn clear_report(report: &mut [u32])
 }
 
 // The first request of each head, or the number of requests where it has none.
-pub fn first_requests(file: &[u8], requests: u32) -> [u16; MOST_HEADS]
-    requires { ⌜ Playing (now file) requests ⌝ }
+pub fn first_requests(file: &[u8], counts: Checked) -> [u16; MOST_HEADS]
+    requires { ⌜ Playing (now file) counts ⌝ }
     ensures { λ r. ⌜ r ≡ firstRequests (requestsIn (now (file .entry))) 0 mostHeads ⌝ }
 {
     let mut firsts = [0u16; MOST_HEADS];
     let mut h: usize = 0;
     while h < MOST_HEADS {
-        firsts[h] = next_request(file, requests, h as u32, 0) as u16;
+        firsts[h] = next_request(file, counts, h as u32, 0) as u16;
         h += 1;
     }
     firsts
@@ -62,10 +63,11 @@ pub fn first_requests(file: &[u8], requests: u32) -> [u16; MOST_HEADS]
 
 // For each request the next one of its head, or the number of requests: an index for the grants. It is made from the last
 // request on, with the first request of each head so far.
-pub fn successors(file: &[u8], requests: u32) -> [u16; 512]
-    requires { ⌜ Playing (now file) requests ⌝ }
+pub fn successors(file: &[u8], counts: Checked) -> [u16; 512]
+    requires { ⌜ Playing (now file) counts ⌝ }
     ensures { λ r. ⌜ Indexes (requestsIn (now (file .entry))) r ⌝ }
 {
+    let requests = counts.requests;
     let mut firsts = [requests as u16; MOST_HEADS];
     let mut index = [0u16; 512];
     let mut q = requests;

@@ -1,6 +1,6 @@
 -- What a served grant asks of its parts, and what it leaves, from a state that the buffers show.
 --
--- Main laws: what each part asks of a ready grant (ready-raisable, ready-touchable, ready-room, ready-insertable ..); serve-shown
+-- Main laws: what each part asks of a grant (ready-raisable, ready-touchable, ready-room, ready-insertable ..); serve-shown
 -- and serve-done, what the parts leave together; idle-shown and idle-done, the grant that serves nobody.
 use mathlib.Core.Path.{_≡_, refl, sym, ap, _∙_, subst}
 use mathlib.Core.Logic.{_≢_}
@@ -12,6 +12,7 @@ use lib.Dec.{eqb, ltb}
 use lib.ListN.{length, getD, set, drop, length-drop}
 use borrow.Author.Tests.{ltb-true, ne-eqb}
 use Rattle.basics.proofs.Conditions.{split}
+use Rattle.reader.specs.declared.Checked.{Checked}
 use Rattle.job.specs.declared.Request.{Request}
 use Rattle.word.specs.Word.{decode, encode}
 use Rattle.process.specs.declared.Head.{Head}
@@ -44,7 +45,8 @@ use Rattle.rules.proofs.Theorem.{invariant-linearized}
 use Rattle.stepper.specs.declared.Done.{Done}
 use Rattle.table.specs.Touch.{Touchable}
 use Rattle.stepper.specs.Buffers.{rowIn, stored}
-use Rattle.stepper.specs.Shown.{Buffers, buffers, shown, doneOf, stateAfter, historyAfter, requestsIn, Playing, Standing, Ready}
+use Rattle.stepper.specs.Shown.{Buffers, buffers, shown, doneOf, stateAfter, historyAfter, requestsIn, Playing, Standing, Grantable}
+use Rattle.stepper.proofs.Seek.{playing-count}
 use Rattle.stepper.proofs.Lists.{length-rows}
 use Rattle.stepper.proofs.Room.{entries-few}
 use Rattle.stepper.proofs.Reached.{Reached, playing-admitted, playing-inside, reached}
@@ -82,10 +84,10 @@ module _ {qs : List Request} {n : ℕ} {S : State} {past : List Happening} (inv 
 
 -- ---- what an accepted file says
 
-pub next-small : {file : List ℕ} {requests : ℕ} → Playing file requests → (h from : ℕ) → from ≤ requests
+pub next-small : {file : List ℕ} {counts : Checked} → Playing file counts → (h from : ℕ) → from ≤ counts .requests
     → seek (requestsIn file) h from < 65536
 next-small {file} playing h from l =
-    omega (arith, seek-bound (requestsIn file) h from (omega (arith, playing .count)), playing-admitted playing .few-requests)
+    omega (arith, seek-bound (requestsIn file) h from (omega (arith, playing-count playing)), playing-admitted playing .few-requests)
 
 -- the head that has finished its request
 pub settled-final : (qs : List Request) (h : ℕ) (moved : Advanced) (next : ℕ) → isFinal (moved .event .answer) ≡ true
@@ -97,7 +99,7 @@ settled-final qs h moved next t e =
 
 -- ---- a served grant
 
-module _ {file : List ℕ} {requests h number : ℕ} {b : Buffers} (playing : Playing file requests) (present : h < mostHeads)
+module _ {file : List ℕ} {counts : Checked} {h number : ℕ} {b : Buffers} (playing : Playing file counts) (present : h < mostHeads)
     {gs lent : List ℕ} (standing : Standing (meaning file .job) b number gs lent) where
   abbrev qs : List Request
   qs = requestsIn file
@@ -132,13 +134,13 @@ module _ {file : List ℕ} {requests h number : ℕ} {b : Buffers} (playing : Pl
         serving-ready (playing-inside playing) (here .invariant) h (omega (arith, here .heads))
         (ltb-true (headAt S h .task .request) (length qs) work)
 
-    pub next-within : getD (b .heads) h (resting 0) .task .request < requests
+    pub next-within : getD (b .heads) h (resting 0) .task .request < counts .requests
     next-within =
         omega (
           arith,
           ap (λ c. getD (c .heads) h (resting 0) .task .request) (here .shows),
           ltb-true (headAt S h .task .request) (length qs) work,
-          playing .count,
+          playing-count playing,
         )
 
     pub mask-least : 2 ^ h ≤ b .mask
@@ -177,12 +179,12 @@ module _ {file : List ℕ} {requests h number : ℕ} {b : Buffers} (playing : Pl
         to-moved : moved ≡ advanceOf (ready qs (headAt S h)) (seen (map decode (b .table)) (accessOf (ready qs (headAt S h)))) number
         to-moved = is-moved ∙ ap (λ k. advanceOf k (seen (map decode (b .table)) (accessOf k)) number) to-head
 
-        pub moved-within : moved .head .task .request < requests
+        pub moved-within : moved .head .task .request < counts .requests
         unfolding advanceOf
         moved-within =
             let w = seen (map decode (b .table)) (accessOf head) in
             let kept = advance-keeps (head .task) w number (head .stage) in
-            omega (arith, ap (λ m. m .head .task .request) is-moved, kept, request-within, playing .count)
+            omega (arith, ap (λ m. m .head .task .request) is-moved, kept, request-within, playing-count playing)
 
         -- the head serves a request of its own
         pub own-request : requestAt qs (moved .head .task .request) .head ≡ h
@@ -233,7 +235,7 @@ module _ {file : List ℕ} {requests h number : ℕ} {b : Buffers} (playing : Pl
             (is-linearization : linearization′ ≡ entered-linearization head)
             (is-entries : entries′ ≡ cond (eqb (moved .event .point) 0) (b .entries) (b .entries + 1))
             (is-next : next ≡ settled qs h moved)
-            (is-mask : mask′ ≡ cond (ltb (next .task .request) requests) (b .mask) (b .mask - 2 ^ h)) where
+            (is-mask : mask′ ≡ cond (ltb (next .task .request) (counts .requests)) (b .mask) (b .mask - 2 ^ h)) where
           pub serve-shown :
               buffers (set (b .heads) h next) table′ report′ linearization′ entries′ mask′
               ≡ shown qs (step qs S h) lent
@@ -243,7 +245,7 @@ module _ {file : List ℕ} {requests h number : ℕ} {b : Buffers} (playing : Pl
               (is-report ∙ ap charged-report to-head)
               (is-linearization ∙ ap entered-linearization to-head)
               is-entries is-next
-              (is-mask ∙ ap (λ k. cond (ltb (next .task .request) k) (b .mask) (b .mask - 2 ^ h)) (playing .count))
+              (is-mask ∙ ap (λ k. cond (ltb (next .task .request) k) (b .mask) (b .mask - 2 ^ h)) (playing-count playing))
               work
 
         pub serve-done : (done : Done) → done ≡ record { idle = false; failed = moved .event .failed; linked = moved .event .linked }
@@ -254,11 +256,11 @@ module _ {file : List ℕ} {requests h number : ℕ} {b : Buffers} (playing : Pl
             (to-moved ∙ moved-here here h present in-service)
             ∙ ap doneOf (sym (happened-served qs S h work))
 
--- ---- what the parts of a ready grant ask
+-- ---- what the parts of a grant ask
 
-module _ {file : List ℕ} {requests h number : ℕ} {b : Buffers} (r : Ready file requests h number b)
+module _ {file : List ℕ} {counts : Checked} {h number : ℕ} {b : Buffers} (r : Grantable file counts h number b)
     (bit : eqb (b .mask / 2 ^ h % 2) 1 ≡ true) where
-  pub ready-next : getD (b .heads) h (resting 0) .task .request < requests
+  pub ready-next : getD (b .heads) h (resting 0) .task .request < counts .requests
   ready-next = next-within (r .playing) (r .head) (r .standing) bit
 
   pub ready-mask : 2 ^ h ≤ b .mask
@@ -284,7 +286,7 @@ module _ {file : List ℕ} {requests h number : ℕ} {b : Buffers} (r : Ready fi
       pub ready-insertable : moved .event .point ≢ 0 → Insertable (b .linearization) (b .entries)
       ready-insertable = insertable (r .playing) (r .head) (r .standing) bit head is-head moved is-moved
 
-      pub ready-moved : moved .head .task .request < requests
+      pub ready-moved : moved .head .task .request < counts .requests
       ready-moved = moved-within (r .playing) (r .head) (r .standing) bit head is-head moved is-moved
 
       pub ready-own : requestAt (requestsIn file) (moved .head .task .request) .head ≡ h

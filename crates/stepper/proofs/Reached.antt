@@ -11,6 +11,7 @@ use Prim.Native.Nat.{ℕ, suc, _+_, _*_, _≤_, _<_}
 use native.Mathlib.Omega.{arith}
 use lib.ListN.{length, getD, take, drop, take-append-drop}
 use lib.Seq.{take-suc}
+use Rattle.reader.specs.declared.Checked.{Checked}
 use Rattle.job.specs.declared.Request.{Request}
 use Rattle.job.specs.Job.{Job}
 use Rattle.linearization.specs.Partition.{apart}
@@ -88,7 +89,7 @@ module _ (j : Job) (admitted : Admitted j) (gs : List ℕ) (granted : (h : ℕ) 
 
 -- ---- what an accepted file says
 
-module _ {file : List ℕ} {requests : ℕ} (playing : Playing file requests) where
+module _ {file : List ℕ} {counts : Checked} (playing : Playing file counts) where
   pub playing-admitted : Admitted (meaning file .job)
   playing-admitted = admitted-meaning file (playing .bytes) (playing .accepted)
 

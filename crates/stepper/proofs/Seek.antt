@@ -11,9 +11,10 @@ use native.Mathlib.Omega.{arith}
 use lib.ListN.{length, getD, drop-of-length-le}
 use lib.Seq.{drop-cons}
 use borrow.Author.Tests.{eq-eqb, ne-eqb}
+use Rattle.reader.specs.declared.Checked.{Checked}
 use Rattle.job.specs.declared.Request.{Request}
 use Rattle.rules.specs.State.{noRequest, requestAt, seekIn, seek}
-use Rattle.stepper.specs.Shown.{requestsIn}
+use Rattle.stepper.specs.Shown.{requestsIn, Playing}
 use Rattle.stepper.specs.Index.{Successive}
 
 module _ (qs : List Request) (h q : ℕ) where
@@ -47,10 +48,15 @@ module _ {qs : List Request} {h from q : ℕ} (sought : Sought qs h from q) wher
       let all : length qs ≡ q = omega (arith, sought .within) in
       all ∙ sym (seek-none qs h q l) ∙ sought .same
 
+-- the counts of an accepted file have the number of its requests
+pub playing-count : {file : List ℕ} {counts : Checked} → Playing file counts → counts .requests ≡ length (requestsIn file)
+playing-count playing = ap (λ k. k .requests) (playing .checked)
+
 -- what an index of the requests has
-pub successor-indexed : {file successors : List ℕ} {requests h q : ℕ} → Successive file successors requests h q → q < length successors
+pub successor-indexed : {file successors : List ℕ} {counts : Checked} {h q : ℕ} → Successive file successors counts h q
+    → q < length successors
     → getD successors q 0 ≡ seek (requestsIn file) h (q + 1)
 successor-indexed {file} {h = h} {q = q} s l =
     let next : suc q ≡ q + 1 = omega arith in
-    s .indexed .successor q l (omega (arith, s .within, s .playing .count))
+    s .indexed .successor q l (omega (arith, s .within, playing-count (s .playing)))
     ∙ ap (λ k. seek (requestsIn file) k (suc q)) (s .own) ∙ ap (seek (requestsIn file) h) next

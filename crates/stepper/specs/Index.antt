@@ -7,14 +7,15 @@ use mathlib.Core.List.{List}
 use Prim.Native.Nat.{ℕ, suc, _<_}
 use lib.ListN.{length, getD}
 use Rattle.job.specs.declared.Request.{Request}
+use Rattle.reader.specs.declared.Checked.{Checked}
 use Rattle.rules.specs.State.{requestAt, seek}
 use Rattle.stepper.specs.Shown.{requestsIn, Playing}
 
 pub record Indexes (qs : List Request) (successors : List ℕ) : Type 0 where
   pub successor : (q : ℕ) → q < length successors → q < length qs → getD successors q 0 ≡ seek qs (requestAt qs q .head) (suc q)
 
-pub record Successive (file successors : List ℕ) (requests h q : ℕ) : Type 0 where
-  pub playing : Playing file requests
+pub record Successive (file successors : List ℕ) (counts : Checked) (h q : ℕ) : Type 0 where
+  pub playing : Playing file counts
   pub indexed : Indexes (requestsIn file) successors
-  pub within : q < requests
+  pub within : q < counts .requests
   pub own : requestAt (requestsIn file) q .head ≡ h

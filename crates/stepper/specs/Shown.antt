@@ -8,9 +8,9 @@
 --   startOf j         the rules' start of the job j
 --   stateAfter j gs   the rules' state of the job j after the grants gs
 --   historyAfter j gs  what those grants were, the newest first
---   Playing           an accepted file, with the number of its requests
+--   Playing           an accepted file, with its counts
 --   Standing          the buffers show the state after the grants gs, and the next grant is the one of that number
---   Ready             they do, for a grant to head h
+--   Grantable         they do, for a grant to head h
 --   Stepped, Grants   what a grant makes of the buffers: after the grants gs, and after any grants whose state they show
 use mathlib.Core.Path.{_≡_}
 use mathlib.Core.Bool.{true, false}
@@ -26,6 +26,8 @@ use Rattle.jobfile.specs.Format.{mostHeads}
 use Rattle.jobfile.specs.Meaning.{meaning}
 use Rattle.jobfile.specs.Admitted.{Bytes}
 use Rattle.mask.specs.Mask.{maskOf}
+use Rattle.reader.specs.declared.Checked.{Checked}
+use Rattle.reader.specs.Reader.{countsOf}
 use Rattle.rules.specs.Table.{fresh}
 use Rattle.rules.specs.State.{State, start, hasWork}
 use Rattle.rules.specs.Step.{step}
@@ -84,13 +86,13 @@ pub record Standing (j : Job) (b : Buffers) (number : ℕ) (gs lent : List ℕ) 
 abbrev pub requestsIn : List ℕ → List Request
 requestsIn file = meaning file .job .requests
 
-pub record Playing (file : List ℕ) (requests : ℕ) : Type 0 where
+pub record Playing (file : List ℕ) (counts : Checked) : Type 0 where
   pub accepted : meaning file .number ≡ 0
   pub bytes : Bytes file
-  pub count : requests ≡ length (requestsIn file)
+  pub checked : counts ≡ countsOf (meaning file)
 
-pub record Ready (file : List ℕ) (requests h number : ℕ) (b : Buffers) : Type 0 where
-  pub playing : Playing file requests
+pub record Grantable (file : List ℕ) (counts : Checked) (h number : ℕ) (b : Buffers) : Type 0 where
+  pub playing : Playing file counts
   pub head : h < mostHeads
   pub grants : List ℕ
   pub lent : List ℕ

@@ -3,6 +3,7 @@ use crate::requests::successor;
 use process::Advanced;
 use process::Head;
 use process::Task;
+use reader::Checked;
 ghost use mathlib.Core.Path.{_≡_};
 ghost use Prim.Native.Nat.{_<_};
 ghost use Rattle.rules.specs.Step.{ready, settled};
@@ -10,9 +11,9 @@ ghost use Rattle.stepper.specs.Shown.{requestsIn, Playing};
 ghost use Rattle.stepper.specs.Index.{Successive};
 
 // The head as a grant finds it: going on, or beginning its next request.
-pub fn ready_head(file: &[u8], requests: u32, head: Head) -> Head
-    requires { ⌜ Playing (now file) requests ⌝ }
-    requires { ⌜ head .task .request < requests ⌝ }
+pub fn ready_head(file: &[u8], counts: Checked, head: Head) -> Head
+    requires { ⌜ Playing (now file) counts ⌝ }
+    requires { ⌜ head .task .request < counts .requests ⌝ }
     ensures { λ r. ⌜ r ≡ ready (requestsIn (now (file .entry))) head ⌝ }
 {
     if process::is_resting(head) {
@@ -23,8 +24,14 @@ pub fn ready_head(file: &[u8], requests: u32, head: Head) -> Head
 }
 
 // The head after a grant: where its request is finished it rests before its next one.
-pub fn settled_head(file: &[u8], successors: &[u16], requests: u32, h: u32, moved: Advanced) -> Head
-    requires { ⌜ Successive (now file) (now successors) requests h (moved .head .task .request) ⌝ }
+pub fn settled_head(
+    file: &[u8],
+    successors: &[u16],
+    counts: Checked,
+    h: u32,
+    moved: Advanced,
+) -> Head
+    requires { ⌜ Successive (now file) (now successors) counts h (moved .head .task .request) ⌝ }
     ensures { λ r. ⌜ r ≡ settled (requestsIn (now (file .entry))) h moved ⌝ }
 {
     let head = moved.head;
@@ -32,7 +39,7 @@ pub fn settled_head(file: &[u8], successors: &[u16], requests: u32, h: u32, move
     let answer = event.answer;
     if rules::is_final(answer) {
         let task = head.task;
-        let next = successor(file, successors, requests, h, task.request);
+        let next = successor(file, successors, counts, h, task.request);
         return Head {
             task: Task {
                 request: next,

@@ -8,11 +8,12 @@ use crate::buffers::enter;
 use crate::heads::ready_head;
 use crate::heads::settled_head;
 use process::Head;
+use reader::Checked;
 ghost use mathlib.Core.Path.{_≡_};
 ghost use mathlib.Core.Bool.{true, cond};
 ghost use Prim.Native.Nat.{_-_, _/_, _%_, _^_, _≤_, _<_};
 ghost use lib.Dec.{eqb, ltb};
-ghost use Rattle.stepper.specs.Shown.{buffers, requestsIn, Ready, Grants};
+ghost use Rattle.stepper.specs.Shown.{buffers, requestsIn, Grantable, Grants};
 ghost use Rattle.stepper.specs.Index.{Indexes};
 
 // The heads of every play; those that a job does not have get no request and no grant.
@@ -52,7 +53,7 @@ fn work_left(mask: u32, h: u32, next: u16, requests: u32) -> u32
 fn serve(
     file: &[u8],
     successors: &[u16],
-    requests: u32,
+    counts: Checked,
     mut heads: Heads,
     h: u32,
     number: u32,
@@ -62,7 +63,7 @@ fn serve(
     entries: u32,
     mask: u32,
 ) -> Granted
-    requires { ⌜ Ready (now file) requests h number (buffers heads (now table) (now report) (now linearization) entries mask) ⌝ }
+    requires { ⌜ Grantable (now file) counts h number (buffers heads (now table) (now report) (now linearization) entries mask) ⌝ }
     requires { ⌜ Indexes (requestsIn (now file)) (now successors) ⌝ }
     requires { ⌜ eqb (mask / 2 ^ h % 2) 1 ≡ true ⌝ }
     ensures { λ r. ⌜ Grants (now (file .entry)) h number
@@ -70,11 +71,11 @@ fn serve(
         (buffers (r .heads) (now (table .exit)) (now (report .exit)) (now (linearization .exit)) (r .entries) (r .mask)) (r .done) ⌝ }
 {
     let at = h as usize;
-    let head = ready_head(file, requests, heads[at]);
+    let head = ready_head(file, counts, heads[at]);
     let moved = table::stepped(table, head, number);
     let event = moved.event;
     let answer = event.answer;
-    let next = settled_head(file, successors, requests, h, moved);
+    let next = settled_head(file, successors, counts, h, moved);
     heads[at] = next;
     let task = head.task;
     charge_row(report, task.request, number, answer);
@@ -82,7 +83,7 @@ fn serve(
     Granted {
         heads,
         entries: listed,
-        mask: work_left(mask, h, next.task.request, requests),
+        mask: work_left(mask, h, next.task.request, counts.requests),
         done: Done {
             idle: false,
             failed: event.failed,
@@ -96,7 +97,7 @@ fn serve(
 pub fn grant(
     file: &[u8],
     successors: &[u16],
-    requests: u32,
+    counts: Checked,
     heads: Heads,
     h: u32,
     number: u32,
@@ -106,7 +107,7 @@ pub fn grant(
     entries: u32,
     mask: u32,
 ) -> Granted
-    requires { ⌜ Ready (now file) requests h number (buffers heads (now table) (now report) (now linearization) entries mask) ⌝ }
+    requires { ⌜ Grantable (now file) counts h number (buffers heads (now table) (now report) (now linearization) entries mask) ⌝ }
     requires { ⌜ Indexes (requestsIn (now file)) (now successors) ⌝ }
     ensures { λ r. ⌜ Grants (now (file .entry)) h number
         (buffers heads (now (table .entry)) (now (report .entry)) (now (linearization .entry)) entries mask)
@@ -116,7 +117,7 @@ pub fn grant(
         return serve(
             file,
             successors,
-            requests,
+            counts,
             heads,
             h,
             number,

@@ -42,7 +42,8 @@ module _ (qs : List Request) (S : State) (h : ℕ) where
   unfolding step happened
   step-links = split (hasWork qs (headAt S h)) (λ t. rw t refl) (λ t. rw t refl)
 
-  pub counted-step : countedOf (tallyOf qs S) (doneOf (happened qs S h)) (maskOf (map (hasWork qs) (step qs S h .heads))) ≡ tallyOf qs (step qs S h)
+  pub counted-step : countedOf (tallyOf qs S) (doneOf (happened qs S h)) (maskOf (map (hasWork qs) (step qs S h .heads)))
+      ≡ tallyOf qs (step qs S h)
   counted-step = λ i. record {
     idle = step-idle i;
     failed = step-failed i;

@@ -10,6 +10,7 @@ use native.Mathlib.Omega.{arith}
 use lib.ListN.{length, getD, take, drop}
 use lib.Seq.{length-take-le, take-all}
 use lib.Count.{ones}
+use Rattle.reader.specs.declared.Checked.{Checked}
 use Rattle.job.specs.declared.Request.{Request}
 use Rattle.job.specs.declared.Tally.{Tally}
 use Rattle.process.specs.declared.Head.{Head}
@@ -21,47 +22,48 @@ use Rattle.rules.specs.Step.{step}
 use Rattle.stepper.specs.Shown.{startOf, stateAfter, requestsIn, Playing, Standing}
 use Rattle.stepper.proofs.Reached.{cut-granted, after-next, playing-admitted}
 use Rattle.turns.specs.declared.Progress.{Progress}
-use Rattle.turns.specs.Turns.{runsIn, scheduleIn, stateAt, remaining, countedOf, buffersOf, StandingAt, Turnable, Turned}
+use Rattle.turns.specs.Turns.{runsOf, scheduleIn, stateAt, remaining, countedOf, buffersOf, StandingAt, Turnable, Turned}
 use Rattle.turns.specs.Turns.{firstProgress, firstTally, runOf}
 use Rattle.turns.proofs.Counters.{working-ones, counted-step, Small, counted-small}
 
-pub record Going (file : List ℕ) (requests : ℕ) (lent : List ℕ) (p : Progress) (tally : Tally) (table report linearization : List ℕ) : Type 0 where
-  pub playing : Playing file requests
+pub record Going (file : List ℕ) (counts : Checked) (lent : List ℕ) (p : Progress) (tally : Tally)
+    (table report linearization : List ℕ) : Type 0 where
+  pub playing : Playing file counts
   pub within : p .number ≤ length (scheduleIn file)
-  pub left : remaining (runsIn file) (p .cursor) ≡ drop (p .number) (scheduleIn file)
+  pub left : remaining (runsOf file) (p .cursor) ≡ drop (p .number) (scheduleIn file)
   pub standing : StandingAt file p (buffersOf p table report linearization) lent
-  pub counts : tally ≡ tallyOf (requestsIn file) (stateAt file (p .number))
+  pub tallied : tally ≡ tallyOf (requestsIn file) (stateAt file (p .number))
   pub small : Small tally (p .number)
 
 -- ---- the start
 
-pub going-start : {file : List ℕ} {requests mask : ℕ} {heads : List Head} {lent table report linearization : List ℕ}
-    → Playing file requests → (p : Progress) (tally : Tally) → p ≡ firstProgress heads mask → tally ≡ firstTally (p .mask)
+pub going-start : {file : List ℕ} {counts : Checked} {mask : ℕ} {heads : List Head} {lent table report linearization : List ℕ}
+    → Playing file counts → (p : Progress) (tally : Tally) → p ≡ firstProgress heads mask → tally ≡ firstTally (p .mask)
     → Standing (meaning file .job) (buffersOf p table report linearization) 1 [] lent
-    → Going file requests lent p tally table report linearization
-going-start {file} {lent = lent} {table} {report} {linearization} playing p tally is counts standing =
+    → Going file counts lent p tally table report linearization
+going-start {file} {lent = lent} {table} {report} {linearization} playing p tally is is-tally standing =
     let none : p .number ≡ 0 = ap (λ q. q .number) is in
     record {
       playing = playing;
       within = omega (arith, none);
-      left = ap (λ q. remaining (runsIn file) (q .cursor)) is ∙ granted-longest (scheduleIn file)
+      left = ap (λ q. remaining (runsOf file) (q .cursor)) is ∙ granted-longest (scheduleIn file)
           ∙ ap (λ k. drop k (scheduleIn file)) (sym none);
       standing = subst (λ k. Standing (meaning file .job) (buffersOf p table report linearization) (k + 1) (take k (scheduleIn file)) lent)
           (sym none) standing;
-      counts = counts ∙ ap (λ w. record { idle = 0; failed = 0; links = 0; working = w })
+      tallied = is-tally ∙ ap (λ w. record { idle = 0; failed = 0; links = 0; working = w })
           (ap (λ c. ones (c .mask)) (standing .shows) ∙ sym (working-ones (requestsIn file) (startOf (meaning file .job) .heads)))
           ∙ ap (λ k. tallyOf (requestsIn file) (stateAt file k)) (sym none);
       small = record {
-        idle = omega (arith, ap (λ t. t .idle) counts);
-        failed = omega (arith, ap (λ t. t .failed) counts);
-        links = omega (arith, ap (λ t. t .links) counts);
+        idle = omega (arith, ap (λ t. t .idle) is-tally);
+        failed = omega (arith, ap (λ t. t .failed) is-tally);
+        links = omega (arith, ap (λ t. t .links) is-tally);
       };
     }
 
 -- ---- one turn
 
-module _ {file : List ℕ} {requests : ℕ} {lent : List ℕ} {p : Progress} {tally : Tally} {table report linearization : List ℕ}
-    (g : Going file requests lent p tally table report linearization) where
+module _ {file : List ℕ} {counts : Checked} {lent : List ℕ} {p : Progress} {tally : Tally} {table report linearization : List ℕ}
+    (g : Going file counts lent p tally table report linearization) where
   abbrev qs : List Request
   qs = requestsIn file
 
@@ -72,7 +74,7 @@ module _ {file : List ℕ} {requests : ℕ} {lent : List ℕ} {p : Progress} {ta
   h = getD schedule (p .number) 0
 
   module _ (more : p .number < length schedule) where
-    pub going-turnable : Turnable file requests p table report linearization
+    pub going-turnable : Turnable file counts p table report linearization
     going-turnable = record { playing = g .playing; more = more; left = g .left; lent = lent; standing = g .standing }
 
     -- one grant more is the rules' step
@@ -95,22 +97,23 @@ module _ {file : List ℕ} {requests : ℕ} {lent : List ℕ} {p : Progress} {ta
 
       counts-after : tally′ ≡ tallyOf qs (stateAt file (p′ .number))
       counts-after =
-          counted ∙ ap (λ t. countedOf t (p′ .done) (p′ .mask)) (g .counts)
+          counted ∙ ap (λ t. countedOf t (p′ .done) (p′ .mask)) (g .tallied)
           ∙ ap₂ (λ d m. countedOf (tallyOf qs (stateAt file (p .number))) d m) (turned .done)
           (ap (λ c. c .mask) (turned .buffers) ∙ ap (λ T. maskOf (map (hasWork qs) (T .heads))) stepped)
           ∙ counted-step qs (stateAt file (p .number)) h ∙ ap (tallyOf qs) (sym stepped)
           ∙ ap (λ k. tallyOf qs (stateAt file k)) (sym (turned .number))
 
-      pub going-next : Going file requests lent p′ tally′ table′ report′ linearization′
+      pub going-next : Going file counts lent p′ tally′ table′ report′ linearization′
       going-next =
           record {
             playing = g .playing;
             within = omega (arith, turned .number);
             left = turned .left ∙ ap (λ k. drop k schedule) (sym (turned .number));
             standing = standing-after;
-            counts = counts-after;
+            tallied = counts-after;
             small = subst (λ t. Small t (p′ .number)) (sym counted)
-                (subst (λ k. Small (countedOf tally (p′ .done) (p′ .mask)) k) (sym (turned .number)) (counted-small (p′ .done) (p′ .mask) (g .small)));
+                (subst (λ k. Small (countedOf tally (p′ .done) (p′ .mask)) k) (sym (turned .number))
+                (counted-small (p′ .done) (p′ .mask) (g .small)));
           }
 
   -- ---- the end

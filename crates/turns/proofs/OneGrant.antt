@@ -5,44 +5,60 @@ use Prim.Native.Nat.{ℕ, suc, _+_, _-_, _<_}
 use native.Mathlib.Omega.{arith}
 use lib.ListN.{getD, take, drop}
 use lib.Seq.{drop-cons}
+use Rattle.reader.specs.declared.Checked.{Checked}
 use Rattle.jobfile.specs.Meaning.{meaning}
 use Rattle.rules.specs.Step.{step}
 use Rattle.rules.specs.Run.{happened}
-use Rattle.stepper.specs.Shown.{Buffers, shown, doneOf, requestsIn, Ready}
+use Rattle.stepper.specs.Shown.{Buffers, shown, doneOf, requestsIn, Grantable}
 use Rattle.stepper.proofs.Reached.{after-next, playing-admitted}
 use Rattle.turns.specs.declared.Cursor.{Cursor}
 use Rattle.turns.specs.declared.Progress.{Progress}
-use Rattle.turns.specs.Turns.{runsIn, scheduleIn, stateAt, openedOf, remaining, Openable, buffersOf, Turnable, Turned}
+use Rattle.turns.specs.Turns.{runsOf, scheduleIn, stateAt, openedOf, remaining, Openable, buffersOf, Turnable, Turned}
 use Rattle.turns.proofs.Runs.{runs-some, grants-few, at-openable, opened-some, opened-head, opened-rest}
 
-module _ {file : List ℕ} {requests : ℕ} {p : Progress} {table report linearization : List ℕ} (t : Turnable file requests p table report linearization) where
+module _ {file : List ℕ} {counts : Checked} {p : Progress} {table report linearization : List ℕ}
+    (t : Turnable file counts p table report linearization) where
   abbrev schedule : List ℕ
   schedule = scheduleIn file
 
   abbrev head : ℕ
   head = getD schedule (p .number) 0
 
-  before-grant : remaining (runsIn file) (p .cursor) ≡ head ∷ drop (suc (p .number)) schedule
+  before-grant : remaining (runsOf file) (p .cursor) ≡ head ∷ drop (suc (p .number)) schedule
   before-grant = t .left ∙ drop-cons schedule (p .number) 0 (t .more)
 
-  pub turn-openable : Openable (runsIn file) (p .cursor)
-  turn-openable = at-openable (runsIn file) (runs-some (t .playing)) (p .cursor) head (drop (suc (p .number)) schedule) before-grant
+  pub turn-openable : Openable (runsOf file) (p .cursor)
+  turn-openable = at-openable (runsOf file) (runs-some (t .playing)) (p .cursor) head (drop (suc (p .number)) schedule) before-grant
 
   pub turn-number : p .number < 2088195
   turn-number = omega (arith, t .more, grants-few (t .playing))
 
-  module _ (c : Cursor) (is : c ≡ openedOf (runsIn file) (p .cursor)) where
+  module _ (c : Cursor) (is : c ≡ openedOf (runsOf file) (p .cursor)) where
     pub turn-left : 0 < c .left
-    turn-left = omega (arith, ap (λ k. k .left) is, opened-some (runsIn file) (runs-some (t .playing)) (p .cursor) head (drop (suc (p .number)) schedule) before-grant)
+    turn-left =
+        omega (
+          arith,
+          ap (λ k. k .left) is,
+          opened-some (runsOf file) (runs-some (t .playing)) (p .cursor) head
+              (drop (suc (p .number)) schedule) before-grant,
+        )
 
     turn-head : c .head ≡ head
-    turn-head = ap (λ k. k .head) is ∙ opened-head (runsIn file) (runs-some (t .playing)) (p .cursor) head (drop (suc (p .number)) schedule) before-grant
+    turn-head =
+        ap (λ k. k .head) is ∙ opened-head (runsOf file) (runs-some (t .playing)) (p .cursor) head (drop (suc (p .number)) schedule)
+        before-grant
 
-    pub turn-ready : Ready file requests (c .head) (p .number + 1) (buffersOf p table report linearization)
-    turn-ready =
+    pub turn-grantable : Grantable file counts (c .head) (p .number + 1) (buffersOf p table report linearization)
+    turn-grantable =
         record {
           playing = t .playing;
-          head = omega (arith, turn-head, playing-admitted (t .playing) .each-grant (p .number) 0 (t .more), playing-admitted (t .playing) .few-heads);
+          head = omega (
+            arith,
+            turn-head,
+            playing-admitted (t .playing) .each-grant (p .number) 0 (t .more),
+            playing-admitted
+                (t .playing) .few-heads,
+          );
           grants = take (p .number) schedule;
           lent = t .lent;
           standing = t .standing;
@@ -56,8 +72,8 @@ module _ {file : List ℕ} {requests : ℕ} {p : Progress} {table report lineari
         let one : suc (p .number) ≡ p .number + 1 = omega arith in
         record {
           number = number;
-          left = ap (remaining (runsIn file)) (cursor ∙ ap (λ k. record { next = k .next; head = k .head; left = k .left - 1 }) is)
-              ∙ opened-rest (runsIn file) (runs-some (t .playing)) (p .cursor) head (drop (suc (p .number)) schedule) before-grant
+          left = ap (remaining (runsOf file)) (cursor ∙ ap (λ k. record { next = k .next; head = k .head; left = k .left - 1 }) is)
+              ∙ opened-rest (runsOf file) (runs-some (t .playing)) (p .cursor) head (drop (suc (p .number)) schedule) before-grant
               ∙ ap (λ k. drop k schedule) one;
           buffers = buffers ∙ ap (λ k. shown (requestsIn file) (step (requestsIn file) (stateAt file (p .number)) k) lent) turn-head
               ∙ ap (λ T. shown (requestsIn file) T lent) (sym (after-next (meaning file .job) schedule (p .number) (t .more)));

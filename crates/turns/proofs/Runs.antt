@@ -9,6 +9,7 @@ use native.Mathlib.Omega.{arith}
 use native.Mathlib.Decide.{ℕ-discrete, decLt}
 use lib.ListN.{length, getD, drop, replicate}
 use borrow.Author.Tests.{eq-eqb, ne-eqb}
+use Rattle.reader.specs.declared.Checked.{Checked}
 use Rattle.jobfile.specs.declared.Run.{Run}
 use Rattle.jobfile.specs.Format.{mostGrants}
 use Rattle.jobfile.specs.Meaning.{meaning, granted}
@@ -17,7 +18,7 @@ use Rattle.jobfile.proofs.Places.{granted-next, granted-end, file-length, file-
 use Rattle.stepper.specs.Shown.{Playing}
 use Rattle.stepper.proofs.Reached.{playing-admitted}
 use Rattle.turns.specs.declared.Cursor.{Cursor}
-use Rattle.turns.specs.Turns.{runsIn, noRun, openedOf, remaining, Openable}
+use Rattle.turns.specs.Turns.{runsOf, noRun, openedOf, remaining, Openable}
 
 -- ---- the runs of an accepted file
 
@@ -26,12 +27,12 @@ follows-some heads before [] f i l = absurd (omega arith)
 follows-some heads before (r ∷ rs) f zero l = f .0 .some
 follows-some heads before (r ∷ rs) f (suc i) l = follows-some heads r rs (f .1) i (omega arith)
 
-module _ {file : List ℕ} {requests : ℕ} (playing : Playing file requests) where
-  pub runs-some : (i : ℕ) → i < length (runsIn file) → 0 < getD (runsIn file) i noRun .count
-  runs-some = follows-some (meaning file .job .heads) (record { head = 0; count = mostGrants }) (runsIn file)
+module _ {file : List ℕ} {counts : Checked} (playing : Playing file counts) where
+  pub runs-some : (i : ℕ) → i < length (runsOf file) → 0 < getD (runsOf file) i noRun .count
+  runs-some = follows-some (meaning file .job .heads) (record { head = 0; count = mostGrants }) (runsOf file)
       (longest-follow (meaning file .job .heads) 0 (meaning file .job .schedule) (playing-admitted playing .each-grant))
 
-  pub runs-few : length (runsIn file) ≤ 8192
+  pub runs-few : length (runsOf file) ≤ 8192
   runs-few = omega (arith, file-length file (playing .bytes) (playing .accepted), file-short file (playing .bytes) (playing .accepted))
 
   pub grants-few : length (meaning file .job .schedule) ≤ 2088195
@@ -50,13 +51,15 @@ module _ (rs : List Run) (some : (i : ℕ) → i < length rs → 0 < getD rs i n
       there : c .left ≡ 0 → Dec (c .next < length rs) → c .next < length rs
       there z (yes l) = l
       there z (no l) =
-          let empty : remaining rs c ≡ [] = ap (λ k. replicate k (c .head) ++ granted (drop (c .next) rs)) z ∙ granted-end rs (c .next) (omega arith) in
+          let empty : remaining rs c ≡ [] =
+          ap (λ k. replicate k (c .head) ++ granted (drop (c .next) rs)) z ∙ granted-end rs (c .next) (omega arith) in
           absurd (none-left (sym at ∙ empty))
 
   -- opening a run changes no grant
   opened-remaining : Dec (c .left ≡ 0) → remaining rs (openedOf rs c) ≡ h ∷ rest
   opened-remaining (yes z) =
-      let next : granted (drop (c .next) rs) ≡ replicate (getD rs (c .next) noRun .count) (getD rs (c .next) noRun .head) ++ granted (drop (c .next + 1) rs) =
+      let next : granted (drop (c .next) rs)
+      ≡ replicate (getD rs (c .next) noRun .count) (getD rs (c .next) noRun .head) ++ granted (drop (c .next + 1) rs) =
       granted-next rs (c .next) noRun (at-openable .there z) in
       rw (eq-eqb (c .left) 0 z) (sym next ∙ sym (ap (λ k. replicate k (c .head) ++ granted (drop (c .next) rs)) z) ∙ at)
   opened-remaining (no d) = rw (ne-eqb (c .left) 0 d) at

@@ -2,7 +2,7 @@
 --
 --   Addable t               a tally that can be added to
 --   countedOf t d mask    the tally t after a grant that was d; the fourth number is the mask's count of ones
---   runsIn file           the runs of a file
+--   runsOf file           the runs of a file
 --   scheduleIn file       the grants of a file
 --   stateAt file k        the rules' state of a file's job after its first k grants
 --   openedOf rs c         the cursor c at a grant
@@ -22,6 +22,7 @@ use Prim.Native.Nat.{ℕ, _+_, _-_, _<_}
 use lib.Count.{ones}
 use lib.Dec.{eqb}
 use lib.ListN.{length, getD, take, drop, replicate}
+use Rattle.reader.specs.declared.Checked.{Checked}
 use Rattle.job.specs.declared.Tally.{Tally}
 use Rattle.job.specs.Job.{Job}
 use Rattle.process.specs.declared.Head.{Head}
@@ -52,8 +53,8 @@ countedOf tally done mask =
 
 -- ---- the cursor
 
-abbrev pub runsIn : List ℕ → List Run
-runsIn file = longestRuns (meaning file .job .schedule)
+abbrev pub runsOf : List ℕ → List Run
+runsOf file = longestRuns (meaning file .job .schedule)
 
 abbrev pub scheduleIn : List ℕ → List ℕ
 scheduleIn file = meaning file .job .schedule
@@ -89,17 +90,17 @@ buffersOf p table report linearization = buffers (p .heads) table report lineari
 abbrev pub StandingAt : List ℕ → Progress → Buffers → List ℕ → Type 0
 StandingAt file p b lent = Standing (meaning file .job) b (p .number + 1) (take (p .number) (scheduleIn file)) lent
 
-pub record Turnable (file : List ℕ) (requests : ℕ) (p : Progress) (table report linearization : List ℕ) : Type 0 where
-  pub playing : Playing file requests
+pub record Turnable (file : List ℕ) (counts : Checked) (p : Progress) (table report linearization : List ℕ) : Type 0 where
+  pub playing : Playing file counts
   pub more : p .number < length (scheduleIn file)
-  pub left : remaining (runsIn file) (p .cursor) ≡ drop (p .number) (scheduleIn file)
+  pub left : remaining (runsOf file) (p .cursor) ≡ drop (p .number) (scheduleIn file)
   pub lent : List ℕ
   pub standing : StandingAt file p (buffersOf p table report linearization) lent
 
 -- The turn makes the rules' step for the schedule's next head: the buffers then show the state after one grant more.
 pub record Turned (file : List ℕ) (p p′ : Progress) (b′ : Buffers) (lent : List ℕ) : Type 0 where
   pub number : p′ .number ≡ p .number + 1
-  pub left : remaining (runsIn file) (p′ .cursor) ≡ drop (p .number + 1) (scheduleIn file)
+  pub left : remaining (runsOf file) (p′ .cursor) ≡ drop (p .number + 1) (scheduleIn file)
   pub buffers : b′ ≡ shown (requestsIn file) (stateAt file (p .number + 1)) lent
   pub done : p′ .done ≡ doneOf (happened (requestsIn file) (stateAt file (p .number)) (getD (scheduleIn file) (p .number) 0))
 

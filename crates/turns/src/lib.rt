@@ -1,5 +1,6 @@
 // The grants of an accepted file: a cursor over its runs, one grant a turn, and the tally.
 use job::Tally;
+use reader::Checked;
 use stepper::Done;
 use stepper::Heads;
 use stepper::grant;
@@ -8,7 +9,7 @@ ghost use Prim.Native.Nat.{_<_};
 ghost use Rattle.rules.specs.Step.{plus};
 ghost use Rattle.stepper.specs.Shown.{requestsIn, Playing};
 ghost use Rattle.stepper.specs.Index.{Indexes};
-ghost use Rattle.turns.specs.Turns.{Addable, countedOf, runsIn, openedOf, takenOf, Openable};
+ghost use Rattle.turns.specs.Turns.{Addable, countedOf, runsOf, openedOf, takenOf, Openable};
 ghost use Rattle.turns.specs.Turns.{buffersOf, Turnable, Turns, firstProgress, firstTally};
 
 // Where a play stands among the runs of the file: the next run, and the head and the grants left of the one under way.
@@ -54,13 +55,13 @@ pub fn counted(tally: Tally, progress: Progress) -> Tally
 }
 
 // The cursor with a grant left: at the next run where the one under way has none.
-fn open_run(file: &[u8], requests: u32, cursor: Cursor) -> Cursor
-    requires { ⌜ Playing (now file) requests ⌝ }
-    requires { ⌜ Openable (runsIn (now file)) cursor ⌝ }
-    ensures { λ r. ⌜ r ≡ openedOf (runsIn (now (file .entry))) cursor ⌝ }
+fn open_run(file: &[u8], counts: Checked, cursor: Cursor) -> Cursor
+    requires { ⌜ Playing (now file) counts ⌝ }
+    requires { ⌜ Openable (runsOf (now file)) cursor ⌝ }
+    ensures { λ r. ⌜ r ≡ openedOf (runsOf (now (file .entry))) cursor ⌝ }
 {
     if cursor.left == 0 {
-        let run = reader::run_at(file, requests, cursor.next);
+        let run = reader::run_at(file, counts.requests, cursor.next);
         return Cursor {
             next: cursor.next + 1,
             head: run.head as u32,
@@ -86,25 +87,25 @@ fn taken(cursor: Cursor) -> Cursor
 pub fn turn(
     file: &[u8],
     successors: &[u16],
-    requests: u32,
+    counts: Checked,
     progress: Progress,
     table: &mut [u32],
     report: &mut [u32],
     linearization: &mut [u32],
 ) -> Progress
-    requires { ⌜ Turnable (now file) requests progress (now table) (now report) (now linearization) ⌝ }
+    requires { ⌜ Turnable (now file) counts progress (now table) (now report) (now linearization) ⌝ }
     requires { ⌜ Indexes (requestsIn (now file)) (now successors) ⌝ }
     ensures { λ r. ⌜ Turns (now (file .entry)) progress r
         (buffersOf progress (now (table .entry)) (now (report .entry)) (now (linearization .entry)))
         (buffersOf r (now (table .exit)) (now (report .exit)) (now (linearization .exit))) ⌝ }
 {
-    let cursor = open_run(file, requests, progress.cursor);
+    let cursor = open_run(file, counts, progress.cursor);
     let number = progress.number + 1;
     let heads = progress.heads;
     let granted = grant(
         file,
         successors,
-        requests,
+        counts,
         heads,
         cursor.head,
         number,

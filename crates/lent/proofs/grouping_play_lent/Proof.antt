@@ -47,7 +47,7 @@ use Rattle.turns.specs.declared.Progress.{Progress}
 use Rattle.turns.specs.Turns.{firstTally}
 use Rattle.player.specs.Player.{refusedWith}
 use Rattle.player.proofs.Along.{along, lending-start}
-use Rattle.lent.proofs.Ended.{Ended, refused-ended}
+use Rattle.lent.proofs.Ended.{LentEnded, refused-ended}
 use Rattle.lent.proofs.Walks.{Setting, lent, row, value, IsValue, differs, agrees, told, typed, sees, makes, opens-value}
 use Rattle.lent.proofs.Walks.{tally-struct, checked-struct, progress-struct, plan-struct, played-struct}
 use Rattle.player.proofs.prepare.Symbol as prepare-def
@@ -159,7 +159,7 @@ module _ (w : Setting) (P : Parameters) where
           forget ! 30 refl $ opening (agrees (counts .number) 0 t))
         where
           refused-here : counts .number ≢ 0 → (r : Played) → r ≡ refusedWith (counts .number)
-              → Ended (entry P) (P .tally .entry) (P .tally .entry) (z .left .table) (z .left .report) (z .left .linearization) r
+              → LentEnded (entry P) (P .tally .entry) (P .tally .entry) (z .left .table) (z .left .report) (z .left .linearization) r
           refused-here d r e =
               refused-ended (entry P) (P .tally .entry) (z .left .table) (z .left .report) (z .left .linearization) (z .result)
               (prepared .bytes) (prepared .exact) d r e

@@ -4,8 +4,8 @@ use Prim.Native.Nat.{_*_}
 use native.Mathlib.Omega.{arith}
 use lib.Seq.{length-take-le}
 use borrow.Author.Needs.{needs}
-use Rattle.jobfile.specs.Admitted.{Bytes}
-use Rattle.player.proofs.Prepared.{checks-admitted, checks-playing, laid-nodes, laid}
+use Rattle.stepper.proofs.Reached.{playing-admitted}
+use Rattle.player.proofs.Prepared.{laid-nodes, laid}
 use Rattle.player.proofs.lay_out.Statement.{statement}
 use Rattle.player.proofs.lay_out.Tie as tie
 
@@ -28,13 +28,11 @@ slice-aggregate-fresh-table c =
 
 fresh-table-requires : tie.Need-fresh-table-requires
 fresh-table-requires c κs =
-    let known = c .before .before .before .before .before in
-    let k = known .before in
-    let bytes : Bytes (k .args .file .now) = λ i. omega (arith, known .shared-slice-known .given i) in
+    let k = c .before .before .before .before .before .before in
     omega (
       arith,
       laid-nodes (k .pre .0) (k .args .table .now) (k .args .report .now) (k .pre .1 .0) (k .pre .1 .1),
-      checks-admitted (k .pre .0) bytes .few-nodes,
+      playing-admitted (k .pre .0) .few-nodes,
     )
 
 slice-relend-prefix-clear-report : tie.Need-slice-relend-prefix-clear-report
@@ -50,9 +48,7 @@ clear-report-requires c κs = search needs
 
 first-requests-requires : tie.Need-first-requests-requires
 first-requests-requires c κs =
-    let known = c .before .before .before .before .before .before .before .before .before .before .before .before in
-    let k = known .before in
-    checks-playing (k .pre .0) (λ i. omega (arith, known .shared-slice-known .given i))
+    c .before .before .before .before .before .before .before .before .before .before .before .before .before .pre .0
 
 resting-heads-requires : tie.Need-resting-heads-requires
 resting-heads-requires c κs = search needs

@@ -79,7 +79,8 @@ turn-on-requires c κs =
     (made .prepare .ensures .1) (made .prepare .ensures .0) (judged .if1 .left) (made .prepare .kept .1 .0)
     (made .prepare .kept .1 .1 .0) (made .prepare .kept .1 .1 .1 .0) (looped .before .first-tally .result)
     (looped .before .first-tally .ensures)) in
-    (along-turnable _ _ (along _ _ here) (c .before .before .before .before .if2 .taken), looped .before .before .before .successors .ensures)
+    let indexed = looped .before .before .before in
+    (along-turnable _ _ (along _ _ here) (c .before .before .before .before .if2 .taken), indexed .successors .ensures)
 
 counted-requires : tie.Need-counted-requires Inv-loop μ-loop
 counted-requires c κs =
@@ -93,11 +94,13 @@ counted-requires c κs =
     (made .prepare .ensures .1) (made .prepare .ensures .0) (judged .if1 .left) (made .prepare .kept .1 .0)
     (made .prepare .kept .1 .1 .0) (made .prepare .kept .1 .1 .1 .0) (looped .before .first-tally .result)
     (looped .before .first-tally .ensures)) in
-    along-addable _ _ (along _ _ here) (c .before .before .before .before .before .before .before .before .before .before .before .if2 .taken)
+    along-addable _ _ (along _ _ here)
+    (c .before .before .before .before .before .before .before .before .before .before .before .if2 .taken)
 
 loop-less : tie.Need-loop-less Inv-loop μ-loop
 loop-less c =
-    let looped = c .before .before .before .before .before .before .before .before .before .before .before .before .before .before .before in
+    let turned = c .before .before .before .before .before .before .before in
+    let looped = turned .before .before .before .before .before .before .before .before in
     let judged = looped .before .before .before .before in
     let made = judged .before .before .before .before .before .before .before .before .before in
     let a = made .before .before .before .before .before .before .before .before .args in
@@ -107,8 +110,8 @@ loop-less c =
     (made .prepare .ensures .1) (made .prepare .ensures .0) (judged .if1 .left) (made .prepare .kept .1 .0)
     (made .prepare .kept .1 .1 .0) (made .prepare .kept .1 .1 .1 .0) (looped .before .first-tally .result)
     (looped .before .first-tally .ensures)) in
-    let turned = c .before .before .before .before .before .before .before in
-    omega (arith, turned .before .before .before .before .before .if2 .taken, turned .turn-on .ensures _ (here .going .standing) .turned .number)
+    let turns = turned .turn-on .ensures _ (here .going .standing) in
+    omega (arith, turned .before .before .before .before .before .if2 .taken, turns .turned .number)
 
 loop-again : tie.Need-loop-again Inv-loop μ-loop
 loop-again c =

@@ -29,11 +29,12 @@ lay-out-requires : tie.Need-lay-out-requires
 lay-out-requires c κs =
     let tested = c .before .before in
     let judged = tested .before .before in
-    let a = judged .before .before .before .before .before .args in
+    let known = judged .before .before .before .before in
+    let a = known .before .args in
     let roomy =
     admission-roomy (a .file .now) (length (a .table .now)) (length (a .report .now)) (length (a .linearization .now)) _
-    (judged .admission .ensures) (tested .if1 .left) in
-    (roomy .checks, (omega (arith, nodes-are (roomy .checks), roomy .nodes), omega (arith, rows-are (roomy .checks), roomy .rows)))
+    (judged .admission .ensures) (λ i. omega (arith, known .shared-slice-known .given i)) (tested .if1 .left) in
+    (roomy .playing, (omega (arith, nodes-are (roomy .playing), roomy .nodes), omega (arith, rows-are (roomy .playing), roomy .rows)))
 
 same-length : tie.Need-same-length
 same-length c = search needs

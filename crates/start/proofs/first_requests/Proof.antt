@@ -14,10 +14,10 @@ use Rattle.start.proofs.first_requests.Statement.{statement}
 use Rattle.start.proofs.first_requests.Tie as tie
 
 abbrev Inv-loop : tie.InvT-loop
-Inv-loop file requests firsts₀ h₀ firsts h = Filled 0 (firstRequest (requestsIn file)) mostHeads h firsts
+Inv-loop file counts firsts₀ h₀ firsts h = Filled 0 (firstRequest (requestsIn file)) mostHeads h firsts
 
 abbrev μ-loop : tie.MeasureT-loop
-μ-loop file requests firsts₀ h₀ firsts h = mostHeads - h
+μ-loop file counts firsts₀ h₀ firsts h = mostHeads - h
 
 loop-holds : tie.Need-loop-holds Inv-loop μ-loop
 loop-holds c = filled-none 0 (firstRequest (requestsIn (now (c .before .args .file)))) mostHeads _ refl

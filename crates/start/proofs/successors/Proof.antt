@@ -3,6 +3,7 @@ use mathlib.Core.Path.{sym, ap}
 use Prim.Native.Nat.{_-_}
 use native.Mathlib.Omega.{arith}
 use borrow.Author.Needs.{needs}
+use Rattle.stepper.proofs.Seek.{playing-count}
 use Rattle.rules.specs.State.{noRequest}
 use Rattle.stepper.specs.Shown.{requestsIn}
 use Rattle.start.proofs.Index.{Indexed, indexed-none, indexed-on, indexed-all, few-requests, few-heads}
@@ -19,7 +20,7 @@ cast-firsts : tie.Need-cast-firsts Inv-loop μ-loop
 cast-firsts c = omega (arith, few-requests (c .before .pre))
 
 loop-holds : tie.Need-loop-holds Inv-loop μ-loop
-loop-holds c = indexed-none _ _ (c .before .pre .count)
+loop-holds c = indexed-none _ _ (playing-count (c .before .pre))
 
 sub-q : tie.Need-sub-q Inv-loop μ-loop
 sub-q c = search needs
@@ -27,71 +28,95 @@ sub-q c = search needs
 request-at-requires : tie.Need-request-at-requires Inv-loop μ-loop
 request-at-requires c κs =
     let start = c .before .before .before in
-    (start .pre .accepted, omega (arith, c .before .loop .inv .within, start .pre .count))
+    (start .pre .accepted, omega (arith, c .before .loop .inv .within, playing-count (start .pre)))
 
 cast-h : tie.Need-cast-h Inv-loop μ-loop
 cast-h c = search needs
 
 mul-index : tie.Need-mul-index Inv-loop μ-loop
 mul-index c =
-    let read = c .before .request-at in
-    let l = c .before .before .before .loop in
-    let start = c .before .before .before .before .before in
-    omega (arith, few-heads (start .pre) (l .q - 1) (omega (arith, l .inv .within, start .pre .count)) (read .result) (read .ensures))
+    let tested = c .before .before in
+    let l = tested .before .loop in
+    let start = tested .before .before .before in
+    omega (
+      arith,
+      few-heads (start .pre) (l .q - 1) (omega (arith, l .inv .within, playing-count (start .pre))) (c .before .request-at .result)
+          (c .before .request-at .ensures),
+    )
 
 array-read-index : tie.Need-array-read-index Inv-loop μ-loop
 array-read-index c =
-    let read = c .before .request-at in
-    let l = c .before .before .before .loop in
-    let start = c .before .before .before .before .before in
-    omega (arith, few-heads (start .pre) (l .q - 1) (omega (arith, l .inv .within, start .pre .count)) (read .result) (read .ensures))
+    let tested = c .before .before in
+    let l = tested .before .loop in
+    let start = tested .before .before .before in
+    omega (
+      arith,
+      few-heads (start .pre) (l .q - 1) (omega (arith, l .inv .within, playing-count (start .pre))) (c .before .request-at .result)
+          (c .before .request-at .ensures),
+    )
 
 cast-index : tie.Need-cast-index Inv-loop μ-loop
-cast-index c = search needs
+cast-index c =
+    let tested = c .before .before in
+    let l = tested .before .loop in
+    let start = tested .before .before .before in
+    omega (arith, l .inv .within, few-requests (start .pre), playing-count (start .pre))
 
 mul-index-2 : tie.Need-mul-index-2 Inv-loop μ-loop
 mul-index-2 c =
-    let l = c .before .before .before .loop in
-    let start = c .before .before .before .before .before in
-    omega (arith, l .inv .within, few-requests (start .pre), start .pre .count)
+    let tested = c .before .before in
+    let l = tested .before .loop in
+    let start = tested .before .before .before in
+    omega (arith, l .inv .within, few-requests (start .pre), playing-count (start .pre))
 
 array-write-index : tie.Need-array-write-index Inv-loop μ-loop
 array-write-index c =
-    let l = c .before .before .before .loop in
-    let start = c .before .before .before .before .before in
-    omega (arith, l .inv .within, few-requests (start .pre), start .pre .count)
+    let tested = c .before .before in
+    let l = tested .before .loop in
+    let start = tested .before .before .before in
+    omega (arith, l .inv .within, few-requests (start .pre), playing-count (start .pre))
 
 cast-firsts-2 : tie.Need-cast-firsts-2 Inv-loop μ-loop
 cast-firsts-2 c =
-    let l = c .before .before .before .loop in
-    let start = c .before .before .before .before .before in
-    omega (arith, l .inv .within, few-requests (start .pre), start .pre .count)
+    let tested = c .before .before in
+    let l = tested .before .loop in
+    let start = tested .before .before .before in
+    omega (arith, l .inv .within, few-requests (start .pre), playing-count (start .pre))
 
 mul-firsts : tie.Need-mul-firsts Inv-loop μ-loop
 mul-firsts c =
-    let read = c .before .request-at in
-    let l = c .before .before .before .loop in
-    let start = c .before .before .before .before .before in
-    omega (arith, few-heads (start .pre) (l .q - 1) (omega (arith, l .inv .within, start .pre .count)) (read .result) (read .ensures))
+    let tested = c .before .before in
+    let l = tested .before .loop in
+    let start = tested .before .before .before in
+    omega (
+      arith,
+      few-heads (start .pre) (l .q - 1) (omega (arith, l .inv .within, playing-count (start .pre))) (c .before .request-at .result)
+          (c .before .request-at .ensures),
+    )
 
 array-write-firsts : tie.Need-array-write-firsts Inv-loop μ-loop
 array-write-firsts c =
-    let read = c .before .request-at in
-    let l = c .before .before .before .loop in
-    let start = c .before .before .before .before .before in
-    omega (arith, few-heads (start .pre) (l .q - 1) (omega (arith, l .inv .within, start .pre .count)) (read .result) (read .ensures))
+    let tested = c .before .before in
+    let l = tested .before .loop in
+    let start = tested .before .before .before in
+    omega (
+      arith,
+      few-heads (start .pre) (l .q - 1) (omega (arith, l .inv .within, playing-count (start .pre))) (c .before .request-at .result)
+          (c .before .request-at .ensures),
+    )
 
 loop-less : tie.Need-loop-less Inv-loop μ-loop
 loop-less c = search needs
 
 loop-again : tie.Need-loop-again Inv-loop μ-loop
 loop-again c =
-    let read = c .before .request-at in
-    let l = c .before .before .before .loop in
-    let start = c .before .before .before .before .before in
-    let few = few-heads (start .pre) (l .q - 1) (omega (arith, l .inv .within, start .pre .count)) (read .result) (read .ensures) in
-    indexed-on (l .inv) (l .q - 1) (read .result .head) (omega arith) (ap (λ k. k .head) (sym (read .ensures noRequest))) few
-    (omega (arith, l .inv .within, few-requests (start .pre), start .pre .count))
+    let tested = c .before .before in
+    let l = tested .before .loop in
+    let start = tested .before .before .before in
+    indexed-on (l .inv) (l .q - 1) (c .before .request-at .result .head) (omega arith)
+    (ap (λ k. k .head) (sym (c .before .request-at .ensures noRequest)))
+    (few-heads (start .pre) (l .q - 1) (omega (arith, l .inv .within, playing-count (start .pre))) (c .before .request-at .result)
+    (c .before .request-at .ensures)) (omega (arith, l .inv .within, few-requests (start .pre), playing-count (start .pre)))
 
 returns : tie.Need-returns Inv-loop μ-loop
 returns c = indexed-all (omega arith) (c .before .loop .inv)

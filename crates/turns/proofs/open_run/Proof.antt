@@ -1,24 +1,27 @@
 -- `turns::open_run`: the next run where the one under way has no grant left.
 use native.Mathlib.Omega.{arith}
 use borrow.Author.Needs.{needs}
-use Rattle.turns.specs.Turns.{runsIn, noRun}
+use Rattle.stepper.proofs.Seek.{playing-count}
+use Rattle.turns.specs.Turns.{runsOf, noRun}
 use Rattle.turns.proofs.Runs.{runs-few, opens, stays-open}
 use Rattle.turns.proofs.open_run.Statement.{statement}
 use Rattle.turns.proofs.open_run.Tie as tie
 
 run-at-requires : tie.Need-run-at-requires
-run-at-requires c κs = let p = c .before .before .before .pre in (p .0 .accepted, (p .0 .count, p .1 .there (c .if1 .taken)))
+run-at-requires c κs = let p = c .before .before .before .pre in (p .0 .accepted, (playing-count (p .0), p .1 .there (c .if1 .taken)))
 
 add-t6 : tie.Need-add-t6
-add-t6 c = let p = c .before .before .before .before .before .pre in omega (arith, p .1 .there (c .before .before .if1 .taken), runs-few (p .0))
+add-t6 c =
+    let p = c .before .before .before .before .before .pre in omega (arith, p .1 .there (c .before .before .if1 .taken), runs-few (p .0))
 
 returns : tie.Need-returns
 returns c =
     let k = c .before .before .before .before .before .before .before in
-    opens (runsIn (k .args .file .now)) (k .args .cursor) (c .before .before .before .run-at .result) (c .before .before .before .before .if1 .taken) (c .before .before .before .run-at .ensures noRun)
+    opens (runsOf (k .args .file .now)) (k .args .cursor) (c .before .before .before .run-at .result)
+    (c .before .before .before .before .if1 .taken) (c .before .before .before .run-at .ensures noRun)
 
 returns-2 : tie.Need-returns-2
-returns-2 c = let k = c .before .before .before in stays-open (runsIn (k .args .file .now)) (k .args .cursor) (c .if1 .left)
+returns-2 c = let k = c .before .before .before in stays-open (runsOf (k .args .file .now)) (k .args .cursor) (c .if1 .left)
 
 pub open-run-spec : {M : Type 1} → statement M
 open-run-spec =

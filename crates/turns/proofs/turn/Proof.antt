@@ -1,7 +1,7 @@
 -- `turns::turn`: the cursor is opened, the grant is the schedule's next.
 use mathlib.Core.Path.{refl}
 use native.Mathlib.Omega.{arith}
-use Rattle.turns.proofs.OneGrant.{turn-openable, turn-number, turn-left, turn-ready, turn-turned}
+use Rattle.turns.proofs.OneGrant.{turn-openable, turn-number, turn-left, turn-grantable, turn-turned}
 use borrow.Author.Needs.{needs}
 use Rattle.turns.proofs.turn.Statement.{statement}
 use Rattle.turns.proofs.turn.Tie as tie
@@ -16,7 +16,7 @@ grant-requires : tie.Need-grant-requires
 grant-requires c κs =
     let opened = c .before .before .before .before .before in
     let start = opened .before .before .before .before .before .before in
-    (turn-ready (start .pre .0) (opened .open-run .result) (opened .open-run .ensures), start .pre .1)
+    (turn-grantable (start .pre .0) (opened .open-run .result) (opened .open-run .ensures), start .pre .1)
 
 taken-requires : tie.Need-taken-requires
 taken-requires c κs =
@@ -39,7 +39,8 @@ returns c =
     let opened = granted .before .before .before .before .before .before in
     let start = opened .before .before .before .before .before .before in
     λ lent standing. let g = granted .grant .ensures _ lent standing in
-    turn-turned (start .pre .0) (opened .open-run .result) (opened .open-run .ensures) _ _ lent refl (c .taken .ensures) (g .buffers) (g .done)
+    turn-turned (start .pre .0) (opened .open-run .result) (opened .open-run .ensures) _ _ lent refl (c .taken .ensures) (g .buffers)
+    (g .done)
 
 pub turn-spec : {M : Type 1} → statement M
 turn-spec =

@@ -33,7 +33,7 @@ use Rattle.job.specs.declared.Tally.{Tally}
 use Rattle.job.specs.declared.Played.{Played}
 use Rattle.reader.specs.declared.Checked.{Checked}
 use Rattle.player.proofs.Along.{Entry, Along}
-use Rattle.lent.proofs.Ended.{Ended}
+use Rattle.lent.proofs.Ended.{LentEnded}
 use Rattle.lent.proofs.Walks.{Setting, Lent, at-name, row, tally-struct, played-struct}
 use Rattle.lent.proofs.grouping_play_lent as f
 use Rattle.lent.proofs.grouping_play_lent.Code.Mir as mir-of
@@ -138,7 +138,7 @@ module _ (w : Setting) (P : Parameters) where
       ∷ ‵ (flft (P .tally .lifetime) (P .tally .share)) ∷ Buffers w P b
 
   module _ (b : Lists) (h : Tally) (same : SameLengths b (lists₀ P)) (r : Played) (v : Val)
-      (e : Ended (entry P) (P .tally .entry) h (b .table) (b .report) (b .linearization) r) where
+      (e : LentEnded (entry P) (P .tally .entry) h (b .table) (b .report) (b .linearization) r) where
     exits : ent 𝓤 (⋆ 𝓤 H A (AtExit b h r v)) (Post v)
     exits =
         qed W (AtExit b h r v) ∵

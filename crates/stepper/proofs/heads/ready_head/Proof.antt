@@ -1,7 +1,9 @@
 -- `stepper::heads::ready_head`: a resting head begins its next request.
 use mathlib.Core.Path.{sym, _∙_}
 use Rattle.rules.specs.State.{noRequest}
+use native.Mathlib.Omega.{arith}
 use borrow.Author.Needs.{needs}
+use Rattle.stepper.proofs.Seek.{playing-count}
 use Rattle.stepper.proofs.heads.ready_head.Statement.{statement}
 use Rattle.stepper.proofs.heads.ready_head.Tie as tie
 
@@ -12,7 +14,9 @@ cast-request-at : tie.Need-cast-request-at
 cast-request-at c = search needs
 
 request-at-requires : tie.Need-request-at-requires
-request-at-requires c κs = search needs
+request-at-requires c κs =
+    let p = c .before .before .before .pre in
+    (p .0 .accepted, omega (arith, p .1, playing-count (p .0)))
 
 begin-requires : tie.Need-begin-requires
 begin-requires c κs = search needs

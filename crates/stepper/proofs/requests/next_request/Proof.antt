@@ -5,21 +5,21 @@ use native.Mathlib.Omega.{arith}
 use Rattle.rules.specs.State.{noRequest}
 use Prim.Native.Nat.{_-_}
 use Rattle.stepper.specs.Shown.{requestsIn}
-use Rattle.stepper.proofs.Seek.{Sought, sought-here, sought-on, sought-none}
+use Rattle.stepper.proofs.Seek.{Sought, sought-here, sought-on, sought-none, playing-count}
 use Rattle.stepper.proofs.requests.next_request.Statement.{statement}
 use Rattle.stepper.proofs.requests.next_request.Tie as tie
 
 abbrev Inv-loop : tie.InvT-loop
-Inv-loop file requests h from q₀ q = Sought (requestsIn file) h from q
+Inv-loop file h from requests q₀ q = Sought (requestsIn file) h from q
 
 abbrev μ-loop : tie.MeasureT-loop
-μ-loop file requests h from q₀ q = requests - q
+μ-loop file h from requests q₀ q = requests - q
 
 loop-holds : tie.Need-loop-holds Inv-loop μ-loop
-loop-holds c = record { within = omega (arith, c .before .pre .1, c .before .pre .0 .count); same = refl }
+loop-holds c = record { within = omega (arith, c .before .pre .1, playing-count (c .before .pre .0)); same = refl }
 
 request-at-requires : tie.Need-request-at-requires Inv-loop μ-loop
-request-at-requires c κs = let p = c .before .before .before .pre .0 in (p .accepted, omega (arith, p .count))
+request-at-requires c κs = let p = c .before .before .before .pre .0 in (p .accepted, omega (arith, playing-count p))
 
 cast-if1 : tie.Need-cast-if1 Inv-loop μ-loop
 cast-if1 c = search needs
@@ -28,7 +28,8 @@ returns : tie.Need-returns Inv-loop μ-loop
 returns c =
     let l = c .before .before .before .before .loop in
     let p = c .before .before .before .before .before .before .pre .0 in
-    sought-here (l .inv) (omega (arith, p .count)) (ap (λ r. r .head) (sym (c .before .before .request-at .ensures noRequest)) ∙ c .if1 .taken)
+    sought-here (l .inv) (omega (arith, playing-count p))
+    (ap (λ r. r .head) (sym (c .before .before .request-at .ensures noRequest)) ∙ c .if1 .taken)
 
 add-q : tie.Need-add-q Inv-loop μ-loop
 add-q c = omega arith
@@ -40,10 +41,12 @@ loop-again : tie.Need-loop-again Inv-loop μ-loop
 loop-again c =
     let l = c .before .before .before .before .loop in
     let p = c .before .before .before .before .before .before .pre .0 in
-    sought-on (l .inv) (omega (arith, p .count)) (λ e. c .if1 .left (ap (λ r. r .head) (c .before .before .request-at .ensures noRequest) ∙ e))
+    sought-on (l .inv) (omega (arith, playing-count p))
+    (λ e. c .if1 .left (ap (λ r. r .head) (c .before .before .request-at .ensures noRequest) ∙ e))
 
 returns-2 : tie.Need-returns-2 Inv-loop μ-loop
-returns-2 c = let p = c .before .before .before .pre .0 in p .count ∙ sought-none (c .before .loop .inv) (omega (arith, p .count))
+returns-2 c =
+    let p = c .before .before .before .pre .0 in playing-count p ∙ sought-none (c .before .loop .inv) (omega (arith, playing-count p))
 
 pub next-request-spec : {M : Type 1} → statement M
 next-request-spec =
