@@ -1,9 +1,9 @@
 -- The invariant of the loop over the grants, on lent buffers; and what the play ends with, refused or not.
 --
---   Entry     the file and the buffers as they were lent
---   PlayEnded what holds when the play returns
---   Lending   accepted: the parts that the job needs stand as the rules' run so far, the rest is as lent, and as long
---   Along     where the loop is, with that
+--   Entry       the file and the buffers as they were lent
+--   PlayEnded   what holds when the play returns
+--   Lending     accepted: the parts that the job needs stand as the rules' run so far, the rest is as lent, and as long
+--   Along       where the loop is, with that
 --
 -- Main laws: refused-end, the end of a refused play; lending-start; along-next and along-end.
 use mathlib.Core.Path.{_≡_, refl, sym, ap, _∙_, subst, subst₂}
@@ -34,7 +34,7 @@ use Rattle.turns.proofs.Counters.{small-addable}
 use Rattle.turns.proofs.Going.{Going, going-start, going-turnable, going-next, going-end}
 use Rattle.player.specs.declared.Plan.{Plan}
 use Rattle.player.specs.Player.{left, leftAt, refusedWith, cutOf, playedOf, Roomy}
-use Rattle.player.specs.Plan.{idlePlan, acceptedPlan, laidOf, Prepared, prepared, preparedOf}
+use Rattle.player.specs.Plan.{idlePlan, acceptedPlan, laidOf, prepared, preparedOf}
 use Rattle.player.specs.Plan.{TurnableOn, TurnedOn, TurnsOn, closedOf}
 use Rattle.player.specs.Demand.{LinearizedHere, LawfulHere}
 use Rattle.player.proofs.Refusals.{refusal, accepted-roomy, refused-left, accepted-left}

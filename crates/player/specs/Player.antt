@@ -7,7 +7,6 @@
 --   admissionOf         what is known before anything is written
 --   Left, left ..       the buffers and the answer, and the same by its parts
 --   playedOf            what a play leaves
-use mathlib.Core.Path.{_≡_}
 use mathlib.Core.Bool.{cond}
 use mathlib.Core.List.{List, _++_}
 use Prim.Native.Nat.{ℕ, _*_, _≤_}

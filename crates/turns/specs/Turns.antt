@@ -1,6 +1,6 @@
 -- The grants of a file: its cursor, one turn, and the tally.
 --
---   Addable t               a tally that can be added to
+--   Addable t             a tally that can be added to
 --   countedOf t d mask    the tally t after a grant that was d; the fourth number is the mask's count of ones
 --   runsOf file           the runs of a file
 --   scheduleIn file       the grants of a file

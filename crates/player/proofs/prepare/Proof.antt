@@ -1,8 +1,6 @@
 -- `player::prepare`: refused, nothing is written; else the start.
 use native.Mathlib.Omega.{arith}
 use borrow.Author.Needs.{needs}
-use Prim.Native.Nat.{_*_, _≤_}
-use mathlib.Core.Path.{ap}
 use lib.ListN.{length}
 use Rattle.player.proofs.Refusals.{admission-roomy}
 use Rattle.player.proofs.Prepared.{nodes-are, rows-are, prepared-refused, prepared-accepted}
