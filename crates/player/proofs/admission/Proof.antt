@@ -86,20 +86,5 @@ returns-5 c =
 
 pub admission-spec : {M : Type 1} → statement M
 admission-spec =
-    tie.close
-    (tie.spec
-    check-requires
-    refuse-requires
-    returns
-    cast-if2
-    refuse-requires-2
-    returns-2
-    cast-if3
-    mul-if3
-    refuse-requires-3
-    returns-3
-    cast-if4
-    mul-if4
-    refuse-requires-4
-    returns-4
-    returns-5)
+    tie.close (tie.spec check-requires refuse-requires returns cast-if2 refuse-requires-2 returns-2 cast-if3 mul-if3
+    refuse-requires-3 returns-3 cast-if4 mul-if4 refuse-requires-4 returns-4 returns-5)

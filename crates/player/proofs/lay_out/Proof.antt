@@ -80,21 +80,7 @@ returns c =
 
 pub lay-out-spec : {M : Type 1} → statement M
 lay-out-spec =
-    tie.close
-    (tie.spec
-    cast-nodes
-    cast-rows
-    mul-rows
-    slice-relend-prefix-fresh-table
-    slice-aggregate-fresh-table
-    fresh-table-requires
-    slice-relend-prefix-clear-report
-    slice-aggregate-clear-report
-    clear-report-requires
-    first-requests-requires
-    resting-heads-requires
-    first-mask-requires
-    first-progress-requires
-    same-length
-    same-length-2
-    returns)
+    tie.close (tie.spec cast-nodes cast-rows mul-rows slice-relend-prefix-fresh-table slice-aggregate-fresh-table
+    fresh-table-requires slice-relend-prefix-clear-report slice-aggregate-clear-report clear-report-requires
+    first-requests-requires resting-heads-requires first-mask-requires first-progress-requires same-length
+    same-length-2 returns)

@@ -166,26 +166,6 @@ returns-2 c =
 
 pub play-spec : {M : Type 1} → statement M
 play-spec =
-    tie.close
-    (tie.spec
-    Inv-loop
-    μ-loop
-    prepare-requires
-    refused-requires
-    same-length
-    same-length-2
-    same-length-3
-    returns
-    successors-requires
-    first-tally-requires
-    loop-holds
-    slice-aggregate-turn-on
-    turn-on-requires
-    counted-requires
-    loop-less
-    loop-again
-    closed-requires
-    same-length-4
-    same-length-5
-    same-length-6
-    returns-2)
+    tie.close (tie.spec Inv-loop μ-loop prepare-requires refused-requires same-length same-length-2 same-length-3
+    returns successors-requires first-tally-requires loop-holds slice-aggregate-turn-on turn-on-requires
+    counted-requires loop-less loop-again closed-requires same-length-4 same-length-5 same-length-6 returns-2)

@@ -54,12 +54,5 @@ returns-2 c =
 
 pub prepare-spec : {M : Type 1} → statement M
 prepare-spec =
-    tie.close
-    (tie.spec
-    admission-requires
-    turned-down-requires
-    returns
-    lay-out-requires
-    same-length
-    same-length-2
+    tie.close (tie.spec admission-requires turned-down-requires returns lay-out-requires same-length same-length-2
     returns-2)

@@ -55,17 +55,5 @@ returns c =
 
 pub turn-on-spec : {M : Type 1} → statement M
 turn-on-spec =
-    tie.close
-    (tie.spec
-    cast-nodes
-    cast-rows
-    mul-rows
-    slice-relend-prefix-turn
-    slice-aggregate-turn
-    slice-relend-prefix-turn-2
-    slice-aggregate-turn-2
-    turn-requires
-    same-length
-    same-length-2
-    same-length-3
-    returns)
+    tie.close (tie.spec cast-nodes cast-rows mul-rows slice-relend-prefix-turn slice-aggregate-turn
+    slice-relend-prefix-turn-2 slice-aggregate-turn-2 turn-requires same-length same-length-2 same-length-3 returns)

@@ -46,15 +46,5 @@ returns c =
 
 pub clear-report-spec : {M : Type 1} → statement M
 clear-report-spec =
-    tie.close
-    (tie.spec
-    Inv-loop
-    μ-loop
-    loop-holds
-    mul-report
-    slice-write-report
-    add-i
-    loop-less
-    loop-again
-    same-length
-    returns)
+    tie.close (tie.spec Inv-loop μ-loop loop-holds mul-report slice-write-report add-i loop-less loop-again
+    same-length returns)

@@ -50,16 +50,5 @@ returns c =
 
 pub first-mask-spec : {M : Type 1} → statement M
 first-mask-spec =
-    tie.close
-    (tie.spec
-    Inv-loop
-    μ-loop
-    loop-holds
-    sub-h
-    mul-pushed
-    array-read-pushed
-    cast-pushed
-    pushed-requires
-    loop-less
-    loop-again
-    returns)
+    tie.close (tie.spec Inv-loop μ-loop loop-holds sub-h mul-pushed array-read-pushed cast-pushed pushed-requires
+    loop-less loop-again returns)

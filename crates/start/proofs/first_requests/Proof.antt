@@ -60,17 +60,5 @@ returns c =
 
 pub first-requests-spec : {M : Type 1} → statement M
 first-requests-spec =
-    tie.close
-    (tie.spec
-    Inv-loop
-    μ-loop
-    loop-holds
-    cast-next-request
-    next-request-requires
-    cast-firsts
-    mul-firsts
-    array-write-firsts
-    add-h
-    loop-less
-    loop-again
-    returns)
+    tie.close (tie.spec Inv-loop μ-loop loop-holds cast-next-request next-request-requires cast-firsts mul-firsts
+    array-write-firsts add-h loop-less loop-again returns)

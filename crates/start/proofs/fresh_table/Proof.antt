@@ -56,17 +56,5 @@ returns c =
 
 pub fresh-table-spec : {M : Type 1} → statement M
 fresh-table-spec =
-    tie.close
-    (tie.spec
-    Inv-loop
-    μ-loop
-    loop-holds
-    cast-t6
-    encoded-requires
-    mul-table
-    slice-write-table
-    add-i
-    loop-less
-    loop-again
-    same-length
-    returns)
+    tie.close (tie.spec Inv-loop μ-loop loop-holds cast-t6 encoded-requires mul-table slice-write-table add-i
+    loop-less loop-again same-length returns)

@@ -63,18 +63,5 @@ returns c =
 
 pub resting-heads-spec : {M : Type 1} → statement M
 resting-heads-spec =
-    tie.close
-    (tie.spec
-    Inv-loop
-    μ-loop
-    resting-task-requires
-    loop-holds
-    mul-resting-task
-    array-read-resting-task
-    resting-task-requires-2
-    mul-heads
-    array-set-from-heads
-    add-h
-    loop-less
-    loop-again
-    returns)
+    tie.close (tie.spec Inv-loop μ-loop resting-task-requires loop-holds mul-resting-task array-read-resting-task
+    resting-task-requires-2 mul-heads array-set-from-heads add-h loop-less loop-again returns)

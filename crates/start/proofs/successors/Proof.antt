@@ -123,23 +123,6 @@ returns c = indexed-all (omega arith) (c .before .loop .inv)
 
 pub successors-spec : {M : Type 1} → statement M
 successors-spec =
-    tie.close
-    (tie.spec
-    Inv-loop
-    μ-loop
-    cast-firsts
-    loop-holds
-    sub-q
-    request-at-requires
-    cast-h
-    mul-index
-    array-read-index
-    cast-index
-    mul-index-2
-    array-write-index
-    cast-firsts-2
-    mul-firsts
-    array-write-firsts
-    loop-less
-    loop-again
-    returns)
+    tie.close (tie.spec Inv-loop μ-loop cast-firsts loop-holds sub-q request-at-requires cast-h mul-index
+    array-read-index cast-index mul-index-2 array-write-index cast-firsts-2 mul-firsts array-write-firsts loop-less
+    loop-again returns)

@@ -36,12 +36,4 @@ returns-2 c =
 
 pub grant-spec : {M : Type 1} → statement M
 grant-spec =
-    tie.close
-    (tie.spec
-    is-set-requires
-    serve-requires
-    same-length
-    same-length-2
-    same-length-3
-    returns
-    returns-2)
+    tie.close (tie.spec is-set-requires serve-requires same-length same-length-2 same-length-3 returns returns-2)

@@ -116,20 +116,6 @@ returns c =
 
 pub serve-spec : {M : Type 1} → statement M
 serve-spec =
-    tie.close
-    (tie.spec
-    mul-ready-head
-    array-copy-out-ready-head
-    ready-head-requires
-    stepped-requires
-    settled-head-requires
-    mul-heads
-    array-set-from-heads
-    charge-row-requires
-    cast-enter
-    enter-requires
-    work-left-requires
-    same-length
-    same-length-2
-    same-length-3
-    returns)
+    tie.close (tie.spec mul-ready-head array-copy-out-ready-head ready-head-requires stepped-requires
+    settled-head-requires mul-heads array-set-from-heads charge-row-requires cast-enter enter-requires
+    work-left-requires same-length same-length-2 same-length-3 returns)

@@ -44,13 +44,5 @@ returns c =
 
 pub turn-spec : {M : Type 1} → statement M
 turn-spec =
-    tie.close
-    (tie.spec
-    open-run-requires
-    add-number
-    grant-requires
-    taken-requires
-    same-length
-    same-length-2
-    same-length-3
-    returns)
+    tie.close (tie.spec open-run-requires add-number grant-requires taken-requires same-length same-length-2
+    same-length-3 returns)

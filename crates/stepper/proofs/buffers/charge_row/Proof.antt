@@ -85,31 +85,7 @@ returns c = rw (c .charged .ensures)
 
 pub charge-row-spec : {M : Type 1} → statement M
 charge-row-spec =
-    tie.close
-    (tie.spec
-    mul-at
-    mul-t8
-    slice-read-t10
-    add-t11
-    mul-t12
-    slice-read-t14
-    add-t15
-    mul-t16
-    slice-read-t18
-    add-t19
-    mul-t20
-    slice-read-t22
-    charged-requires
-    mul-report
-    slice-write-report
-    add-report
-    mul-report-2
-    slice-write-report-2
-    add-report-2
-    mul-report-3
-    slice-write-report-3
-    add-report-3
-    mul-report-4
-    slice-write-report-4
-    same-length
-    returns)
+    tie.close (tie.spec mul-at mul-t8 slice-read-t10 add-t11 mul-t12 slice-read-t14 add-t15 mul-t16 slice-read-t18
+    add-t19 mul-t20 slice-read-t22 charged-requires mul-report slice-write-report add-report mul-report-2
+    slice-write-report-2 add-report-2 mul-report-3 slice-write-report-3 add-report-3 mul-report-4 slice-write-report-4
+    same-length returns)

@@ -31,11 +31,4 @@ returns-2 c = search needs
 
 pub ready-head-spec : {M : Type 1} → statement M
 ready-head-spec =
-    tie.close
-    (tie.spec
-    is-resting-requires
-    cast-request-at
-    request-at-requires
-    begin-requires
-    returns
-    returns-2)
+    tie.close (tie.spec is-resting-requires cast-request-at request-at-requires begin-requires returns returns-2)

@@ -50,15 +50,5 @@ returns-2 c =
 
 pub next-request-spec : {M : Type 1} → statement M
 next-request-spec =
-    tie.close
-    (tie.spec
-    Inv-loop
-    μ-loop
-    loop-holds
-    request-at-requires
-    cast-if1
-    returns
-    add-q
-    loop-less
-    loop-again
+    tie.close (tie.spec Inv-loop μ-loop loop-holds request-at-requires cast-if1 returns add-q loop-less loop-again
     returns-2)

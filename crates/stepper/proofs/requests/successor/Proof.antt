@@ -33,12 +33,5 @@ returns-2 c = search needs
 
 pub successor-spec : {M : Type 1} → statement M
 successor-spec =
-    tie.close
-    (tie.spec
-    mul-result
-    shared-slice-read-result
-    returns
-    add-next-request
-    next-request-requires
-    cast-result
+    tie.close (tie.spec mul-result shared-slice-read-result returns add-next-request next-request-requires cast-result
     returns-2)
