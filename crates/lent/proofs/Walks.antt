@@ -27,7 +27,8 @@ use prog.Routine.{Routine}
 use prog.Wp.{Heap}
 use ghost.Atoms.{Atoms, sem}
 use contract.Monad.{Fun, fact}
-use types.Kit.{Given, Item, Goal, Seq, Step, Soaks, ‵, raw, _⊛_, some, later, _$_, _∵_, !, qed, move, drop, use1, split, pick, check, await, updating, now as at-once, show, done}
+use types.Kit.{Given, Item, Goal, Seq, Step, Soaks, ‵, raw, _⊛_, some, later, _$_, _∵_, !, qed, move, drop, use1, split}
+use types.Kit.{pick, check, await, updating, now as at-once, show, done}
 use types.SemTy.{Body}
 use denote.RattleType.{RattleType}
 use denote.Laws.{Is, shows}
@@ -128,18 +129,21 @@ module _ {M : Type 1} {𝓤 : URA M} {H : Heap 𝓤} {A : Atoms 𝓤} (W : Given
   typed x {v} is = LL.lawful (s .type) (s .laws) 𝓤 H A W .typed x (v ∷ []) is .0
 
 module _ {M : Type 1} {𝓤 : URA M} {H : Heap 𝓤} {A : Atoms 𝓤} {K : Type 0} {W : Given 𝓤 H A} {Γ : List (Item 𝓤)} {G : Goal 𝓤 H} where
-  pub sees : K → (s : Carried) (x : s .type .D) (vs : List Val) → (Is (row s) x vs → Seq K W (‵ (row s .own x vs) ∷ Γ) G) → Seq K W (‵ (row s .own x vs) ∷ Γ) G
+  pub sees : K → (s : Carried) (x : s .type .D) (vs : List Val) → (Is (row s) x vs → Seq K W (‵ (row s .own x vs) ∷ Γ) G)
+    → Seq K W (‵ (row s .own x vs) ∷ Γ) G
   sees t s = peeks t (row s) (Is (row s)) (shows 𝓤 H A (row s))
 
   pub makes : K → (s : Carried) (x : s .type .D) (vs : List Val) → Is (row s) x vs → Step K W (‵ (row s .own x vs) ∷ Γ) G Γ G
   makes t s = owned t (row s) (Is (row s)) (LL.makes (s .type) (s .plain) 𝓤 H A)
 
   pub opens-value : K → Soaks G → (s : Carried) (x : s .type .D) {κ : Lft} {q : Share} {γ : GName} (b o : ℕ)
-      → (IsValue s x → Seq K W (‵ (cellAt fullShare (row s .mir) (value s x ∷ []) b o) ∷ ‵ (row s .own x (value s x ∷ [])) ∷ ‵ (fobor κ q (Body (mem (row s)) b o γ)) ∷ ‵ (fobs γ (row s .coded .code x)) ∷ ‵ (fauth γ (row s .coded .code x)) ∷ Γ) G)
+      → (IsValue s x → Seq K W (‵ (cellAt fullShare (row s .mir) (value s x ∷ []) b o) ∷ ‵ (row s .own x (value s x ∷ []))
+        ∷ ‵ (fobor κ q (Body (mem (row s)) b o γ)) ∷ ‵ (fobs γ (row s .coded .code x)) ∷ ‵ (fauth γ (row s .coded .code x)) ∷ Γ) G)
       → Seq K W (‵ (fobs γ (row s .coded .code x)) ∷ ‵ (fbor κ (Body (mem (row s)) b o γ)) ∷ ‵ (flft κ q) ∷ Γ) G
   opens-value t soaks s x b o k =
       opens t soaks (row s) {h = x} b o (λ vs.
-      spelt t (row s) (Is (row s)) (shows 𝓤 H A (row s)) (LL.vals (s .type) (s .laws)) (LL.tells (s .type) (s .laws)) fullShare x vs b o $ move t (1 ∷ []) $
+      spelt t (row s) (Is (row s)) (shows 𝓤 H A (row s)) (LL.vals (s .type) (s .laws))
+        (LL.tells (s .type) (s .laws)) fullShare x vs b o $ move t (1 ∷ []) $
       peeks t (row s) (Is (row s)) (shows 𝓤 H A (row s)) x (value s x ∷ []) (λ was. move t (1 ∷ 0 ∷ []) $ k was))
 
 module _ (w : Setting) (s : Carried) (φ : s .type .D → Type 0) (v : Val) where
@@ -151,5 +155,6 @@ module _ (w : Setting) (s : Carried) (φ : s .type .D → Type 0) (v : Val) wher
   pub told-value : (E : s .type .D → SProp 𝓤) → ((r : s .type .D) → ent 𝓤 (E r) (fact 𝓤 (φ r)))
       → ent 𝓤 (H .⇛ (ex 𝓤 (λ (r : s .type .D). sep 𝓤 (sep 𝓤 (emp 𝓤) (sem 𝓤 H A (row s .own r (v ∷ [])))) (E r)))) (H .⇛ (ex 𝓤 Returned))
   told-value E clause =
-      qed W (later (some (λ (r : s .type .D). (‵ ftrue ⊛ ‵ (row s .own r (v ∷ []))) ⊛ raw (E r))) ∷ []) ∵ updating ! $ await ! tt $ pick ! (λ r. split ! $ move ! (1 ∷ []) $
+      qed W (later (some (λ (r : s .type .D). (‵ ftrue ⊛ ‵ (row s .own r (v ∷ []))) ⊛ raw (E r))) ∷ []) ∵ updating ! $
+        await ! tt $ pick ! (λ r. split ! $ move ! (1 ∷ []) $
       use1 W (raw (fact 𝓤 (φ r))) (clause r) $ heard ! (φ r) (λ e. split ! $ drop ! $ at-once ! $ show ! Returned r $ check ! e $ done !))

@@ -41,7 +41,8 @@ use Rattle.stepper.proofs.Raisable.{stage-raisable}
 use Rattle.stepper.proofs.Reached.{Reached}
 
 -- What the step of a head with work left is.
-pub step-served : (qs : List Request) (S : State) (h : ℕ) → hasWork qs (headAt S h) ≡ true → step qs S h ≡ served qs S h (ready qs (headAt S h))
+pub step-served : (qs : List Request) (S : State) (h : ℕ) → hasWork qs (headAt S h) ≡ true
+  → step qs S h ≡ served qs S h (ready qs (headAt S h))
 unfolding step
 step-served qs S h t = rw t refl
 
@@ -100,8 +101,10 @@ module _ {qs : List Request} {n : ℕ} {b : Buffers} {number : ℕ} {S : State} 
   module _ (moved : Advanced) (table′ report′ linearization′ : List ℕ) (entries′ mask′ : ℕ) (next : Head)
       (is-moved : moved ≡ advanceOf head (seen (map decode (b .table)) (accessOf head)) number)
       (is-table : table′ ≡ map encode (touched (map decode (b .table)) (accessOf head)))
-      (is-report : report′ ≡ stored (b .report) (4 * head .task .request) (charge (rowIn (b .report) (4 * head .task .request)) number (moved .event .answer)))
-      (is-linearization : linearization′ ≡ cond (eqb (moved .event .point) 0) (b .linearization) (inserted (b .linearization) (b .entries) (moved .event .point) (head .task .request)))
+      (is-report : report′ ≡ stored (b .report) (4 * head .task .request)
+        (charge (rowIn (b .report) (4 * head .task .request)) number (moved .event .answer)))
+      (is-linearization : linearization′ ≡ cond (eqb (moved .event .point) 0) (b .linearization)
+        (inserted (b .linearization) (b .entries) (moved .event .point) (head .task .request)))
       (is-entries : entries′ ≡ cond (eqb (moved .event .point) 0) (b .entries) (b .entries + 1))
       (is-next : next ≡ settled qs h moved)
       (is-mask : mask′ ≡ cond (ltb (next .task .request) (length qs)) (b .mask) (b .mask - 2 ^ h)) where
@@ -114,7 +117,8 @@ module _ {qs : List Request} {n : ℕ} {b : Buffers} {number : ℕ} {S : State} 
     table-shown : table′ ≡ map encode (touched (S .table) (accessOf head))
     table-shown = is-table ∙ ap (λ t. map encode (touched t (accessOf head))) nodes-shown
 
-    report-shown : report′ ≡ flatRows (set (S .report) (head .task .request) (charge (getD (S .report) (head .task .request) noRow) (suc (S .now)) (advanced S head .event .answer)))
+    report-shown : report′ ≡ flatRows (set (S .report) (head .task .request)
+      (charge (getD (S .report) (head .task .request) noRow) (suc (S .now)) (advanced S head .event .answer)))
     report-shown =
         let old = getD (S .report) (head .task .request) noRow in
         let new = charge old (suc (S .now)) (advanced S head .event .answer) in
@@ -124,7 +128,8 @@ module _ {qs : List Request} {n : ℕ} {b : Buffers} {number : ℕ} {S : State} 
         is-report ∙ ap₂ (λ c r. stored (c .report) (4 * head .task .request) r) (here .shows) row
         ∙ stored-shown (S .report) (head .task .request) new (omega (arith, in-service .within, here .invariant .reports))
 
-    linearization-shown : linearization′ ≡ flat (entered (S .entries) (head .task .request) (advanced S head .event)) ++ drop (2 * length (entered (S .entries) (head .task .request) (advanced S head .event))) lent
+    linearization-shown : linearization′ ≡ flat (entered (S .entries) (head .task .request) (advanced S head .event))
+      ++ drop (2 * length (entered (S .entries) (head .task .request) (advanced S head .event))) lent
     linearization-shown =
         is-linearization
         ∙ ap₂ (λ m c. cond (eqb (m .event .point) 0) (c .linearization)
@@ -145,7 +150,8 @@ module _ {qs : List Request} {n : ℕ} {b : Buffers} {number : ℕ} {S : State} 
         (λ t. rw t (mask-left (hasWork qs) (resting 0) (S .heads) h (omega (arith, here .heads)) work (settled qs h (advanced S head)) t))
 
     pub served-shown : hasWork qs (headAt S h) ≡ true
-        → record { heads = set (b .heads) h next; table = table′; report = report′; linearization = linearization′; entries = entries′; mask = mask′ }
+        → record { heads = set (b .heads) h next; table = table′; report = report′; linearization = linearization′;
+          entries = entries′; mask = mask′ }
         ≡ shown qs (step qs S h) lent
     served-shown work =
         (λ i. record {

@@ -9,7 +9,8 @@ use lib.ListN.{getD, set}
 use Rattle.rules.specs.declared.Row.{Row}
 
 abbrev pub rowIn : List ℕ → ℕ → Row
-rowIn numbers at = record { answer = getD numbers at 0; first = getD numbers (at + 1) 0; last = getD numbers (at + 2) 0; used = getD numbers (at + 3) 0 }
+rowIn numbers at =
+    record { answer = getD numbers at 0; first = getD numbers (at + 1) 0; last = getD numbers (at + 2) 0; used = getD numbers (at + 3) 0 }
 
 abbrev pub stored : List ℕ → ℕ → Row → List ℕ
 stored numbers at row =

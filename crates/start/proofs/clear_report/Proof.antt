@@ -42,7 +42,8 @@ returns : tie.Need-returns Inv-loop μ-loop
 returns c =
     let l = c .before .loop in
     let n = length (now (c .before .before .args .report)) in
-    filled-all 0 (λ j. 0) n (l .report) (replicate n 0) (length-replicate n 0) (λ j h. getD-replicate n j 0 0 h) (l .i) (omega arith) (l .inv)
+    filled-all 0 (λ j. 0) n (l .report) (replicate n 0) (length-replicate n 0) (λ j h. getD-replicate n j 0 0 h) (l .i)
+      (omega arith) (l .inv)
 
 pub clear-report-spec : {M : Type 1} → statement M
 clear-report-spec =

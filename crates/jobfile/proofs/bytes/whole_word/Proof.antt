@@ -26,7 +26,9 @@ mul-result : tie.Need-mul-result
 mul-result c = let a = c .before .before .before .before .before .args in omega (arith, c .before .shared-slice-known3 .given (a .at + 1))
 
 add-result : tie.Need-add-result
-add-result c = let a = c .before .before .before .before .before .args in omega (arith, c .before .shared-slice-known3 .given (a .at + 1), c .before .before .before .shared-slice-known2 .given (a .at))
+add-result c =
+    let a = c .before .before .before .before .before .args in omega (arith, c .before .shared-slice-known3 .given (a .at + 1),
+      c .before .before .before .shared-slice-known2 .given (a .at))
 
 returns : tie.Need-returns
 returns c = simp (c .wide2 .ensures, c .before .before .wide .ensures, getD-drop, add-zero)

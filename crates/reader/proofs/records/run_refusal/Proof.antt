@@ -25,7 +25,8 @@ returns-2 : tie.Need-returns-2
 returns-2 c =
     let a = c .before .before .before .before .before .args in
     let t = drop (a .at) (now (a .file)) in
-    rw (run-numbers (a .heads) (a .before) (c .before .before .run-here .result) t (c .before .before .run-here .ensures) (rw length-drop (c .before .before .before .if1 .left)))
+    rw (run-numbers (a .heads) (a .before) (c .before .before .run-here .result) t (c .before .before .run-here .ensures)
+      (rw length-drop (c .before .before .before .if1 .left)))
     (simp (le-leb _ _ (c .if2 .taken)))
 
 returns-3 : tie.Need-returns-3
@@ -36,7 +37,8 @@ returns-3 c =
     let start = tested .before .before in
     let a = start .args in
     let t = drop (a .at) (now (a .file)) in
-    rw (run-numbers (a .heads) (a .before) (after-run-here .run-here .result) t (after-run-here .run-here .ensures) (rw length-drop (tested .if1 .left)))
+    rw (run-numbers (a .heads) (a .before) (after-run-here .run-here .result) t (after-run-here .run-here .ensures)
+      (rw length-drop (tested .if1 .left)))
     (simp (lt-leb _ _ (after-if2 .if2 .left), eq-eqb _ _ (c .if3 .taken)))
 
 does-extend-requires : tie.Need-does-extend-requires
@@ -52,7 +54,8 @@ returns-4 c =
     let start = tested .before .before in
     let a = start .args in
     let t = drop (a .at) (now (a .file)) in
-    rw (run-numbers (a .heads) (a .before) (after-run-here .run-here .result) t (after-run-here .run-here .ensures) (rw length-drop (tested .if1 .left)))
+    rw (run-numbers (a .heads) (a .before) (after-run-here .run-here .result) t (after-run-here .run-here .ensures)
+      (rw length-drop (tested .if1 .left)))
     (simp (lt-leb _ _ (after-if2 .if2 .left), ne-eqb _ _ (after-if3 .if3 .left), ← after-does-extend .does-extend .ensures, c .if4 .taken))
 
 returns-5 : tie.Need-returns-5
@@ -65,7 +68,8 @@ returns-5 c =
     let start = tested .before .before in
     let a = start .args in
     let t = drop (a .at) (now (a .file)) in
-    rw (run-numbers (a .heads) (a .before) (after-run-here .run-here .result) t (after-run-here .run-here .ensures) (rw length-drop (tested .if1 .left)))
+    rw (run-numbers (a .heads) (a .before) (after-run-here .run-here .result) t (after-run-here .run-here .ensures)
+      (rw length-drop (tested .if1 .left)))
     (simp (lt-leb _ _ (after-if2 .if2 .left), ne-eqb _ _ (after-if3 .if3 .left), ← after-does-extend .does-extend .ensures, c .if4 .left))
 
 pub run-refusal-spec : {M : Type 1} → statement M

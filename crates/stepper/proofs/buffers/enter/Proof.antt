@@ -17,7 +17,8 @@ same-length : tie.Need-same-length
 same-length c = search needs
 
 returns-2 : tie.Need-returns-2
-returns-2 c = let d = ne-eqb _ _ (c .before .before .before .before .if1 .left) in (simp d, simp (d, c .before .before .insert-entry .ensures))
+returns-2 c =
+    let d = ne-eqb _ _ (c .before .before .before .before .if1 .left) in (simp d, simp (d, c .before .before .insert-entry .ensures))
 
 pub enter-spec : {M : Type 1} → statement M
 enter-spec = tie.close (tie.spec returns insert-entry-requires add-result same-length returns-2)

@@ -27,7 +27,8 @@ wide-requires c κs = search needs
 returns : tie.Need-returns Inv-loop μ-loop
 returns c =
     let a = c .before .before .before .before .before .before .args in
-    serving-stops (a .heads) (now (a .grants)) (c .before .before .before .before .loop .i) (c .before .before .before .before .loop .inv) (omega arith) (omega arith)
+    serving-stops (a .heads) (now (a .grants)) (c .before .before .before .before .loop .i)
+      (c .before .before .before .before .loop .inv) (omega arith) (omega arith)
 
 add-i : tie.Need-add-i Inv-loop μ-loop
 add-i c = search needs
@@ -38,7 +39,8 @@ loop-less c = search needs
 loop-again : tie.Need-loop-again Inv-loop μ-loop
 loop-again c =
     let a = c .before .before .before .before .before .before .args in
-    serving-on (a .heads) (now (a .grants)) (c .before .before .before .before .loop .i) (c .before .before .before .before .loop .inv) (omega arith) (omega arith)
+    serving-on (a .heads) (now (a .grants)) (c .before .before .before .before .loop .i)
+      (c .before .before .before .before .loop .inv) (omega arith) (omega arith)
 
 returns-2 : tie.Need-returns-2 Inv-loop μ-loop
 returns-2 c =

@@ -33,7 +33,8 @@ returns c =
     let looped = after-fields-refusal .before .before .before in
     let start = looped .before .before in
     let a = start .args in
-    passing-stops (a .nodes) (a .heads) (now (a .requests)) (looped .loop .at) (looped .loop .inv) (after-fields-refusal .fields-refusal .result) (omega arith) (cc) (c .if1 .taken)
+    passing-stops (a .nodes) (a .heads) (now (a .requests)) (looped .loop .at) (looped .loop .inv)
+      (after-fields-refusal .fields-refusal .result) (omega arith) (cc) (c .if1 .taken)
 
 add-at : tie.Need-add-at Inv-loop μ-loop
 add-at c = search needs
@@ -47,7 +48,8 @@ loop-again c =
     let looped = after-fields-refusal .before .before .before in
     let start = looped .before .before in
     let a = start .args in
-    passing-on (a .nodes) (a .heads) (now (a .requests)) (looped .loop .at) (looped .loop .inv) (after-fields-refusal .fields-refusal .result) (omega arith) (cc) (omega arith)
+    passing-on (a .nodes) (a .heads) (now (a .requests)) (looped .loop .at) (looped .loop .inv)
+      (after-fields-refusal .fields-refusal .result) (omega arith) (cc) (omega arith)
 
 returns-2 : tie.Need-returns-2 Inv-loop μ-loop
 returns-2 c =

@@ -27,8 +27,10 @@ returns c =
     let after-put-word = after-put-word2 .before .before .before .before in
     let start = after-put-word .before .before .before in
     let a = start .args in
-    let two = stored-on (now (a .out)) _ _ (wordBytes jobMark) (wordBytes (a .nodes)) 0 2 (omega arith) (after-put-word .put-word .ensures) (after-put-word2 .put-word2 .ensures) in
-    stored-on (now (a .out)) _ _ (wordBytes jobMark ++ wordBytes (a .nodes)) (wordBytes (a .heads)) 0 4 (omega arith) two (after-put-word3 .put-word3 .ensures)
+    let two = stored-on (now (a .out)) _ _ (wordBytes jobMark) (wordBytes (a .nodes)) 0 2 (omega arith)
+      (after-put-word .put-word .ensures) (after-put-word2 .put-word2 .ensures) in
+    stored-on (now (a .out)) _ _ (wordBytes jobMark ++ wordBytes (a .nodes))
+      (wordBytes (a .heads)) 0 4 (omega arith) two (after-put-word3 .put-word3 .ensures)
 
 pub put-header-spec : {M : Type 1} → statement M
 put-header-spec =

@@ -15,7 +15,9 @@ add-put-bytes : tie.Need-add-put-bytes
 add-put-bytes c = search needs
 
 cast-put-bytes : tie.Need-cast-put-bytes
-cast-put-bytes c = omega (arith, fit mostNodes mostHeads (c .before .before .before .before .before .before .before .args .fields) (c .before .before .before .before .before .before .before .pre .1))
+cast-put-bytes c =
+    omega (arith, fit mostNodes mostHeads (c .before .before .before .before .before .before .before .args .fields)
+      (c .before .before .before .before .before .before .before .pre .1))
 
 cast-put-bytes-2 : tie.Need-cast-put-bytes-2
 cast-put-bytes-2 c =
@@ -59,7 +61,8 @@ returns c =
     let start = after-put-word .before .before .before in
     let a = start .args in
     request-stored (now (a .out)) _ _ _ _ (a .at) (a .fields) (start .pre .1)
-    (after-put-word .put-word .ensures) (after-put-bytes .put-bytes .ensures) (after-put-word2 .put-word2 .ensures) (after-put-word3 .put-word3 .ensures)
+    (after-put-word .put-word .ensures) (after-put-bytes .put-bytes .ensures) (after-put-word2 .put-word2 .ensures)
+      (after-put-word3 .put-word3 .ensures)
 
 pub put-request-spec : {M : Type 1} → statement M
 put-request-spec =
