@@ -42,19 +42,30 @@ accepted-printable j admitted table report linearization =
     let ended = run-ended j admitted in
     record {
       enough = record {
-        words = omega (arith, length-append (map encode (runOf j .table)) (drop (j .nodes) table),
-          length-map (runOf j .table) encode, ended .nodes);
-        requests = omega (arith, length-append (flatRows (runOf j .report)) (drop (4 * length (j .requests)) report),
-          length-rows (runOf j .report), ended .reports);
-        entries = omega (arith, length-append (flat (runOf j .entries)) (drop (2 * length (runOf j .entries)) linearization),
-          length-flat (runOf j .entries));
+        words = omega (
+          arith,
+          length-append (map encode (runOf j .table)) (drop (j .nodes) table),
+          length-map (runOf j .table) encode,
+          ended .nodes,
+        );
+        requests = omega (
+          arith,
+          length-append (flatRows (runOf j .report)) (drop (4 * length (j .requests)) report),
+          length-rows (runOf j .report),
+          ended .reports,
+        );
+        entries = omega (
+          arith,
+          length-append (flat (runOf j .entries)) (drop (2 * length (runOf j .entries)) linearization),
+          length-flat (runOf j .entries),
+        );
       };
       lines = omega (arith, admitted .few-nodes, admitted .few-requests, invariant-few ended);
     }
 
 -- The file's own refusal comes first.
 accepted-file : (file : List ℕ) (table report linearization : ℕ) → playRefusal file table report linearization ≡ 0
-  → meaning file .number ≡ 0
+    → meaning file .number ≡ 0
 unfolding playRefusal
 accepted-file file table report linearization e =
     through (meaning file .number) (lentRefusal (meaning file .job) table report linearization) e .first
@@ -68,8 +79,10 @@ printable file table report linearization bytes =
     (λ accepted.
     let own = accepted-file file _ _ _ (eqb-true refusal 0 accepted) in
     rw accepted (accepted-printable (meaning file .job) (admitted-meaning file bytes own) table report linearization))
-    (λ refused. rw refused (record { enough = record { words = omega arith; requests = omega arith; entries = omega arith };
-      lines = omega arith }))
+    (λ refused. rw refused (record {
+      enough = record { words = omega arith; requests = omega arith; entries = omega arith };
+      lines = omega arith;
+    }))
 
 -- ---- its text
 

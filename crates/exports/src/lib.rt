@@ -48,7 +48,8 @@ pub extern "C" fn grouping_write(
 #[no_mangle]
 pub extern "C" fn grouping_query(table: &mut [u32], x: u32, y: u32, budget: u16) -> Queried
     ensures exact { λ r. ⌜ record { queried = r; table = now (table .exit) } ≡ queried (now (table .entry)) x y budget ⌝ }
-    ensures faithful { λ r. ⌜ (r .number ≡ 0 → Faithful (now (table .entry)) x y budget (record { queried = r; table = now (table .exit) })) ⌝ }
+    ensures faithful { λ r. ⌜ (r .number ≡ 0
+        → Faithful (now (table .entry)) x y budget (record { queried = r; table = now (table .exit) })) ⌝ }
 {
     query::query(table, x, y, budget)
 }

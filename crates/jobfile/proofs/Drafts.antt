@@ -51,7 +51,7 @@ admitted-draft d e =
       some-heads = s .some-heads;
       few-heads = s .few-heads;
       few-requests = rw length-map (ltb-false mostRequests (length (fieldsOf (d .requests)))
-        (passed (ltb mostRequests (length (fieldsOf (d .requests)))) 8 _ (b .first) .test));
+          (passed (ltb mostRequests (length (fieldsOf (d .requests)))) 8 _ (b .first) .test));
       each-request = fields-serve (d .nodes) (d .heads) (fieldsOf (d .requests)) (q .first);
       each-grant = grants-below (d .heads) (d .schedule) (g .first);
       short = ltb-false mostBytes (length (written (jobOf d))) (passed (ltb mostBytes (length (written (jobOf d)))) 0 _ (g .second) .test);
@@ -72,8 +72,13 @@ serve-fields nodes heads [] each = refl
 serve-fields nodes heads (q ∷ qs) each =
     let s = each 0 q (omega arith) in
     let f : Fields = record { head = q .head; kind = kindNumber (q .kind); x = q .x; y = q .y } in
-    rw (fit-passes nodes heads f (record { head = s .head; some-kind = some-kind (q .kind); few-kinds = few-kinds (q .kind);
-      x = s .x; y = s .y }))
+    rw (fit-passes nodes heads f (record {
+      head = s .head;
+      some-kind = some-kind (q .kind);
+      few-kinds = few-kinds (q .kind);
+      x = s .x;
+      y = s .y;
+    }))
     (serve-fields nodes heads qs (λ i none l. each (suc i) none (omega arith)))
 
 below-grants : (heads : ℕ) (gs : List ℕ) → Below heads gs → grantsRefusal heads gs ≡ 0
@@ -85,10 +90,14 @@ pub draft-passes : (j : Job) → Admitted j → draftRefusal (draftOf j) ≡ 0
 unfolding draftRefusal countRefusal lengthRefusal
 draft-passes j a =
     let count : length (fieldsOf (numbersOf (j .requests))) ≡ length (j .requests) =
-      sym (length-map (fieldsOf (numbersOf (j .requests))) requestOf) ∙ ap length (requests-drafted (j .requests)) in
+    sym (length-map (fieldsOf (numbersOf (j .requests))) requestOf) ∙ ap length (requests-drafted (j .requests)) in
     simp (
-      sized-passes (j .nodes) (j .heads) (record { some-nodes = a .some-nodes; few-nodes = a .few-nodes;
-        some-heads = a .some-heads; few-heads = a .few-heads }),
+      sized-passes (j .nodes) (j .heads) (record {
+        some-nodes = a .some-nodes;
+        few-nodes = a .few-nodes;
+        some-heads = a .some-heads;
+        few-heads = a .few-heads;
+      }),
       count,
       le-ltb mostRequests (length (j .requests)) (a .few-requests),
       serve-fields (j .nodes) (j .heads) (j .requests) (a .each-request),

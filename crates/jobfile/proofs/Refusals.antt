@@ -56,8 +56,12 @@ sized nodes heads e =
 pub sized-passes : (nodes heads : ℕ) → Sized nodes heads → sizesRefusal nodes heads ≡ 0
 unfolding sizesRefusal
 sized-passes nodes heads s =
-    simp (ne-eqb nodes 0 (λ e. omega arith), le-ltb mostNodes nodes (s .few-nodes), ne-eqb heads 0 (λ e. omega arith),
-      le-ltb mostHeads heads (s .few-heads))
+    simp (
+      ne-eqb nodes 0 (λ e. omega arith),
+      le-ltb mostNodes nodes (s .few-nodes),
+      ne-eqb heads 0 (λ e. omega arith),
+      le-ltb mostHeads heads (s .few-heads),
+    )
 
 pub record Fit (nodes heads : ℕ) (q : Fields) : Type 0 where
   pub head : q .head < heads
@@ -85,5 +89,10 @@ fit nodes heads q e =
 pub fit-passes : (nodes heads : ℕ) (q : Fields) → Fit nodes heads q → fieldsRefusal nodes heads q ≡ 0
 unfolding fieldsRefusal
 fit-passes nodes heads q f =
-    simp (lt-leb heads (q .head) (f .head), ne-eqb (q .kind) 0 (λ e. omega arith), le-ltb 2 (q .kind) (f .few-kinds),
-      lt-leb nodes (q .x) (f .x), lt-leb nodes (q .y) (f .y))
+    simp (
+      lt-leb heads (q .head) (f .head),
+      ne-eqb (q .kind) 0 (λ e. omega arith),
+      le-ltb 2 (q .kind) (f .few-kinds),
+      lt-leb nodes (q .x) (f .x),
+      lt-leb nodes (q .y) (f .y),
+    )

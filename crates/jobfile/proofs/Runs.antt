@@ -37,8 +37,10 @@ pub record Extended (r : Run) (g : ℕ) : Type 0 where
 pub extended : (r : Run) (g : ℕ) → extends r g ≡ true → Extended r g
 extended r g e =
     split (eqb (r .head) g)
-    (λ s. let u : ltb (r .count) mostGrants ≡ true = rw s at e in record { same = eqb-true (r .head) g s;
-      under = ltb-true (r .count) mostGrants u })
+    (λ s. let u : ltb (r .count) mostGrants ≡ true = rw s at e in record {
+      same = eqb-true (r .head) g s;
+      under = ltb-true (r .count) mostGrants u;
+    })
     (λ f. let z : false ≡ true = rw f at e in let y : _≡_ {A = ℕ} 0 1 = cc in absurd (omega arith))
 
 -- One more grant of a head after n of them.
@@ -53,7 +55,7 @@ granted-from r [] = refl
 granted-from r (g ∷ gs) =
     split (extends r g)
     (λ e. rw e (granted-from (run (r .head) (r .count + 1)) gs ∙ replicate-more (r .count) (r .head) gs
-      ∙ ap (λ (h : ℕ). replicate (r .count) (r .head) ++ (h ∷ gs)) (extended r g e .same)))
+    ∙ ap (λ (h : ℕ). replicate (r .count) (r .head) ++ (h ∷ gs)) (extended r g e .same)))
     (λ e. rw e (ap (λ (l : List ℕ). replicate (r .count) (r .head) ++ l) (granted-from (run g 1) gs)))
 
 pub granted-longest : (gs : List ℕ) → granted (longestRuns gs) ≡ gs
@@ -81,10 +83,13 @@ from-follow heads before r [] f b = (f, tt)
 from-follow heads before r (g ∷ gs) f b =
     split (extends r g)
     (λ e. rw e (from-follow heads before (run (r .head) (r .count + 1))
-      gs (record { head = f .head; some = omega arith; few = omega (arith, extended r g e .under); apart = f .apart })
-      (below-tail heads g gs b)))
-    (λ e. rw e (f, from-follow heads r (run g 1)
-      gs (record { head = b 0 0 (omega arith); some = omega arith; few = omega arith; apart = e }) (below-tail heads g gs b)))
+    gs (record { head = f .head; some = omega arith; few = omega (arith, extended r g e .under); apart = f .apart })
+    (below-tail heads g gs b)))
+    (λ e. rw e (
+      f,
+      from-follow heads r (run g 1)
+          gs (record { head = b 0 0 (omega arith); some = omega arith; few = omega arith; apart = e }) (below-tail heads g gs b),
+    ))
 
 -- A full run before the first: nothing extends it.
 nothing-extends-full : (h g : ℕ) → extends (run h mostGrants) g ≡ false
@@ -94,8 +99,8 @@ pub longest-follow : (heads h : ℕ) (gs : List ℕ) → Below heads gs → Foll
 longest-follow heads h [] b = tt
 longest-follow heads h (g ∷ gs) b =
     from-follow heads (run h mostGrants) (run g 1)
-      gs (record { head = b 0 0 (omega arith); some = omega arith; few = omega arith; apart = nothing-extends-full h g })
-      (below-tail heads g gs b)
+    gs (record { head = b 0 0 (omega arith); some = omega arith; few = omega arith; apart = nothing-extends-full h g })
+    (below-tail heads g gs b)
 
 -- A run under way takes in the grants of its head.
 fill : (h n k : ℕ) (gs : List ℕ) → n + k ≤ mostGrants → runsFrom (run h n) (replicate k h ++ gs) ≡ runsFrom (run h (n + k)) gs
@@ -111,7 +116,7 @@ begun h (suc n) gs s f = let z : 1 + n ≡ suc n = omega arith in rw (← z) (fi
 
 -- A run under way ends at the first grant that does not extend it.
 ends : (r : Run) (h n : ℕ) (gs : List ℕ) → extends r h ≡ false → 0 < n → runsFrom r (replicate n h ++ gs) ≡ r
-  ∷ longestRuns (replicate n h ++ gs)
+    ∷ longestRuns (replicate n h ++ gs)
 ends r h zero gs e s = absurd (omega arith)
 ends r h (suc n) gs e s = rw e
 
@@ -144,4 +149,4 @@ pub granted-below : (heads : ℕ) (before : Run) (rs : List Run) → Follows hea
 granted-below heads before [] f = λ i none l. absurd (omega arith)
 granted-below heads before (r ∷ rs) f =
     below-append heads (replicate (r .count) (r .head)) (granted rs) (below-replicate heads (r .head) (r .count) (f .0 .head))
-      (granted-below heads r rs (f .1))
+    (granted-below heads r rs (f .1))

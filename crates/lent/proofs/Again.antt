@@ -70,29 +70,29 @@ module _ (w : Setting) (k : ℕ) (s : Lent (List ℕ)) (ys : List ℕ) where
   lends ν =
       qed W (‵ (HeldAt k s (length ys) ys) ∷ ‵ (flft (s .lifetime) (s .share)) ∷ []) ∵ updating ! $
       fsplit ! $ pureL ! (at-slice u32 (at-name s (s .name) ys) (sliceVal (s .block, s .offset) (length ys) ∷ []))
-        (λ p. fsplit ! $ opens-slice ! tt u32 ys (s .block) (s .offset) $
+      (λ p. fsplit ! $ opens-slice ! tt u32 ys (s .block) (s .offset) $
       use1 W (‵ (cells (mem u32) ys (s .block) (s .offset))) (whole-in 𝓤 H A W u32 ys (s .block) (s .offset)) $
       use1 W (later (some (λ (δ : GName). ‵ (LentAt k s (length ys) (loan ν δ) ys)
-        ⊛ ‵ (flent (ν ∷ []) (Held u32 (length ys) (s .block) (s .offset) δ)))))
-        (lends-slice 𝓤 H A W u32 (named k) (ν ∷ []) ys (s .block) (s .offset) (p .1)) $ await ! tt $ pick ! (λ δ. split ! $
+      ⊛ ‵ (flent (ν ∷ []) (Held u32 (length ys) (s .block) (s .offset) δ)))))
+      (lends-slice 𝓤 H A W u32 (named k) (ν ∷ []) ys (s .block) (s .offset) (p .1)) $ await ! tt $ pick ! (λ δ. split ! $
       -- [the new slice; the lender's part of it; the open borrow; obs; auth]
       at-once ! $ show ! (λ (δ : GName). sep 𝓤 (sem 𝓤 H A (LentAt k s (length ys) (loan ν δ) ys))
-        (sem 𝓤 H A (SliceKept s (loan ν δ) ys))) δ $ frame ! $
+      (sem 𝓤 H A (SliceKept s (loan ν δ) ys))) δ $ frame ! $
       move ! (2 ∷ 3 ∷ []) $ fjoin ! $ move ! (2 ∷ 0 ∷ []) $ fjoin ! $ move ! (1 ∷ 0 ∷ []) $ fjoin ! $ done !))
 
   comes : (n : Loan) (zs : List ℕ) → Room u32 (length ys) → length zs ≡ length ys
       → ent 𝓤 (sep 𝓤 (A .dead (n .lifetime ∷ [])) (sep 𝓤 (sem 𝓤 H A (SliceKept s n ys)) (sem 𝓤 H A (finally u32 (n .name) zs))))
-        (H .⇛ (sep 𝓤 (sem 𝓤 H A (HeldAt k s (length ys) zs)) (A .lft (s .lifetime) (s .share))))
+      (H .⇛ (sep 𝓤 (sem 𝓤 H A (HeldAt k s (length ys) zs)) (A .lft (s .lifetime) (s .share))))
   comes n zs room long =
       qed W (‵ (fdead (n .lifetime ∷ [])) ∷ ‵ (SliceKept s n ys) ∷ ‵ (finally u32 (n .name) zs) ∷ []) ∵ updating ! $
-        move ! (1 ∷ []) $ fsplit ! $ move ! (2 ∷ 0 ∷ 3 ∷ []) $
+      move ! (1 ∷ []) $ fsplit ! $ move ! (2 ∷ 0 ∷ 3 ∷ []) $
       use3 W (later (‵ (Arr (mem u32) (length ys) .lies zs (s .block) (s .offset))))
-        (slice-back 𝓤 H A W u32 (n .lifetime ∷ []) (n .name) zs (length ys) (s .block) (s .offset)) $ await ! tt $
+      (slice-back 𝓤 H A W u32 (n .lifetime ∷ []) (n .name) zs (length ys) (s .block) (s .offset)) $ await ! tt $
       fsplit ! $ drop ! $ use1 W (‵ (row u32 fullShare zs (s .block) (s .offset))) (whole-out 𝓤 H A W u32 zs (s .block) (s .offset)) $
       move ! (1 ∷ []) $ fsplit ! $ move ! (1 ∷ []) $ fsplit ! $ move ! (3 ∷ 2 ∷ 0 ∷ 1 ∷ []) $
-        closes-slice ! tt u32 ys zs long (s .block) (s .offset) $ at-once ! $
+      closes-slice ! tt u32 ys zs long (s .block) (s .offset) $ at-once ! $
       fjoin ! $ pureI ! (at-slice u32 (at-name s (s .name) zs) (sliceVal (s .block, s .offset) (length ys) ∷ [])) (tt, (tt, tt))
-        (ap (λ (c : ℕ). sliceVal (s .block, s .offset) c ∷ []) (sym long), subst (Room u32) (sym long) room) $ fjoin ! $ done !
+      (ap (λ (c : ℕ). sliceVal (s .block, s .offset) c ∷ []) (sym long), subst (Room u32) (sym long) room) $ fjoin ! $ done !
 
   -- the slice's count is that of its list at entry
   module _ (same : length ys ≡ length (s .entry)) where
@@ -101,14 +101,14 @@ module _ (w : Setting) (k : ℕ) (s : Lent (List ℕ)) (ys : List ℕ) where
     slice-lends ν =
         subst (λ (c : ℕ). ent 𝓤 (sep 𝓤 (sem 𝓤 H A (HeldAt k s c ys)) (A .lft (s .lifetime) (s .share)))
         (H .⇛ (ex 𝓤 (λ (δ : GName). sep 𝓤 (sem 𝓤 H A (LentAt k s c (loan ν δ) ys)) (sem 𝓤 H A (SliceKept s (loan ν δ) ys))))))
-          same (lends ν)
+        same (lends ν)
 
     pub slice-comes : (n : Loan) (zs : List ℕ) → Room u32 (length (s .entry)) → length zs ≡ length ys
         → ent 𝓤 (sep 𝓤 (A .dead (n .lifetime ∷ []))
-          (sep 𝓤 (sem 𝓤 H A (SliceKept s n ys)) (sem 𝓤 H A (finally u32 (n .name) zs))))
-          (H .⇛ (sep 𝓤 (sem 𝓤 H A (SliceHeld k s zs)) (A .lft (s .lifetime) (s .share))))
+        (sep 𝓤 (sem 𝓤 H A (SliceKept s n ys)) (sem 𝓤 H A (finally u32 (n .name) zs))))
+        (H .⇛ (sep 𝓤 (sem 𝓤 H A (SliceHeld k s zs)) (A .lft (s .lifetime) (s .share))))
     slice-comes n zs room long =
         subst (λ (c : ℕ). ent 𝓤 (sep 𝓤 (A .dead (n .lifetime ∷ []))
-          (sep 𝓤 (sem 𝓤 H A (SliceKept s n ys)) (sem 𝓤 H A (finally u32 (n .name) zs))))
-          (H .⇛ (sep 𝓤 (sem 𝓤 H A (HeldAt k s c zs)) (A .lft (s .lifetime) (s .share))))) same
+        (sep 𝓤 (sem 𝓤 H A (SliceKept s n ys)) (sem 𝓤 H A (finally u32 (n .name) zs))))
+        (H .⇛ (sep 𝓤 (sem 𝓤 H A (HeldAt k s c zs)) (A .lft (s .lifetime) (s .share))))) same
         (comes n zs (subst (Room u32) (sym same) room) long)

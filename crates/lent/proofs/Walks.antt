@@ -130,7 +130,7 @@ module _ {M : Type 1} {𝓤 : URA M} {H : Heap 𝓤} {A : Atoms 𝓤} (W : Given
 
 module _ {M : Type 1} {𝓤 : URA M} {H : Heap 𝓤} {A : Atoms 𝓤} {K : Type 0} {W : Given 𝓤 H A} {Γ : List (Item 𝓤)} {G : Goal 𝓤 H} where
   pub sees : K → (s : Carried) (x : s .type .D) (vs : List Val) → (Is (row s) x vs → Seq K W (‵ (row s .own x vs) ∷ Γ) G)
-    → Seq K W (‵ (row s .own x vs) ∷ Γ) G
+      → Seq K W (‵ (row s .own x vs) ∷ Γ) G
   sees t s = peeks t (row s) (Is (row s)) (shows 𝓤 H A (row s))
 
   pub makes : K → (s : Carried) (x : s .type .D) (vs : List Val) → Is (row s) x vs → Step K W (‵ (row s .own x vs) ∷ Γ) G Γ G
@@ -138,12 +138,12 @@ module _ {M : Type 1} {𝓤 : URA M} {H : Heap 𝓤} {A : Atoms 𝓤} {K : Type 
 
   pub opens-value : K → Soaks G → (s : Carried) (x : s .type .D) {κ : Lft} {q : Share} {γ : GName} (b o : ℕ)
       → (IsValue s x → Seq K W (‵ (cellAt fullShare (row s .mir) (value s x ∷ []) b o) ∷ ‵ (row s .own x (value s x ∷ []))
-        ∷ ‵ (fobor κ q (Body (mem (row s)) b o γ)) ∷ ‵ (fobs γ (row s .coded .code x)) ∷ ‵ (fauth γ (row s .coded .code x)) ∷ Γ) G)
+      ∷ ‵ (fobor κ q (Body (mem (row s)) b o γ)) ∷ ‵ (fobs γ (row s .coded .code x)) ∷ ‵ (fauth γ (row s .coded .code x)) ∷ Γ) G)
       → Seq K W (‵ (fobs γ (row s .coded .code x)) ∷ ‵ (fbor κ (Body (mem (row s)) b o γ)) ∷ ‵ (flft κ q) ∷ Γ) G
   opens-value t soaks s x b o k =
       opens t soaks (row s) {h = x} b o (λ vs.
       spelt t (row s) (Is (row s)) (shows 𝓤 H A (row s)) (LL.vals (s .type) (s .laws))
-        (LL.tells (s .type) (s .laws)) fullShare x vs b o $ move t (1 ∷ []) $
+      (LL.tells (s .type) (s .laws)) fullShare x vs b o $ move t (1 ∷ []) $
       peeks t (row s) (Is (row s)) (shows 𝓤 H A (row s)) x (value s x ∷ []) (λ was. move t (1 ∷ 0 ∷ []) $ k was))
 
 module _ (w : Setting) (s : Carried) (φ : s .type .D → Type 0) (v : Val) where
@@ -156,5 +156,5 @@ module _ (w : Setting) (s : Carried) (φ : s .type .D → Type 0) (v : Val) wher
       → ent 𝓤 (H .⇛ (ex 𝓤 (λ (r : s .type .D). sep 𝓤 (sep 𝓤 (emp 𝓤) (sem 𝓤 H A (row s .own r (v ∷ [])))) (E r)))) (H .⇛ (ex 𝓤 Returned))
   told-value E clause =
       qed W (later (some (λ (r : s .type .D). (‵ ftrue ⊛ ‵ (row s .own r (v ∷ []))) ⊛ raw (E r))) ∷ []) ∵ updating ! $
-        await ! tt $ pick ! (λ r. split ! $ move ! (1 ∷ []) $
+      await ! tt $ pick ! (λ r. split ! $ move ! (1 ∷ []) $
       use1 W (raw (fact 𝓤 (φ r))) (clause r) $ heard ! (φ r) (λ e. split ! $ drop ! $ at-once ! $ show ! Returned r $ check ! e $ done !))

@@ -278,8 +278,12 @@ enough-positive : (n : ℕ) (t : List Node) (r B : ℕ → ℕ) (a b used : ℕ)
     → traitsOf stage .resting ≡ false → Knows (momentHere n t B used) (sameSet a b) k stage → Enough n (parent t) r k stage 0 → ⊥
 enough-positive n t r B a b used k Resting busy knows needs = true≢false busy
 enough-positive n t r B a b used k (Find e s) busy knows needs =
-    omega (arith, step-least n (parent t) r (nodeAt k e) s (tailNeed n r (k .y) (servesX e))
-      (tail-least n (parent t) r (k .y) (servesX e)), needs .enough)
+    omega (
+      arith,
+      step-least n (parent t) r (nodeAt k e) s (tailNeed n r (k .y) (servesX e))
+          (tail-least n (parent t) r (k .y) (servesX e)),
+      needs .enough,
+    )
 enough-positive n t r B a b used k (RereadX point) busy knows needs = absurd (omega (arith, needs .enough))
 enough-positive n t r B a b used k ReadRankX busy knows needs = no-union (knows .finding .kind)
 enough-positive n t r B a b used k (ReadRankY rank) busy knows needs = no-union (knows .finding .kind)

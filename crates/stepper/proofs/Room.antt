@@ -46,5 +46,5 @@ total-few es zero h = omega arith
 total-few es (suc k) h = omega (arith, h k (omega arith), total-few es k (λ q l. h q (omega arith)))
 
 pub entries-few : (es : List Entry) (k : ℕ) → ((e : Entry) → List·Memᴰ e es → e .request < k)
-  → ((q : ℕ) → q < k → occurrences q es ≤ 1) → length es ≤ k
+    → ((q : ℕ) → q < k → occurrences q es ≤ 1) → length es ≤ k
 entries-few es k known once = omega (arith, total-all es k known, total-few es k once)

@@ -42,7 +42,7 @@ use Rattle.stepper.proofs.Reached.{Reached}
 
 -- What the step of a head with work left is.
 pub step-served : (qs : List Request) (S : State) (h : ℕ) → hasWork qs (headAt S h) ≡ true
-  → step qs S h ≡ served qs S h (ready qs (headAt S h))
+    → step qs S h ≡ served qs S h (ready qs (headAt S h))
 unfolding step
 step-served qs S h t = rw t refl
 
@@ -102,9 +102,9 @@ module _ {qs : List Request} {n : ℕ} {b : Buffers} {number : ℕ} {S : State} 
       (is-moved : moved ≡ advanceOf head (seen (map decode (b .table)) (accessOf head)) number)
       (is-table : table′ ≡ map encode (touched (map decode (b .table)) (accessOf head)))
       (is-report : report′ ≡ stored (b .report) (4 * head .task .request)
-        (charge (rowIn (b .report) (4 * head .task .request)) number (moved .event .answer)))
+      (charge (rowIn (b .report) (4 * head .task .request)) number (moved .event .answer)))
       (is-linearization : linearization′ ≡ cond (eqb (moved .event .point) 0) (b .linearization)
-        (inserted (b .linearization) (b .entries) (moved .event .point) (head .task .request)))
+      (inserted (b .linearization) (b .entries) (moved .event .point) (head .task .request)))
       (is-entries : entries′ ≡ cond (eqb (moved .event .point) 0) (b .entries) (b .entries + 1))
       (is-next : next ≡ settled qs h moved)
       (is-mask : mask′ ≡ cond (ltb (next .task .request) (length qs)) (b .mask) (b .mask - 2 ^ h)) where
@@ -118,7 +118,7 @@ module _ {qs : List Request} {n : ℕ} {b : Buffers} {number : ℕ} {S : State} 
     table-shown = is-table ∙ ap (λ t. map encode (touched t (accessOf head))) nodes-shown
 
     report-shown : report′ ≡ flatRows (set (S .report) (head .task .request)
-      (charge (getD (S .report) (head .task .request) noRow) (suc (S .now)) (advanced S head .event .answer)))
+        (charge (getD (S .report) (head .task .request) noRow) (suc (S .now)) (advanced S head .event .answer)))
     report-shown =
         let old = getD (S .report) (head .task .request) noRow in
         let new = charge old (suc (S .now)) (advanced S head .event .answer) in
@@ -129,7 +129,7 @@ module _ {qs : List Request} {n : ℕ} {b : Buffers} {number : ℕ} {S : State} 
         ∙ stored-shown (S .report) (head .task .request) new (omega (arith, in-service .within, here .invariant .reports))
 
     linearization-shown : linearization′ ≡ flat (entered (S .entries) (head .task .request) (advanced S head .event))
-      ++ drop (2 * length (entered (S .entries) (head .task .request) (advanced S head .event))) lent
+        ++ drop (2 * length (entered (S .entries) (head .task .request) (advanced S head .event))) lent
     linearization-shown =
         is-linearization
         ∙ ap₂ (λ m c. cond (eqb (m .event .point) 0) (c .linearization)
@@ -150,8 +150,14 @@ module _ {qs : List Request} {n : ℕ} {b : Buffers} {number : ℕ} {S : State} 
         (λ t. rw t (mask-left (hasWork qs) (resting 0) (S .heads) h (omega (arith, here .heads)) work (settled qs h (advanced S head)) t))
 
     pub served-shown : hasWork qs (headAt S h) ≡ true
-        → record { heads = set (b .heads) h next; table = table′; report = report′; linearization = linearization′;
-          entries = entries′; mask = mask′ }
+        → record {
+          heads = set (b .heads) h next;
+          table = table′;
+          report = report′;
+          linearization = linearization′;
+          entries = entries′;
+          mask = mask′;
+        }
         ≡ shown qs (step qs S h) lent
     served-shown work =
         (λ i. record {

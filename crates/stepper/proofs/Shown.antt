@@ -19,7 +19,7 @@ pub use Rattle.table.specs.Touch.{Worded}
 
 pub entered-shown : (es : List Entry) (q : ℕ) (e : Event) (lent : List ℕ)
     → cond (eqb (e .point) 0) (flat es ++ drop (2 * length es) lent)
-      (inserted (flat es ++ drop (2 * length es) lent) (length es) (e .point) q)
+    (inserted (flat es ++ drop (2 * length es) lent) (length es) (e .point) q)
     ≡ flat (entered es q e) ++ drop (2 * length (entered es q e)) lent
 entered-shown es q e lent =
     split (eqb (e .point) 0) (λ t. rw t refl)

@@ -15,7 +15,8 @@ ghost use Rattle.stepper.specs.Buffers.{rowIn, stored};
 pub fn charge_row(report: &mut [u32], request: u16, number: u32, answer: Answer)
     requires { ⌜ 4 * request + 4 ≤ length (now report) ⌝ }
     requires { ⌜ rowIn (now report) (4 * request) .used < 4294967295 ⌝ }
-    ensures { λ r. ⌜ (now (report .exit)) ≡ stored (now (report .entry)) (4 * request) (charge (rowIn (now (report .entry)) (4 * request)) number answer) ⌝ }
+    ensures { λ r. ⌜ (now (report .exit)) ≡ stored (now (report .entry)) (4 * request)
+        (charge (rowIn (now (report .entry)) (4 * request)) number answer) ⌝ }
 {
     let at = 4 * (request as usize);
     let row = Row {
@@ -36,7 +37,8 @@ pub fn enter(linearization: &mut [u32], entries: u32, point: u32, request: u32) 
     requires { ⌜ (point ≢ 0 → Insertable (now linearization) entries) ⌝ }
     requires { ⌜ entries < 4294967295 ⌝ }
     ensures { λ r. ⌜ r ≡ cond (eqb point 0) entries (entries + 1) ⌝ }
-    ensures { λ r. ⌜ (now (linearization .exit)) ≡ cond (eqb point 0) (now (linearization .entry)) (inserted (now (linearization .entry)) entries point request) ⌝ }
+    ensures { λ r. ⌜ (now (linearization .exit)) ≡ cond (eqb point 0) (now (linearization .entry))
+        (inserted (now (linearization .entry)) entries point request) ⌝ }
 {
     if point == 0 {
         return entries;

@@ -76,7 +76,7 @@ module _ (gs : List ℕ) (at i : ℕ) (r : Run) (growing : Growing gs at i r) wh
 
 -- The longest runs grant the grants, so the first of them is no longer than those.
 pub run-taken : (gs : List ℕ) (at : ℕ) (r : Run) → at ≤ length gs → longestRuns (drop at gs) ≡ r
-  ∷ longestRuns (drop (at + r .count) gs) → at + r .count ≤ length gs
+    ∷ longestRuns (drop (at + r .count) gs) → at + r .count ≤ length gs
 run-taken gs at r within e =
     let rest = drop (at + r .count) gs in
     let cut : drop at gs ≡ replicate (r .count) (r .head) ++ rest =

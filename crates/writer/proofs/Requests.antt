@@ -63,7 +63,7 @@ pub record Passing (nodes heads : ℕ) (l : List ℕ) (at : ℕ) : Type 0 where
 module _ (nodes heads : ℕ) (l : List ℕ) (at : ℕ) (passing : Passing nodes heads l at) where
   next-refusal : at + 4 ≤ length l
       → eachRefusal nodes heads (fieldsOf l) ≡ (fieldsRefusal nodes heads (fieldsFrom l at)
-        then eachRefusal nodes heads (fieldsOf (drop (at + 4) l)))
+      then eachRefusal nodes heads (fieldsOf (drop (at + 4) l)))
   unfolding eachRefusal
   next-refusal room = sym (passing .same) ∙ ap (eachRefusal nodes heads) (fields-next l at room)
 
@@ -80,7 +80,7 @@ module _ (nodes heads : ℕ) (l : List ℕ) (at : ℕ) (passing : Passing nodes 
   passing-all short = sym (ap (eachRefusal nodes heads) (fields-end l at short)) ∙ passing .same
 
 pub each-fits : (nodes heads : ℕ) (qs : List Fields) → Sized nodes heads → eachRefusal nodes heads qs ≡ 0
-  → eachRefusal mostNodes mostHeads qs ≡ 0
+    → eachRefusal mostNodes mostHeads qs ≡ 0
 unfolding eachRefusal
 each-fits nodes heads [] sized e = refl
 each-fits nodes heads (q ∷ qs) sized e =

@@ -33,10 +33,14 @@ put-text-requires : tie.Need-put-text-requires
 put-text-requires c κs =
     let start = c .before .before .before .before .before .before .before .before .before .before .before .before .before in
     let file = now (start .args .file) in
-    let bytes : Bytes file = λ i. omega (arith,
-      c .before .before .before .before .before .before .before .before .before .before .before .before .shared-slice-known .given i) in
-    (subst PrintableLeft (sym (c .before .before .before .before .before .before .before .play .ensures .0))
-      (printable file _ _ _ bytes), start .pre)
+    let bytes : Bytes file = λ i. omega (
+      arith,
+      c .before .before .before .before .before .before .before .before .before .before .before .before .shared-slice-known .given i,
+    ) in (
+      subst PrintableLeft (sym (c .before .before .before .before .before .before .before .play .ensures .0))
+          (printable file _ _ _ bytes),
+      start .pre,
+    )
 
 same-length : tie.Need-same-length
 same-length c = search needs

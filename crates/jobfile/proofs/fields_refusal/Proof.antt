@@ -35,8 +35,13 @@ returns-5 c =
     let tested = after-if2 .before .before in
     let start = tested .before .before in
     let a = start .args in
-    simp (lt-leb _ _ (tested .if1 .left), ne-eqb _ _ (after-if2 .if2 .left), le-ltb _ _ (after-if3 .if3 .left),
-      lt-leb _ _ (after-if4 .if4 .left), le-leb (a .nodes) (a .fields .y) (omega arith))
+    simp (
+      lt-leb _ _ (tested .if1 .left),
+      ne-eqb _ _ (after-if2 .if2 .left),
+      le-ltb _ _ (after-if3 .if3 .left),
+      lt-leb _ _ (after-if4 .if4 .left),
+      le-leb (a .nodes) (a .fields .y) (omega arith),
+    )
 
 returns-6 : tie.Need-returns-6
 unfolding fieldsRefusal
@@ -47,8 +52,13 @@ returns-6 c =
     let tested = after-if2 .before .before in
     let start = tested .before .before in
     let a = start .args in
-    simp (lt-leb _ _ (tested .if1 .left), ne-eqb _ _ (after-if2 .if2 .left), le-ltb _ _ (after-if3 .if3 .left),
-      lt-leb _ _ (after-if4 .if4 .left), lt-leb (a .nodes) (a .fields .y) (omega arith))
+    simp (
+      lt-leb _ _ (tested .if1 .left),
+      ne-eqb _ _ (after-if2 .if2 .left),
+      le-ltb _ _ (after-if3 .if3 .left),
+      lt-leb _ _ (after-if4 .if4 .left),
+      lt-leb (a .nodes) (a .fields .y) (omega arith),
+    )
 
 pub fields-refusal-spec : {M : Type 1} → statement M
 fields-refusal-spec = tie.close (tie.spec returns returns-2 returns-3 returns-4 returns-5 returns-6)

@@ -169,76 +169,76 @@ module _ (w : Setting) (P : Parameters) where
 
     -- the slices are lent on to `prepare`, and come back
     preparing : Sq W (Buffers w P (lists₀ P) ++ Owner w P (P .tally .entry) ++ Locals w L P (room w L 8) (room w L 7)
-      (room w L 6)) (Runs w P known L mir-of.t-1)
+        (room w L 6)) (Runs w P known L mir-of.t-1)
     preparing =
         assigns ! (addr ! (from ! (fld ! refl (hop ! (look-in ! 56 (sub ! 0 refl (whole !))) (stop !))))) (from ! (stop !))
-          (init ! 42 refl (tt, tt)) $
+        (init ! 42 refl (tt, tt)) $
         assigns ! (agg ! (and-then ! (load ! (from ! (stop !)) (look ! 42 refl))
-          (and-then ! (load ! (from ! (fld ! refl (stop !))) (look-in ! 56 (sub ! 1 refl (whole !)))) (no-more !))))
-          (from ! (stop !)) (init ! 40 refl (tt, (tt, (record { fits = P .table-room .0 }, tt)))) $
+        (and-then ! (load ! (from ! (fld ! refl (stop !))) (look-in ! 56 (sub ! 1 refl (whole !)))) (no-more !))))
+        (from ! (stop !)) (init ! 40 refl (tt, (tt, (record { fits = P .table-room .0 }, tt)))) $
         assigns ! (addr ! (from ! (fld ! refl (hop ! (look-in ! 54 (sub ! 0 refl (whole !))) (stop !))))) (from ! (stop !))
-          (init ! 38 refl (tt, tt)) $
+        (init ! 38 refl (tt, tt)) $
         assigns ! (agg ! (and-then ! (load ! (from ! (stop !)) (look ! 38 refl))
-          (and-then ! (load ! (from ! (fld ! refl (stop !))) (look-in ! 54 (sub ! 1 refl (whole !)))) (no-more !))))
-          (from ! (stop !)) (init ! 36 refl (tt, (tt, (record { fits = P .report-room .0 }, tt)))) $
+        (and-then ! (load ! (from ! (fld ! refl (stop !))) (look-in ! 54 (sub ! 1 refl (whole !)))) (no-more !))))
+        (from ! (stop !)) (init ! 36 refl (tt, (tt, (record { fits = P .report-room .0 }, tt)))) $
         assigns ! (addr ! (from ! (fld ! refl (hop ! (look-in ! 52 (sub ! 0 refl (whole !))) (stop !))))) (from ! (stop !))
-          (init ! 34 refl (tt, tt)) $
+        (init ! 34 refl (tt, tt)) $
         assigns ! (agg ! (and-then ! (load ! (from ! (stop !)) (look ! 34 refl))
-          (and-then ! (load ! (from ! (fld ! refl (stop !))) (look-in ! 52 (sub ! 1 refl (whole !)))) (no-more !))))
-          (from ! (stop !)) (init ! 32 refl (tt, (tt, (record { fits = P .linearization-room .0 }, tt)))) $
+        (and-then ! (load ! (from ! (fld ! refl (stop !))) (look-in ! 52 (sub ! 1 refl (whole !)))) (no-more !))))
+        (from ! (stop !)) (init ! 32 refl (tt, (tt, (record { fits = P .linearization-room .0 }, tt)))) $
         cut (Buffers w P (lists₀ P)) (later (some (λ (n : Loans). raw (⋆ 𝓤 H A (Lending w P n (lists₀ P))))) ∷ [])
-          _ (lends w P (lists₀ P) (record { table = refl; report = refl; linearization = refl })) $ await ! tt $ pick ! (λ n.
+        _ (lends w P (lists₀ P) (record { table = refl; report = refl; linearization = refl })) $ await ! tt $ pick ! (λ n.
         cut (raw (⋆ 𝓤 H A (Lending w P n (lists₀ P))) ∷ []) (Lending w P n (lists₀ P)) _ (id⊢ 𝓤 _) $
         cut (Passed w P n (lists₀ P)) (raw (Prepare w .pre (to-prepare w P n)) ∷ []) _ (goes-prepare w P n) $
         calls-at ! fm (Prepare w) (known .prepare) (to-prepare w P n)
-          (and-then ! (load ! (from ! (stop !)) (look ! 55 refl))
-          (and-then ! (load ! (from ! (stop !)) (look ! 37 refl))
-          (and-then ! (load ! (from ! (stop !)) (look ! 33 refl))
-          (and-then ! (load ! (from ! (stop !)) (look ! 29 refl)) (no-more !))))) (λ v.
+        (and-then ! (load ! (from ! (stop !)) (look ! 55 refl))
+        (and-then ! (load ! (from ! (stop !)) (look ! 37 refl))
+        (and-then ! (load ! (from ! (stop !)) (look ! 33 refl))
+        (and-then ! (load ! (from ! (stop !)) (look ! 29 refl)) (no-more !))))) (λ v.
         use1 W (later (some (λ (z : Told Plan). given (Prepares P z) (raw (⋆ 𝓤 H A (Prepared-with w P n v z))))))
-          (told-prepare w P n v) $ await ! tt $ pick ! (λ z. learn ! (λ prepared.
+        (told-prepare w P n v) $ await ! tt $ pick ! (λ z. learn ! (λ prepared.
         cut (raw (⋆ 𝓤 H A (Prepared-with w P n v z)) ∷ []) (Prepared-with w P n v z) _ (id⊢ 𝓤 _) $
         sees ! plan-struct (z .result) (v ∷ []) (λ is. land ! (from ! (stop !)) (init ! 52 refl (typed W plan-struct (z .result) is)) $
         rewrite ! 52 (λ (u : Val). ‵ (fat fullShare (τ 6) (L 6) 0 u)) (ap only (told plan-struct (z .result) is)) refl $
-          drop ! $ move ! (1 ∷ 2 ∷ 3 ∷ 4 ∷ 5 ∷ 6 ∷ 8 ∷ 9 ∷ 10 ∷ []) $
+        drop ! $ move ! (1 ∷ 2 ∷ 3 ∷ 4 ∷ 5 ∷ 6 ∷ 8 ∷ 9 ∷ 10 ∷ []) $
         cut (Over w P n (z .left) ++ Kept w P n (lists₀ P))
-          (later (raw (⋆ 𝓤 H A (Back w P (z .left)))) ∷ [])
-          _ (comes w P n (lists₀ P) (z .left) (record { table = refl; report = refl; linearization = refl }) (prepared .same)) $
-          await ! tt $
+        (later (raw (⋆ 𝓤 H A (Back w P (z .left)))) ∷ [])
+        _ (comes w P n (lists₀ P) (z .left) (record { table = refl; report = refl; linearization = refl }) (prepared .same)) $
+        await ! tt $
         cut (raw (⋆ 𝓤 H A (Back w P (z .left))) ∷ []) (Back w P (z .left)) _ (id⊢ 𝓤 _) $
         -- [the slices and their tokens; the file's token; the file; the tally and its token; the locals]
         forget ! 42 refl $ forget ! 40 refl $ forget ! 38 refl $ forget ! 36 refl $ forget ! 34 refl $ forget ! 32 refl $
-          move ! (7 ∷ 6 ∷ []) $
+        move ! (7 ∷ 6 ∷ []) $
         choosing z prepared (subst (Is (row plan-struct) (z .result)) (told plan-struct (z .result) is) is))))))
 
   walk : (known : Known w) → ent 𝓤 (onEntry 𝓤 H A f.signature (lifetimes P) (shares P) (x P) (at P))
-    (WpFn 𝓤 H (known .tables .C) (known .tables .Λ) code.function (values P) (Post w P))
+      (WpFn 𝓤 H (known .tables .C) (known .tables .Λ) code.function (values P) (Post w P))
   walk known =
       qed W ((‵ (flft (P .file .lifetime) (P .file .share)) ⊛ ‵ (flft (P .table .lifetime) (P .table .share))
-        ⊛ ‵ (flft (P .report .lifetime) (P .report .share)) ⊛ ‵ (flft (P .linearization .lifetime) (P .linearization .share))
-        ⊛ ‵ (flft (P .tally .lifetime) (P .tally .share)) ⊛ ‵ ftrue)
+      ⊛ ‵ (flft (P .report .lifetime) (P .report .share)) ⊛ ‵ (flft (P .linearization .lifetime) (P .linearization .share))
+      ⊛ ‵ (flft (P .tally .lifetime) (P .tally .share)) ⊛ ‵ ftrue)
       ∷ ‵ (owns (ShrSlice (named 0) (P .file .lifetime) u8 ∷ MutSlice (named 1) (P .table .lifetime) u32 ∷ MutSlice (named 2)
-        (P .report .lifetime) u32 ∷ MutSlice (named 3) (P .linearization .lifetime) u32 ∷ MutRef (named 4) (P .tally .lifetime)
-        (row tally-struct) ∷ []) (x P) (at P)) ∷ []) ∵
+      (P .report .lifetime) u32 ∷ MutSlice (named 3) (P .linearization .lifetime) u32 ∷ MutRef (named 4) (P .tally .lifetime)
+      (row tally-struct) ∷ []) (x P) (at P)) ∷ []) ∵
       split ! $ move ! (1 ∷ []) $ split ! $ move ! (1 ∷ []) $ split ! $ move ! (1 ∷ []) $ split ! $ move ! (1 ∷ []) $ split ! $
       move ! (6 ∷ []) $ fsplit ! $ move ! (1 ∷ []) $ fsplit ! $ move ! (1 ∷ []) $ fsplit ! $ move ! (1 ∷ []) $ fsplit ! $
-        move ! (1 ∷ []) $ fsplit ! $
+      move ! (1 ∷ []) $ fsplit ! $
       keep ! (5 ∷ 11 ∷ 4 ∷ 10 ∷ 3 ∷ 9 ∷ 2 ∷ 8 ∷ 0 ∷ 6 ∷ []) $
       enter ! (known .tables .C) (known .tables .Λ) code.function (values P) _ $
       alloc1 ! (λ l0. alloc1 ! (λ l1. alloc1 ! (λ l2. alloc1 !
-        (λ l3. alloc1 ! (λ l4. alloc1 ! (λ l5. alloc1 !
-        (λ l6. alloc1 ! (λ l7. alloc1 ! (λ l8. alloc1 ! (λ l9. alloc1 ! (λ l10. alloc1 ! (λ l11. alloc1 ! (λ l12.
+      (λ l3. alloc1 ! (λ l4. alloc1 ! (λ l5. alloc1 !
+      (λ l6. alloc1 ! (λ l7. alloc1 ! (λ l8. alloc1 ! (λ l9. alloc1 ! (λ l10. alloc1 ! (λ l11. alloc1 ! (λ l12.
       alloc1 ! (λ l13. alloc1 ! (λ l14. alloc1 !
-        (λ l15. alloc1 ! (λ l16. alloc1 ! (λ l17. alloc1 !
-        (λ l18. alloc1 ! (λ l19. alloc1 ! (λ l20. alloc1 !
-        (λ l21. alloc1 ! (λ l22. alloc1 ! (λ l23. alloc1 ! (λ l24. alloc1 ! (λ l25. alloc0 ! $ params1 ! $
+      (λ l15. alloc1 ! (λ l16. alloc1 ! (λ l17. alloc1 !
+      (λ l18. alloc1 ! (λ l19. alloc1 ! (λ l20. alloc1 !
+      (λ l21. alloc1 ! (λ l22. alloc1 ! (λ l23. alloc1 ! (λ l24. alloc1 ! (λ l25. alloc0 ! $ params1 ! $
       pass1 ! (init ! 48 refl (tt, (tt, (record { fits = P .file-room .0 }, tt)))) $
-        pass1 ! (init ! 46 refl (tt, (tt, (record { fits = P .table-room .0 }, tt)))) $
-        pass1 ! (init ! 44 refl (tt, (tt, (record { fits = P .report-room .0 }, tt)))) $
+      pass1 ! (init ! 46 refl (tt, (tt, (record { fits = P .table-room .0 }, tt)))) $
+      pass1 ! (init ! 44 refl (tt, (tt, (record { fits = P .report-room .0 }, tt)))) $
       pass1 ! (init ! 42 refl (tt, (tt, (record { fits = P .linearization-room .0 }, tt)))) $ pass1 ! (init ! 40 refl (tt, tt)) $ pass0 ! $
       move ! (52 ∷ 53 ∷ 54 ∷ 55 ∷ 56 ∷ 57 ∷ 58 ∷ 59 ∷ 60 ∷ 61 ∷ []) $
       preparing known (λ k. getD (l0 ∷ l1 ∷ l2 ∷ l3 ∷ l4 ∷ l5 ∷ l6 ∷ l7 ∷ l8 ∷ l9 ∷ l10 ∷ l11 ∷ l12 ∷ l13 ∷ l14 ∷ l15 ∷ l16
-        ∷ l17 ∷ l18 ∷ l19 ∷ l20 ∷ l21 ∷ l22 ∷ l23 ∷ l24 ∷ l25 ∷ []) k 0)))))))))))))))))))))))))))
+      ∷ l17 ∷ l18 ∷ l19 ∷ l20 ∷ l21 ∷ l22 ∷ l23 ∷ l24 ∷ l25 ∷ []) k 0)))))))))))))))))))))))))))
 
 module _ (w : Setting) (known : Known w) where
   open Setting w using (𝓤, H, A, W, at-mem, run)
@@ -246,10 +246,16 @@ module _ (w : Setting) (known : Known w) where
   walks : Walks 𝓤 H A f.ended stayed (WpFn 𝓤 H (known .tables .C) (known .tables .Λ) code.function) (f.clauses 𝓤 H A at-mem run)
   walks = walked 𝓤 H A f.ended stayed (f.clauses 𝓤 H A at-mem run) (WpFn 𝓤 H (known .tables .C) (known .tables .Λ) code.function)
       (λ κs. (slice-vals, (slice-vals, (slice-vals, (slice-vals, (ptr-vals, tt))))))
-      (λ κs. (shr-slice-tells (named 0) (κs .0) u8,
-        (mut-slice-tells (named 1) (κs .1 .0) u32,
-        (mut-slice-tells (named 2) (κs .1 .1 .0) u32,
-        (mut-slice-tells (named 3) (κs .1 .1 .1 .0) u32, (mut-tells (named 4) (κs .1 .1 .1 .1 .0) (row tally-struct), tt))))))
+      (λ κs. (
+        shr-slice-tells (named 0) (κs .0) u8,
+        (
+          mut-slice-tells (named 1) (κs .1 .0) u32,
+          (
+            mut-slice-tells (named 2) (κs .1 .1 .0) u32,
+            (mut-slice-tells (named 3) (κs .1 .1 .1 .0) u32, (mut-tells (named 4) (κs .1 .1 .1 .1 .0) (row tally-struct), tt)),
+          ),
+        ),
+      ))
       (λ κs qs bounds a g are. via 𝓤 _ (fst∗ 𝓤 _ (emp 𝓤)) (walk w (record {
         file = lent (κs .0) (qs .0) (a .0);
         table = lent (κs .1 .0) (qs .1 .0) (a .1 .0);
@@ -263,16 +269,21 @@ module _ (w : Setting) (known : Known w) where
       }) known))
 
   goes : AllGo 𝓤 H A W 5 (f.signature .params) (f.ended .kept) stayed
-  goes =
-      (goes-none-slice 𝓤 H A W 5 (0 ∷ []) tt (plain (λ _. u8)) yes,
-        (goes-slice 𝓤 H A W 5 1 tt (plain (λ _. u32)),
-        (goes-slice 𝓤 H A W 5 2 tt (plain (λ _. u32)),
-        (goes-slice 𝓤 H A W 5 3 tt (plain (λ _. u32)), (goes-ref 𝓤 H A W 5 4 tt (plain (λ _. row tally-struct)), tt)))))
+  goes = (
+    goes-none-slice 𝓤 H A W 5 (0 ∷ []) tt (plain (λ _. u8)) yes,
+    (
+      goes-slice 𝓤 H A W 5 1 tt (plain (λ _. u32)),
+      (
+        goes-slice 𝓤 H A W 5 2 tt (plain (λ _. u32)),
+        (goes-slice 𝓤 H A W 5 3 tt (plain (λ _. u32)), (goes-ref 𝓤 H A W 5 4 tt (plain (λ _. row tally-struct)), tt)),
+      ),
+    ),
+  )
 
   meets : Meets 𝓤 H A f.signature (WpFn 𝓤 H (known .tables .C) (known .tables .Λ) code.function) (f.spec 𝓤 H A at-mem run)
   meets =
       walk-meets 𝓤 H A f.ended stayed W goes (f.clauses 𝓤 H A at-mem run)
-        (WpFn 𝓤 H (known .tables .C) (known .tables .Λ) code.function) (WpFn-mono 𝓤 H (W .laws) (known .tables) code.function) walks
+      (WpFn 𝓤 H (known .tables .C) (known .tables .Λ) code.function) (WpFn-mono 𝓤 H (W .laws) (known .tables) code.function) walks
 
 pub grouping-play-lent-spec : {M : Type 1} → stated.statement M
 unfolding code.routine tablesOf
@@ -283,13 +294,13 @@ grouping-play-lent-spec {M} 𝓤 H 𝓜 𝓖 𝓡 =
     (meets w (record {
       tables = tablesOf 𝓤 H 𝓜 (tables 𝓤 H 𝓜 𝓡 code.env);
       prepare = cited 𝓤 H (Prepare w) 𝓜 𝓡 code.env #player·prepare prepare-def.routine code.calls-player·prepare
-        (prepare-thm.met 𝓤 H 𝓜 𝓖 𝓡);
+          (prepare-thm.met 𝓤 H 𝓜 𝓖 𝓡);
       refused = cited 𝓤 H (Refused w) 𝓜 𝓡 code.env #player·refused refused-def.routine code.calls-player·refused
           (refused-thm.met 𝓤 H 𝓜 𝓖 𝓡);
       first-tally = cited 𝓤 H (FirstTally w) 𝓜 𝓡 code.env #turns·first-tally first-tally-def.routine
-        code.calls-turns·first-tally (first-tally-thm.met 𝓤 H 𝓜 𝓖 𝓡);
+          code.calls-turns·first-tally (first-tally-thm.met 𝓤 H 𝓜 𝓖 𝓡);
       turn-searching = cited 𝓤 H (TurnSearching w)
-        𝓜 𝓡 code.env #lent·turn-searching turn-searching-def.routine code.calls-lent·turn-searching (turn-searching-thm.met 𝓤 H 𝓜 𝓖 𝓡);
+          𝓜 𝓡 code.env #lent·turn-searching turn-searching-def.routine code.calls-lent·turn-searching (turn-searching-thm.met 𝓤 H 𝓜 𝓖 𝓡);
       add = cited 𝓤 H (Add w) 𝓜 𝓡 code.env #lent·add add-def.routine code.calls-lent·add (add-thm.met 𝓤 H 𝓜 𝓖 𝓡);
       closed = cited 𝓤 H (Closed w) 𝓜 𝓡 code.env #player·closed closed-def.routine code.calls-player·closed (closed-thm.met 𝓤 H 𝓜 𝓖 𝓡);
     }))

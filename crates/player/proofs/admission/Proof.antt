@@ -19,7 +19,7 @@ returns c =
     let a = c .before .before .before .before .before .args in
     let k = c .before .before .before .check .ensures in
     c .refuse .ensures ∙ admission-file (a .file .now) (a .table) (a .report) (a .linearization) _ (ap (λ n. n .number) k)
-      (c .before .if1 .taken)
+    (c .before .if1 .taken)
 
 cast-if2 : tie.Need-cast-if2
 cast-if2 c = search needs
@@ -32,7 +32,7 @@ returns-2 c =
     let a = c .before .before .before .before .before .before .before .args in
     let k = c .before .before .before .before .before .check .ensures in
     c .refuse2 .ensures ∙ admission-short (a .file .now) (a .table) (a .report) (a .linearization)
-      (sym (ap (λ n. n .number) k) ∙ c .before .before .before .if1 .left)
+    (sym (ap (λ n. n .number) k) ∙ c .before .before .before .if1 .left)
     (short-table (meaning (a .file .now) .job) _ _ _ (omega (arith, c .before .if2 .taken, ap (λ n. n .nodes) k)))
 
 cast-if3 : tie.Need-cast-if3
@@ -49,10 +49,10 @@ returns-3 c =
     let a = c .before .before .before .before .before .before .before .before .before .args in
     let k = c .before .before .before .before .before .before .before .check .ensures in
     c .refuse3 .ensures ∙ admission-short (a .file .now) (a .table) (a .report) (a .linearization)
-      (sym (ap (λ n. n .number) k) ∙ c .before .before .before .before .before .if1 .left)
+    (sym (ap (λ n. n .number) k) ∙ c .before .before .before .before .before .if1 .left)
     (short-report (meaning (a .file .now) .job)
-      _ _ _ (omega (arith, c .before .before .before .if2 .left, ap (λ n. n .nodes) k))
-      (omega (arith, c .before .if3 .taken, ap (λ n. n .requests) k)))
+    _ _ _ (omega (arith, c .before .before .before .if2 .left, ap (λ n. n .nodes) k))
+    (omega (arith, c .before .if3 .taken, ap (λ n. n .requests) k)))
 
 cast-if4 : tie.Need-cast-if4
 cast-if4 c = search needs
@@ -74,9 +74,9 @@ returns-4 c =
     let a = start .args in
     let k = checked .check .ensures in
     c .refuse4 .ensures ∙ admission-short (a .file .now) (a .table) (a .report) (a .linearization)
-      (sym (ap (λ n. n .number) k) ∙ tested .if1 .left)
+    (sym (ap (λ n. n .number) k) ∙ tested .if1 .left)
     (short-linearization (meaning (a .file .now) .job) _ _ _ (omega (arith, after-if2 .if2 .left, ap (λ n. n .nodes) k))
-      (omega (arith, after-if3 .if3 .left, ap (λ n. n .requests) k))
+    (omega (arith, after-if3 .if3 .left, ap (λ n. n .requests) k))
     (omega (arith, after-if4 .if4 .taken, ap (λ n. n .requests) k)))
 
 returns-5 : tie.Need-returns-5
@@ -90,7 +90,7 @@ returns-5 c =
     let k = checked .check .ensures in
     k ∙ admission-long (a .file .now) (a .table) (a .report) (a .linearization) (sym (ap (λ n. n .number) k) ∙ tested .if1 .left)
     (long-enough (meaning (a .file .now) .job) _ _ _ (omega (arith, after-if2 .if2 .left, ap (λ n. n .nodes) k))
-      (omega (arith, after-if3 .if3 .left, ap (λ n. n .requests) k))
+    (omega (arith, after-if3 .if3 .left, ap (λ n. n .requests) k))
     (omega (arith, c .if4 .left, ap (λ n. n .requests) k)))
 
 pub admission-spec : {M : Type 1} → statement M

@@ -21,7 +21,7 @@ refuse-requires-2 c κs = search needs
 returns-2 : tie.Need-returns-2
 returns-2 c =
     c .refuse2 .ensures ∙ header-answers (now (c .before .before .before .before .before .args .file))
-      _ (c .before .before .before .if1 .left) (c .before .before .header-refusal .ensures) (c .before .if2 .taken)
+    _ (c .before .before .before .if1 .left) (c .before .before .header-refusal .ensures) (c .before .if2 .taken)
 
 check-records-requires : tie.Need-check-records-requires
 check-records-requires c κs = search needs

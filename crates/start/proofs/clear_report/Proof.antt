@@ -43,7 +43,7 @@ returns c =
     let l = c .before .loop in
     let n = length (now (c .before .before .args .report)) in
     filled-all 0 (λ j. 0) n (l .report) (replicate n 0) (length-replicate n 0) (λ j h. getD-replicate n j 0 0 h) (l .i)
-      (omega arith) (l .inv)
+    (omega arith) (l .inv)
 
 pub clear-report-spec : {M : Type 1} → statement M
 clear-report-spec =

@@ -32,7 +32,7 @@ returns-2 c =
     let told = c .before .before .before .before .before .before .checked in
     let d = given (a .nodes) (a .heads) (now (a .requests)) (now (a .grants)) in
     left-written d (now (a .out)) (told .result) (told .ensures) _ (c .before .before .before .before .if1 .left)
-      (c .before .before .put-file .ensures)
+    (c .before .before .put-file .ensures)
 
 pub write-spec : {M : Type 1} → statement M
 write-spec = tie.close (tie.spec checked-requires returns put-file-requires same-length returns-2)

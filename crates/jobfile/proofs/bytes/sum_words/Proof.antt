@@ -34,7 +34,7 @@ loop-less c = omega arith
 loop-again : tie.Need-loop-again Inv-loop μ-loop
 loop-again c =
     sum-next (c .before .before .before .loop .inv) _ (rw (← c .before .whole-word .ensures) (c .wrapping-add-u16 .ensures))
-      (c .before .before .loop-test .taken)
+    (c .before .before .loop-test .taken)
 
 word-at-requires : tie.Need-word-at-requires Inv-loop μ-loop
 word-at-requires c κs = search needs
@@ -45,7 +45,7 @@ wrapping-add-u16-requires-2 c κs = search needs
 returns : tie.Need-returns Inv-loop μ-loop
 returns c =
     sum-end (c .before .before .before .loop .inv) _ (rw (← c .before .word-at .ensures) (c .wrapping-add-u162 .ensures))
-      (c .before .before .loop-test .left)
+    (c .before .before .loop-test .left)
 
 pub sum-words-spec : {M : Type 1} → statement M
 sum-words-spec =

@@ -27,8 +27,11 @@ mul-result c = let a = c .before .before .before .before .before .args in omega 
 
 add-result : tie.Need-add-result
 add-result c =
-    let a = c .before .before .before .before .before .args in omega (arith, c .before .shared-slice-known3 .given (a .at + 1),
-      c .before .before .before .shared-slice-known2 .given (a .at))
+    let a = c .before .before .before .before .before .args in omega (
+      arith,
+      c .before .shared-slice-known3 .given (a .at + 1),
+      c .before .before .before .shared-slice-known2 .given (a .at),
+    )
 
 returns : tie.Need-returns
 returns c = simp (c .wide2 .ensures, c .before .before .wide .ensures, getD-drop, add-zero)

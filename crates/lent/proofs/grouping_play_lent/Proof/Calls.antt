@@ -101,9 +101,10 @@ module _ (P : Parameters) where
   file-passed = at-name (P .file) (P .file .name) (P .file .entry)
 
   abbrev pub slices-passed : Loans → Lists → RefT (List ℕ) × (RefT (List ℕ) × (RefT (List ℕ) × Unit {0}))
-  slices-passed n b =
-      (at-name (P .table) (n .table .name) (b .table),
-        (at-name (P .report) (n .report .name) (b .report), (at-name (P .linearization) (n .linearization .name) (b .linearization), tt)))
+  slices-passed n b = (
+    at-name (P .table) (n .table .name) (b .table),
+    (at-name (P .report) (n .report .name) (b .report), (at-name (P .linearization) (n .linearization .name) (b .linearization), tt)),
+  )
 
   abbrev pub slice-values : List Val × (List Val × (List Val × Unit {0}))
   slice-values = (slice-value (P .table) ∷ [], (slice-value (P .report) ∷ [], (slice-value (P .linearization) ∷ [], tt)))
@@ -116,8 +117,12 @@ module _ (P : Parameters) where
 
   abbrev pub Exact : Told Plan → Type 0
   Exact z =
-      _≡_ {A = Prepared} (record { table = z .left .table; report = z .left .report; linearization = z .left .linearization;
-        plan = z .result }) (preparedOf (P .file .entry) (P .table .entry) (P .report .entry) (P .linearization .entry))
+      _≡_ {A = Prepared} (record {
+        table = z .left .table;
+        report = z .left .report;
+        linearization = z .left .linearization;
+        plan = z .result;
+      }) (preparedOf (P .file .entry) (P .table .entry) (P .report .entry) (P .linearization .entry))
 
   pub record Prepares (z : Told Plan) : Type 0 where
     pub exact : Exact z
@@ -146,30 +151,30 @@ module _ (w : Setting) (P : Parameters) where
   pub goes-prepare : (n : Loans) → ent 𝓤 (⋆ 𝓤 H A (Passed w P n (lists₀ P))) (Prepare w .pre (to-prepare n))
   goes-prepare n =
       qed W (Passed w P n (lists₀ P)) ∵ nothing ! $ move ! (8 ∷ 0 ∷ []) $ fjoin ! $ move ! (7 ∷ 0 ∷ []) $ fjoin ! $
-        move ! (6 ∷ 0 ∷ []) $ fjoin ! $ move ! (1 ∷ 0 ∷ []) $ fjoin ! $
+      move ! (6 ∷ 0 ∷ []) $ fjoin ! $ move ! (1 ∷ 0 ∷ []) $ fjoin ! $
       nothing ! $ move ! (5 ∷ 0 ∷ []) $ join ! $ move ! (4 ∷ 0 ∷ []) $ join ! $ move ! (3 ∷ 0 ∷ []) $ join ! $
-        move ! (2 ∷ 0 ∷ []) $ join ! $ join ! $ frame ! $ done !
+      move ! (2 ∷ 0 ∷ []) $ join ! $ join ! $ frame ! $ done !
 
   abbrev pub Prepared-with : Loans → Val → Told Plan → List (Item 𝓤)
   Prepared-with n v z = Left w P (row plan-struct .own (z .result) (v ∷ [])) n (z .left)
 
   pub told-prepare : (n : Loans) (v : Val) → ent 𝓤 (Prepare w .post (to-prepare n) v)
-    (H .⇛ (ex 𝓤 (λ (z : Told Plan). guard 𝓤 (Prepares P z) (⋆ 𝓤 H A (Prepared-with n v z)))))
+      (H .⇛ (ex 𝓤 (λ (z : Told Plan). guard 𝓤 (Prepares P z) (⋆ 𝓤 H A (Prepared-with n v z)))))
   told-prepare n v =
       qed W (raw (Prepare w .post (to-prepare n) v) ∷ []) ∵ updating ! $
       use1 W (later (some (λ (r : Plan). (Tokens w P n ⊛ ‵ (row plan-struct .own r (v ∷ [])))
-        ⊛ raw (ensured 𝓤 H A prepare.ended (prepare.clauses 𝓤 H A at-mem run) (lifetimes P n)
-        (file-passed P, slices-passed P n (lists₀ P)) tt r)))) (id⊢ 𝓤 _) $ await ! tt $ pick ! (λ r. split ! $ move ! (1 ∷ []) $
+      ⊛ raw (ensured 𝓤 H A prepare.ended (prepare.clauses 𝓤 H A at-mem run) (lifetimes P n)
+      (file-passed P, slices-passed P n (lists₀ P)) tt r)))) (id⊢ 𝓤 _) $ await ! tt $ pick ! (λ r. split ! $ move ! (1 ∷ []) $
       use1 W (some (λ (zs : Unit {0} × ThreeLists). ‵ (lasts prepare.ended (lifetimes P n)
-        (file-passed P, slices-passed P n (lists₀ P)) zs) ⊛ raw (fact 𝓤 (Exact P (told r (zs .1)) × Bytes (P .file .entry)))))
-        (id⊢ 𝓤 _) $ pick ! (λ zs. split ! $ move ! (1 ∷ []) $
+      (file-passed P, slices-passed P n (lists₀ P)) zs) ⊛ raw (fact 𝓤 (Exact P (told r (zs .1)) × Bytes (P .file .entry)))))
+      (id⊢ 𝓤 _) $ pick ! (λ zs. split ! $ move ! (1 ∷ []) $
       heard ! (Exact P (told r (zs .1)) × Bytes (P .file .entry)) (λ e. fsplit ! $ drop ! $ move ! (1 ∷ 0 ∷ []) $
       -- [the tokens and the result; the last lists]
       cut ((Tokens w P n ⊛ ‵ (row plan-struct .own r (v ∷ []))) ∷ ‵ (Lasts n (lists₀ P) (told r (zs .1) .left)) ∷ [])
-        (given (SameLengths (told r (zs .1) .left) (lists₀ P)) (raw (⋆ 𝓤 H A (Prepared-with n v (told r (zs .1))))) ∷ [])
-        _ (over w P (row plan-struct .own r (v ∷ [])) n (lists₀ P) (told r (zs .1) .left)) $ learn ! (λ same.
+      (given (SameLengths (told r (zs .1) .left) (lists₀ P)) (raw (⋆ 𝓤 H A (Prepared-with n v (told r (zs .1))))) ∷ [])
+      _ (over w P (row plan-struct .own r (v ∷ [])) n (lists₀ P) (told r (zs .1) .left)) $ learn ! (λ same.
       at-once ! $ show ! (λ (z : Told Plan). guard 𝓤 (Prepares P z) (⋆ 𝓤 H A (Prepared-with n v z))) (told r (zs .1)) $
-        check ! (record { exact = e .0; bytes = e .1; same = same }) $ done !))))
+      check ! (record { exact = e .0; bytes = e .1; same = same }) $ done !))))
 
   -- ---- `refused`
 
@@ -211,17 +216,25 @@ module _ (w : Setting) (P : Parameters) where
 
   module _ (counts : Checked) (p : Progress) (b : Lists) where
     abbrev pub to-turn : Loans → TurnSearching w .Ghost
-    to-turn n = ((lifetimes P n, shares P, tt, (file-passed P, (counts, (p, slices-passed P n b))),
-      (slice-value (P .file) ∷ [], (value checked-struct counts ∷ [], (value progress-struct p ∷ [], slice-values P)))), tt)
+    to-turn n = (
+      (
+        lifetimes P n,
+        shares P,
+        tt,
+        (file-passed P, (counts, (p, slices-passed P n b))),
+        (slice-value (P .file) ∷ [], (value checked-struct counts ∷ [], (value progress-struct p ∷ [], slice-values P))),
+      ),
+      tt,
+    )
 
     pub goes-turn : IsValue checked-struct counts → IsValue progress-struct p → TurnableOn (P .file .entry) counts p (b .table)
-      (b .report) (b .linearization) → (n : Loans) → ent 𝓤 (⋆ 𝓤 H A (Passed w P n b)) (TurnSearching w .pre (to-turn n))
+        (b .report) (b .linearization) → (n : Loans) → ent 𝓤 (⋆ 𝓤 H A (Passed w P n b)) (TurnSearching w .pre (to-turn n))
     goes-turn is-counts is-p able n =
         qed W (Passed w P n b) ∵ says ! able $ nothing ! $ move ! (8 ∷ 0 ∷ []) $ fjoin ! $ move ! (7 ∷ 0 ∷ []) $ fjoin ! $
-          move ! (6 ∷ 0 ∷ []) $ fjoin ! $
+        move ! (6 ∷ 0 ∷ []) $ fjoin ! $
         makes ! progress-struct p _ is-p $ fjoin ! $ makes ! checked-struct counts _ is-counts $ fjoin ! $ move ! (1 ∷ 0 ∷ []) $ fjoin ! $
         nothing ! $ move ! (5 ∷ 0 ∷ []) $ join ! $ move ! (4 ∷ 0 ∷ []) $ join ! $ move ! (3 ∷ 0 ∷ []) $ join ! $
-          move ! (2 ∷ 0 ∷ []) $ join ! $ frame ! $ done !
+        move ! (2 ∷ 0 ∷ []) $ join ! $ frame ! $ done !
 
     abbrev pub Turned-with : Loans → Val → Told Progress → List (Item 𝓤)
     Turned-with n v z = Left w P (row progress-struct .own (z .result) (v ∷ [])) n (z .left)
@@ -230,23 +243,23 @@ module _ (w : Setting) (P : Parameters) where
     turn-arguments n = (file-passed P, (counts, (p, slices-passed P n b)))
 
     pub told-turn : (n : Loans) (v : Val) → ent 𝓤 (TurnSearching w .post (to-turn n) v)
-      (H .⇛ (ex 𝓤 (λ (z : Told Progress). guard 𝓤 (Turns P counts p b z) (⋆ 𝓤 H A (Turned-with n v z)))))
+        (H .⇛ (ex 𝓤 (λ (z : Told Progress). guard 𝓤 (Turns P counts p b z) (⋆ 𝓤 H A (Turned-with n v z)))))
     told-turn n v =
         qed W (raw (TurnSearching w .post (to-turn n) v) ∷ []) ∵ updating ! $
         use1 W (later (some (λ (r : Progress). (Tokens w P n ⊛ ‵ (row progress-struct .own r (v ∷ [])))
-          ⊛ raw (ensured 𝓤 H A turn-searching.ended (turn-searching.clauses 𝓤 H A at-mem run) (lifetimes P n)
-          (turn-arguments n) tt r)))) (id⊢ 𝓤 _) $ await ! tt $ pick ! (λ r. split ! $ move ! (1 ∷ []) $
+        ⊛ raw (ensured 𝓤 H A turn-searching.ended (turn-searching.clauses 𝓤 H A at-mem run) (lifetimes P n)
+        (turn-arguments n) tt r)))) (id⊢ 𝓤 _) $ await ! tt $ pick ! (λ r. split ! $ move ! (1 ∷ []) $
         use1 W (some (λ (zs : Unit {0} × (Unit {0} × (Unit {0} × ThreeLists))). ‵ (lasts turn-searching.ended (lifetimes P n)
-          (turn-arguments n) zs) ⊛ raw (fact 𝓤 (Does-turn P counts p b (told r (zs .1 .1 .1)))))) (id⊢ 𝓤 _) $
-          pick ! (λ zs. split ! $ move ! (1 ∷ []) $
+        (turn-arguments n) zs) ⊛ raw (fact 𝓤 (Does-turn P counts p b (told r (zs .1 .1 .1)))))) (id⊢ 𝓤 _) $
+        pick ! (λ zs. split ! $ move ! (1 ∷ []) $
         heard ! (Does-turn P counts p b (told r (zs .1 .1 .1)))
-          (λ e. fsplit ! $ drop ! $ fsplit ! $ drop ! $ fsplit ! $ drop ! $ move ! (1 ∷ 0 ∷ []) $
+        (λ e. fsplit ! $ drop ! $ fsplit ! $ drop ! $ fsplit ! $ drop ! $ move ! (1 ∷ 0 ∷ []) $
         -- [the tokens and the result; the last lists]
         cut ((Tokens w P n ⊛ ‵ (row progress-struct .own r (v ∷ []))) ∷ ‵ (Lasts n b (told r (zs .1 .1 .1) .left)) ∷ [])
-          (given (SameLengths (told r (zs .1 .1 .1) .left) b) (raw (⋆ 𝓤 H A (Turned-with n v (told r (zs .1 .1 .1))))) ∷ [])
-          _ (over w P (row progress-struct .own r (v ∷ [])) n b (told r (zs .1 .1 .1) .left)) $ learn ! (λ same.
+        (given (SameLengths (told r (zs .1 .1 .1) .left) b) (raw (⋆ 𝓤 H A (Turned-with n v (told r (zs .1 .1 .1))))) ∷ [])
+        _ (over w P (row progress-struct .own r (v ∷ [])) n b (told r (zs .1 .1 .1) .left)) $ learn ! (λ same.
         at-once ! $ show ! (λ (z : Told Progress). guard 𝓤 (Turns P counts p b z) (⋆ 𝓤 H A (Turned-with n v z)))
-          (told r (zs .1 .1 .1)) $ check ! (record { does = e; same = same }) $ done !))))
+        (told r (zs .1 .1 .1)) $ check ! (record { does = e; same = same }) $ done !))))
 
   -- ---- `add`, on the tally lent on
 
@@ -258,52 +271,68 @@ module _ (w : Setting) (P : Parameters) where
     tally⁺ = countedOf h (p .done) (p .mask)
 
     abbrev pub to-add : Add w .Ghost
-    to-add = (((n .lifetime ∷ [], tt), (fullShare, tt), tt, (at-name (P .tally) (n .name) h, (p, tt)),
-      (tally-pointer P ∷ [], (value progress-struct p ∷ [], tt))), tt)
+    to-add = (
+      (
+        (n .lifetime ∷ [], tt),
+        (fullShare, tt),
+        tt,
+        (at-name (P .tally) (n .name) h, (p, tt)),
+        (tally-pointer P ∷ [], (value progress-struct p ∷ [], tt)),
+      ),
+      tt,
+    )
 
     pub goes-add : Addable h → ent 𝓤 (sep 𝓤 (A .lft (n .lifetime ∷ []) fullShare)
-      (sep 𝓤 (sem 𝓤 H A TallyLent) (sem 𝓤 H A (row progress-struct .own p (value progress-struct p ∷ []))))) (Add w .pre to-add)
+        (sep 𝓤 (sem 𝓤 H A TallyLent) (sem 𝓤 H A (row progress-struct .own p (value progress-struct p ∷ []))))) (Add w .pre to-add)
     goes-add roomy =
         qed W (‵ (flft (n .lifetime ∷ []) fullShare) ∷ ‵ TallyLent
-          ∷ ‵ (row progress-struct .own p (value progress-struct p ∷ [])) ∷ []) ∵ says ! roomy $ nothing ! $
-          move ! (1 ∷ 0 ∷ []) $ join ! $ frame ! $
+        ∷ ‵ (row progress-struct .own p (value progress-struct p ∷ [])) ∷ []) ∵ says ! roomy $ nothing ! $
+        move ! (1 ∷ 0 ∷ []) $ join ! $ frame ! $
         nothing ! $ move ! (2 ∷ 0 ∷ []) $ fjoin ! $ move ! (1 ∷ 0 ∷ []) $ fjoin ! $ done !
 
     -- the token, and the last value of the tally lent on
     pub told-add : (v : Val) → ent 𝓤 (Add w .post to-add v)
-      (H .⇛ (guard 𝓤 (v ≡ vunit) (sep 𝓤 (A .lft (n .lifetime ∷ []) fullShare) (A .res (n .name) (row tally-struct .coded .code tally⁺)))))
+        (H .⇛ (guard 𝓤 (v ≡ vunit) (sep 𝓤 (A .lft (n .lifetime ∷ []) fullShare) (A .res (n .name) (row tally-struct .coded .code tally⁺)))))
     told-add v =
         qed W (raw (Add w .post to-add v) ∷ []) ∵ updating ! $
         use1 W (later (some (λ (r : Unit {0}). ((‵ (flft (n .lifetime ∷ []) fullShare) ⊛ ‵ ftrue) ⊛ ‵ (Nothing .own r (v ∷ [])))
-          ⊛ raw (ensured 𝓤 H A add.ended (add.clauses 𝓤 H A at-mem run) (n .lifetime ∷ [], tt)
-          (at-name (P .tally) (n .name) h, (p, tt)) tt r)))) (id⊢ 𝓤 _) $ await ! tt $ pick ! (λ r. split ! $ move ! (1 ∷ []) $
+        ⊛ raw (ensured 𝓤 H A add.ended (add.clauses 𝓤 H A at-mem run) (n .lifetime ∷ [], tt)
+        (at-name (P .tally) (n .name) h, (p, tt)) tt r)))) (id⊢ 𝓤 _) $ await ! tt $ pick ! (λ r. split ! $ move ! (1 ∷ []) $
         use1 W (some (λ (zs : Tally × (Unit {0} × Unit {0})). ‵ (lasts add.ended (n .lifetime ∷ [], tt)
-          (at-name (P .tally) (n .name) h, (p, tt)) zs) ⊛ raw (fact 𝓤 (zs .0 ≡ tally⁺)))) (id⊢ 𝓤 _) $
-          pick ! (λ zs. split ! $ move ! (1 ∷ []) $
+        (at-name (P .tally) (n .name) h, (p, tt)) zs) ⊛ raw (fact 𝓤 (zs .0 ≡ tally⁺)))) (id⊢ 𝓤 _) $
+        pick ! (λ zs. split ! $ move ! (1 ∷ []) $
         heard ! (zs .0 ≡ tally⁺) (λ e. fsplit ! $ rewrite ! 0 (λ (u : Tally). ‵ (fres (n .name) (row tally-struct .coded .code u))) e refl $
         -- [the last value; true; the token and the result]
         move ! (2 ∷ []) $ split ! $ move ! (1 ∷ []) $
-          feqL ! (λ u. at-once ! $ check ! (ap only u) $ split ! $ keep ! (0 ∷ 2 ∷ []) $ done !))))
+        feqL ! (λ u. at-once ! $ check ! (ap only u) $ split ! $ keep ! (0 ∷ 2 ∷ []) $ done !))))
 
   -- ---- `closed`
 
   module _ (counts : Checked) (p : Progress) (h : Tally) where
     abbrev pub to-closed : Closed w .Ghost
-    to-closed = ((tt, tt, tt, (counts, (p, (h, tt))),
-      (value checked-struct counts ∷ [], (value progress-struct p ∷ [], (value tally-struct h ∷ [], tt)))), tt)
+    to-closed = (
+      (
+        tt,
+        tt,
+        tt,
+        (counts, (p, (h, tt))),
+        (value checked-struct counts ∷ [], (value progress-struct p ∷ [], (value tally-struct h ∷ [], tt))),
+      ),
+      tt,
+    )
 
     pub goes-closed : ent 𝓤 (sep 𝓤 (sem 𝓤 H A (row checked-struct .own counts (value checked-struct counts ∷ [])))
-      (sep 𝓤 (sem 𝓤 H A (row progress-struct .own p (value progress-struct p ∷ [])))
-      (sem 𝓤 H A (row tally-struct .own h (value tally-struct h ∷ []))))) (Closed w .pre to-closed)
+        (sep 𝓤 (sem 𝓤 H A (row progress-struct .own p (value progress-struct p ∷ [])))
+        (sem 𝓤 H A (row tally-struct .own h (value tally-struct h ∷ []))))) (Closed w .pre to-closed)
     goes-closed =
         qed W (‵ (row checked-struct .own counts (value checked-struct counts ∷ []))
-          ∷ ‵ (row progress-struct .own p (value progress-struct p ∷ [])) ∷ ‵ (row tally-struct .own h (value tally-struct h ∷ [])) ∷ []) ∵
+        ∷ ‵ (row progress-struct .own p (value progress-struct p ∷ [])) ∷ ‵ (row tally-struct .own h (value tally-struct h ∷ [])) ∷ []) ∵
         nothing ! $ move ! (3 ∷ 0 ∷ []) $ fjoin ! $ move ! (2 ∷ 0 ∷ []) $ fjoin ! $ move ! (1 ∷ 0 ∷ []) $ fjoin ! $ nothing ! $
-          join ! $ frame ! $ done !
+        join ! $ frame ! $ done !
 
     pub told-closed : (v : Val) → ent 𝓤 (Closed w .post to-closed v)
-      (H .⇛ (ex 𝓤 (Returned w played-struct (λ r. r ≡ closedOf counts p h) v)))
+        (H .⇛ (ex 𝓤 (Returned w played-struct (λ r. r ≡ closedOf counts p h) v)))
     told-closed v =
         told-value w played-struct (λ r. r ≡ closedOf counts p h)
-          v (ensured 𝓤 H A closed.ended (closed.clauses 𝓤 H A at-mem run) tt (counts, (p, (h, tt))) tt)
+        v (ensured 𝓤 H A closed.ended (closed.clauses 𝓤 H A at-mem run) tt (counts, (p, (h, tt))) tt)
         (λ r. exE 𝓤 _ (λ ws. snd∗ 𝓤 (sem 𝓤 H A (lasts closed.ended tt (counts, (p, (h, tt))) ws)) (fact 𝓤 (r ≡ closedOf counts p h))))

@@ -42,11 +42,16 @@ use Rattle.lent.proofs.grouping_play_lent.Proof.Held.{Parameters, Lists
 use Rattle.lent.proofs.grouping_play_lent.Proof.Calls.{Known}
 
 abbrev pub stayed : Stays (f.ended .signature .params) (f.ended .kept)
-stayed =
-    (stay-none-slice (0 ∷ []) tt (plain (λ _. u8)) yes,
-      (stay-slice (1 ∷ []) tt (plain (λ _. u32)),
-      (stay-slice (2 ∷ []) tt (plain (λ _. u32)),
-      (stay-slice (3 ∷ []) tt (plain (λ _. u32)), (stay-ref (4 ∷ []) tt (plain (λ _. row tally-struct)), tt)))))
+stayed = (
+  stay-none-slice (0 ∷ []) tt (plain (λ _. u8)) yes,
+  (
+    stay-slice (1 ∷ []) tt (plain (λ _. u32)),
+    (
+      stay-slice (2 ∷ []) tt (plain (λ _. u32)),
+      (stay-slice (3 ∷ []) tt (plain (λ _. u32)), (stay-ref (4 ∷ []) tt (plain (λ _. row tally-struct)), tt)),
+    ),
+  ),
+)
 
 -- the type of a local
 abbrev pub tyOf : Local → Ty
@@ -85,9 +90,13 @@ module _ (P : Parameters) where
   x = (passed (P .file), (passed (P .table), (passed (P .report), (passed (P .linearization), (passed (P .tally), tt)))))
 
   abbrev pub at : List Val × (List Val × (List Val × (List Val × (List Val × Unit {0}))))
-  at =
-      (slice-value (P .file) ∷ [], (slice-value (P .table) ∷ [],
-        (slice-value (P .report) ∷ [], (slice-value (P .linearization) ∷ [], (tally-pointer P ∷ [], tt)))))
+  at = (
+    slice-value (P .file) ∷ [],
+    (
+      slice-value (P .table) ∷ [],
+      (slice-value (P .report) ∷ [], (slice-value (P .linearization) ∷ [], (tally-pointer P ∷ [], tt))),
+    ),
+  )
 
   abbrev pub values : List Val
   values = slice-value (P .file) ∷ slice-value (P .table) ∷ slice-value (P .report) ∷ slice-value (P .linearization) ∷ tally-pointer P ∷ []
@@ -119,7 +128,7 @@ module _ (w : Setting) (L : ℕ → ℕ) where
       room 13 ∷ dies 13 ∷ room 12 ∷ dies 12 ∷ room 11 ∷ dies 11 ∷ room 10 ∷ dies 10 ∷ room 9 ∷ dies 9 ∷
       c8 ∷ dies 8 ∷ c7 ∷ dies 7 ∷ c6 ∷ dies 6 ∷ full 5 (tally-pointer P) ∷ dies 5 ∷ full 4 (slice-value (P .linearization)) ∷ dies 4 ∷
       full 3 (slice-value (P .report)) ∷ dies 3 ∷ full 2 (slice-value (P .table)) ∷ dies 2 ∷ full 1 (slice-value (P .file))
-        ∷ dies 1 ∷ room 0 ∷ dies 0 ∷ []
+      ∷ dies 1 ∷ room 0 ∷ dies 0 ∷ []
 
   -- every local, empty
   abbrev pub Rooms : List (Item 𝓤)
@@ -160,7 +169,7 @@ module _ (w : Setting) (P : Parameters) where
         -- [what is had of the parameters; the tokens; the answer]
         move ! (0 ∷ 2 ∷ []) $ join ! $ move ! (1 ∷ 0 ∷ []) $ join ! $ frame ! $
         use0 W (raw (fact 𝓤 _)) (factI 𝓤 _ (emp 𝓤) (e .played .lawful)) $ use0 W (raw (fact 𝓤 _))
-          (factI 𝓤 _ (emp 𝓤) (e .played .linearized)) $
+        (factI 𝓤 _ (emp 𝓤) (e .played .linearized)) $
         use0 W (raw (fact 𝓤 _)) (factI 𝓤 _ (emp 𝓤) (e .counted)) $ use0 W (raw (fact 𝓤 _)) (factI 𝓤 _ (emp 𝓤) (e .played .exact)) $ done !
 
     pub ends : (L : ℕ → ℕ) → Sq W (AtExit b h r v ++ Rooms w L) (frees (En w L) (prop (Post v)))

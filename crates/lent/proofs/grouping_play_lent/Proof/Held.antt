@@ -60,8 +60,8 @@ pub record Loans : Type 0 where
 abbrev pub Lasts : Loans → Lists → Lists → Fml
 Lasts n b b′ =
     fsep (SliceLast (n .table) (b .table) (b′ .table))
-      (fsep (SliceLast (n .report) (b .report) (b′ .report))
-      (fsep (SliceLast (n .linearization) (b .linearization) (b′ .linearization)) ftrue))
+    (fsep (SliceLast (n .report) (b .report) (b′ .report))
+    (fsep (SliceLast (n .linearization) (b .linearization) (b′ .linearization)) ftrue))
 
 abbrev pub lists₀ : Parameters → Lists
 lists₀ P = record { table = P .table .entry; report = P .report .entry; linearization = P .linearization .entry }
@@ -101,12 +101,12 @@ module _ (w : Setting) (P : Parameters) where
   Passed n b =
       ‵ (FileHeld P) ∷ token (P .file) ∷ loan-token (n .table) ∷ loan-token (n .report) ∷ loan-token (n .linearization)
       ∷ ‵ (SliceLent 1 (P .table) (n .table) (b .table)) ∷ ‵ (SliceLent 2 (P .report) (n .report) (b .report))
-        ∷ ‵ (SliceLent 3 (P .linearization) (n .linearization) (b .linearization)) ∷ []
+      ∷ ‵ (SliceLent 3 (P .linearization) (n .linearization) (b .linearization)) ∷ []
 
   abbrev pub Kept : Loans → Lists → List (Item 𝓤)
   Kept n b =
       ‵ (SliceKept (P .table) (n .table) (b .table)) ∷ ‵ (SliceKept (P .report) (n .report) (b .report))
-        ∷ ‵ (SliceKept (P .linearization) (n .linearization) (b .linearization)) ∷ []
+      ∷ ‵ (SliceKept (P .linearization) (n .linearization) (b .linearization)) ∷ []
 
   abbrev pub Lending : Loans → Lists → List (Item 𝓤)
   Lending n b = Passed n b ++ ‵ (FileHeld P) ∷ Kept n b
@@ -115,7 +115,7 @@ module _ (w : Setting) (P : Parameters) where
   Over n b =
       loan-token (n .table) ∷ loan-token (n .report) ∷ loan-token (n .linearization)
       ∷ ‵ (finally u32 (n .table .name) (b .table)) ∷ ‵ (finally u32 (n .report .name) (b .report))
-        ∷ ‵ (finally u32 (n .linearization .name) (b .linearization)) ∷ []
+      ∷ ‵ (finally u32 (n .linearization .name) (b .linearization)) ∷ []
 
   -- the tokens of the file and of the slices lent on, as a call takes them and gives them back
   abbrev pub Tokens : Loans → Item 𝓤
@@ -132,41 +132,41 @@ module _ (w : Setting) (P : Parameters) where
   lends b e =
       qed W (Buffers b) ∵ updating ! $
       use1 W (‵ (FileHeld P) ⊛ ‵ (FileHeld P)) (shr-slice-copy 𝓤 H A W (named 0)
-        (P .file .lifetime) u8 .twice (at-name (P .file) (P .file .name) (P .file .entry)) (slice-value (P .file) ∷ [])) $ split ! $
+      (P .file .lifetime) u8 .twice (at-name (P .file) (P .file .name) (P .file .entry)) (slice-value (P .file) ∷ [])) $ split ! $
       lft-new ! tt (λ ν₁. move ! (4 ∷ 5 ∷ []) $ use2 W (Offered 1 (P .table) (b .table) ν₁)
-        (slice-lends w 1 (P .table) (b .table) (e .table) ν₁) $ await ! tt $ pick ! (λ δ₁. split ! $
+      (slice-lends w 1 (P .table) (b .table) (e .table) ν₁) $ await ! tt $ pick ! (λ δ₁. split ! $
       lft-new ! tt (λ ν₂. move ! (7 ∷ 8 ∷ []) $ use2 W (Offered 2 (P .report) (b .report) ν₂)
-        (slice-lends w 2 (P .report) (b .report) (e .report) ν₂) $ await ! tt $ pick ! (λ δ₂. split ! $
+      (slice-lends w 2 (P .report) (b .report) (e .report) ν₂) $ await ! tt $ pick ! (λ δ₂. split ! $
       lft-new ! tt (λ ν₃. move ! (10 ∷ 11 ∷ []) $ use2 W (Offered 3 (P .linearization) (b .linearization) ν₃)
-        (slice-lends w 3 (P .linearization) (b .linearization) (e .linearization) ν₃) $ await ! tt $ pick ! (λ δ₃. split ! $
+      (slice-lends w 3 (P .linearization) (b .linearization) (e .linearization) ν₃) $ await ! tt $ pick ! (λ δ₃. split ! $
       -- [the slices lent on and what is kept, from the last; the file twice; its token]
       at-once ! $ show ! (λ (n : Loans). ⋆ 𝓤 H A (Lending n b))
-        (record { table = loan ν₁ δ₁; report = loan ν₂ δ₂; linearization = loan ν₃ δ₃ }) $
+      (record { table = loan ν₁ δ₁; report = loan ν₂ δ₂; linearization = loan ν₃ δ₃ }) $
       move ! (9 ∷ 11 ∷ 8 ∷ 5 ∷ 2 ∷ 6 ∷ 3 ∷ 0 ∷ 10 ∷ 7 ∷ 4 ∷ 1 ∷ []) $ done !))))))
 
   pub comes : (n : Loans) (b b′ : Lists) → SameLengths b (lists₀ P) → SameLengths b′ b → ent 𝓤 (⋆ 𝓤 H A (Over n b′ ++ Kept n b))
-    (H .⇛ (⋆ 𝓤 H A (Back b′)))
+      (H .⇛ (⋆ 𝓤 H A (Back b′)))
   comes n b b′ e e′ =
       qed W (Over n b′ ++ Kept n b) ∵ updating ! $ lft-end ! tt $ move ! (0 ∷ 6 ∷ 3 ∷ []) $
       use3 W (later (‵ (SliceHeld 1 (P .table) (b′ .table)) ⊛ token (P .table)))
-        (slice-comes w 1 (P .table) (b .table) (e .table) (n .table) (b′ .table) (P .table-room) (e′ .table)) $ await ! tt $ split ! $
+      (slice-comes w 1 (P .table) (b .table) (e .table) (n .table) (b′ .table) (P .table-room) (e′ .table)) $ await ! tt $ split ! $
       move ! (2 ∷ []) $ lft-end ! tt $ move ! (0 ∷ 6 ∷ 4 ∷ []) $
       use3 W (later (‵ (SliceHeld 2 (P .report) (b′ .report)) ⊛ token (P .report)))
-        (slice-comes w 2 (P .report) (b .report) (e .report) (n .report) (b′ .report) (P .report-room) (e′ .report)) $
-        await ! tt $ split ! $
+      (slice-comes w 2 (P .report) (b .report) (e .report) (n .report) (b′ .report) (P .report-room) (e′ .report)) $
+      await ! tt $ split ! $
       move ! (4 ∷ []) $ lft-end ! tt $ move ! (0 ∷ 6 ∷ 5 ∷ []) $
       use3 W (later (‵ (SliceHeld 3 (P .linearization) (b′ .linearization)) ⊛ token (P .linearization)))
-        (slice-comes w 3 (P .linearization) (b .linearization) (e .linearization) (n .linearization) (b′ .linearization)
-        (P .linearization-room) (e′ .linearization)) $ await ! tt $ split ! $
+      (slice-comes w 3 (P .linearization) (b .linearization) (e .linearization) (n .linearization) (b′ .linearization)
+      (P .linearization-room) (e′ .linearization)) $ await ! tt $ split ! $
       at-once ! $ move ! (4 ∷ 5 ∷ 2 ∷ 3 ∷ 0 ∷ 1 ∷ []) $ done !
 
   pub over : (own : Fml) (n : Loans) (b b′ : Lists) → ent 𝓤 (⋆ 𝓤 H A ((Tokens n ⊛ ‵ own) ∷ ‵ (Lasts n b b′) ∷ []))
-    (guard 𝓤 (SameLengths b′ b) (⋆ 𝓤 H A (Left own n b′)))
+      (guard 𝓤 (SameLengths b′ b) (⋆ 𝓤 H A (Left own n b′)))
   over own n b b′ =
       qed W ((Tokens n ⊛ ‵ own) ∷ ‵ (Lasts n b b′) ∷ []) ∵ move ! (1 ∷ []) $
       fsplit ! $ fsplit ! $ move ! (1 ∷ []) $ feqL ! (λ table. move ! (1 ∷ []) $ fsplit ! $ fsplit ! $ move ! (1 ∷ []) $
-        feqL ! (λ report. move ! (1 ∷ []) $ fsplit ! $ fsplit ! $ move ! (1 ∷ []) $ feqL ! (λ linearization.
+      feqL ! (λ report. move ! (1 ∷ []) $ fsplit ! $ fsplit ! $ move ! (1 ∷ []) $ feqL ! (λ linearization.
       -- [true and the last lists, from the last; the tokens and the result]
       move ! (4 ∷ []) $ split ! $ split ! $ move ! (1 ∷ []) $ split ! $ move ! (1 ∷ []) $ split ! $ move ! (1 ∷ []) $ split ! $
       check ! (record { table = table; report = report; linearization = linearization }) $
-        keep ! (5 ∷ 4 ∷ 3 ∷ 2 ∷ 0 ∷ 9 ∷ 8 ∷ 6 ∷ []) $ done !)))
+      keep ! (5 ∷ 4 ∷ 3 ∷ 2 ∷ 0 ∷ 9 ∷ 8 ∷ 6 ∷ []) $ done !)))

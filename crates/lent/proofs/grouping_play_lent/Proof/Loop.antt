@@ -83,7 +83,7 @@ module _ (w : Setting) (P : Parameters) (known : Known w) (L : ℕ → ℕ) (cou
   abbrev Inside : Progress → Lists → Tally → List (Item 𝓤)
   Inside p b h =
       Buffers w P b ++ Owner w P h ++ Locals w L P (full w L 8 (value progress-struct p))
-        (full w L 7 (value checked-struct counts)) (room w L 6)
+      (full w L 7 (value checked-struct counts)) (room w L 6)
 
   abbrev Place : Type 0
   Place = (a : Here P counts) × IsValue progress-struct (a .progress)
@@ -125,8 +125,8 @@ module _ (w : Setting) (P : Parameters) (known : Known w) (L : ℕ → ℕ) (cou
         (and-then ! (load ! (from ! (stop !)) (look ! 48 refl))
         (and-then ! (load ! (from ! (stop !)) (look ! 46 refl)) (and-then ! (load ! (from ! (stop !)) (look ! 30 refl)) (no-more !)))) (λ v.
         use1 W (later (some (λ (r : Played). given (r ≡ closedOf counts (a .progress) (a .tally))
-          (‵ (row played-struct .own r (v ∷ [])))))) (told-closed w P counts (a .progress) (a .tally) v) $ await ! tt $
-          pick ! (λ r. learn ! (λ e.
+        (‵ (row played-struct .own r (v ∷ [])))))) (told-closed w P counts (a .progress) (a .tally) v) $ await ! tt $
+        pick ! (λ r. learn ! (λ e.
         -- [what the answer owns; obs; the borrow; the token; the file and the slices; the locals]
         sees ! played-struct r (v ∷ []) (λ is. land ! (from ! (stop !)) (init ! 62 refl (typed W played-struct r is)) $
         returns ! (look ! 62 refl) $
@@ -136,7 +136,7 @@ module _ (w : Setting) (P : Parameters) (known : Known w) (L : ℕ → ℕ) (cou
 
     abbrev TallyKept : ℕ → GName → Fml
     TallyKept ν δ = LentRef (row tally-struct) (P .tally .lifetime) (ν ∷ []) (P .tally .share) (P .tally .name)
-      (P .tally .block) (P .tally .offset) δ (a .tally)
+        (P .tally .block) (P .tally .offset) δ (a .tally)
 
     module _ (more : a .progress .number < counts .grants) where
       -- the tally is lent on to `add`, and the turn ends
@@ -147,19 +147,19 @@ module _ (w : Setting) (P : Parameters) (known : Known w) (L : ℕ → ℕ) (cou
           assigns ! (addr ! (from ! (hop ! (look ! 50 refl) (stop !)))) (from ! (stop !)) (init ! 10 refl (tt, tt)) $
           move ! (8 ∷ 9 ∷ []) $ lft-new ! tt (λ ν. move ! (1 ∷ 2 ∷ []) $
           use2 W (later (some (λ (δ : GName). ‵ (TallyLent w P (a .tally) (z .result) (loan ν δ)) ⊛ ‵ (TallyKept ν δ))))
-            (lends-ref-again 𝓤 H A W (row tally-struct) (named 4) (P .tally .lifetime) (ν ∷ []) (P .tally .share)
-            (P .tally .name) (P .tally .block) (P .tally .offset) (named 0) (a .tally)) $ await ! tt $ pick ! (λ δ. split ! $
+          (lends-ref-again 𝓤 H A W (row tally-struct) (named 4) (P .tally .lifetime) (ν ∷ []) (P .tally .share)
+          (P .tally .name) (P .tally .block) (P .tally .offset) (named 0) (a .tally)) $ await ! tt $ pick ! (λ δ. split ! $
           makes ! progress-struct (z .result) _ is-p $ move ! (3 ∷ 1 ∷ 0 ∷ []) $
           use3 W (raw (Add w .pre (to-add w P (a .tally) (z .result) (loan ν δ)))) (goes-add w P (a .tally) (z .result) (loan ν δ) roomy) $
           calls-at-last ! fm (Add w) (known .add) (to-add w P (a .tally) (z .result) (loan ν δ))
-            (and-then ! (load ! (from ! (stop !)) (look ! 10 refl))
-            (and-then ! (load ! (from ! (stop !)) (look ! 44 refl)) (no-more !))) (λ v.
+          (and-then ! (load ! (from ! (stop !)) (look ! 10 refl))
+          (and-then ! (load ! (from ! (stop !)) (look ! 44 refl)) (no-more !))) (λ v.
           use1 W (later (given (v ≡ vunit) (‵ (flft (ν ∷ []) fullShare) ⊛ ‵ (fres δ (row tally-struct .coded .code h′)))))
-            (told-add w P (a .tally) (z .result) (loan ν δ) v) $ await ! tt $ learn ! (λ e. split ! $
+          (told-add w P (a .tally) (z .result) (loan ν δ) v) $ await ! tt $ learn ! (λ e. split ! $
           lft-end ! tt $ move ! (0 ∷ 2 ∷ 1 ∷ []) $
           use3 W (later (‵ (TallyHeld P h′) ⊛ ‵ (flft (P .tally .lifetime) (P .tally .share))))
-            (comes-ref-back 𝓤 H A W (row tally-struct) (named 4) (P .tally .lifetime) (ν ∷ []) (P .tally .share)
-            (P .tally .name) (P .tally .block) (P .tally .offset) δ (a .tally) h′) $ await ! tt $ split ! $
+          (comes-ref-back 𝓤 H A W (row tally-struct) (named 4) (P .tally .lifetime) (ν ∷ []) (P .tally .share)
+          (P .tally .name) (P .tally .block) (P .tally .offset) δ (a .tally) h′) $ await ! tt $ split ! $
           -- [the tally and its token; the file and the slices; the locals]
           land-last ! (from ! (stop !)) (init ! 12 refl (subst (λ (y : Val). Holds (hasTy tyUnit y) × WT y) (sym e) (tt, tt))) $
           forget ! 10 refl $ forget ! 12 refl $ move ! (2 ∷ 3 ∷ 4 ∷ 5 ∷ 6 ∷ 7 ∷ 8 ∷ 9 ∷ []) $
@@ -173,71 +173,75 @@ module _ (w : Setting) (P : Parameters) (known : Known w) (L : ℕ → ℕ) (cou
 
           next : Here P counts
           next = along-next (entry P) counts a more (z .result) (z .left .table) (z .left .report)
-            (z .left .linearization) h′ (turned .same .table) (turned .same .report) (turned .same .linearization) (turned .does) refl
+              (z .left .linearization) h′ (turned .same .table) (turned .same .report) (turned .same .linearization) (turned .does) refl
 
           nearer : counts .grants - z .result .number < counts .grants - a .progress .number
-          nearer = omega (arith, more, along-number (entry P) counts a more (z .result) (z .left .table) (z .left .report)
-            (z .left .linearization) h′ (turned .same .table) (turned .same .report) (turned .same .linearization) (turned .does) refl)
+          nearer = omega (
+            arith,
+            more,
+            along-number (entry P) counts a more (z .result) (z .left .table) (z .left .report)
+                (z .left .linearization) h′ (turned .same .table) (turned .same .report) (turned .same .linearization) (turned .does) refl,
+          )
 
       -- the slices are lent on to `turn_searching`, and come back
       turning : ltb (a .progress .number) (counts .grants) ≡ true → Sq W (At s) (runs C Λ (En w L) mir-of.turn-1 (anyQ (Turned s)))
       turning test =
           assigns ! (bin ! (load ! (from ! (fld ! refl (stop !))) (look-in ! 44 (sub ! 3 refl (whole !))))
-            (load ! (from ! (fld ! refl (stop !))) (look-in ! 46 (sub ! 4 refl (whole !)))) tt) (from ! (stop !))
-            (init ! 26 refl (tt, tt)) $
+          (load ! (from ! (fld ! refl (stop !))) (look-in ! 46 (sub ! 4 refl (whole !)))) tt) (from ! (stop !))
+          (init ! 26 refl (tt, tt)) $
           rewrite ! 26 (λ (c : Bool). ‵ (fat fullShare (τ 17) (L 17) 0 (vbool c))) test refl $
-            stays ! (load ! (from ! (stop !)) (look ! 26 refl)) $
+          stays ! (load ! (from ! (stop !)) (look ! 26 refl)) $
           assigns ! (addr ! (from ! (fld ! refl (hop ! (look-in ! 56 (sub ! 0 refl (whole !))) (stop !))))) (from ! (stop !))
-            (init ! 24 refl (tt, tt)) $
+          (init ! 24 refl (tt, tt)) $
           assigns ! (agg ! (and-then ! (load ! (from ! (stop !)) (look ! 24 refl))
-            (and-then ! (load ! (from ! (fld ! refl (stop !))) (look-in ! 56 (sub ! 1 refl (whole !)))) (no-more !))))
-            (from ! (stop !)) (init ! 22 refl (tt, (tt, (record { fits = P .table-room .0 }, tt)))) $
+          (and-then ! (load ! (from ! (fld ! refl (stop !))) (look-in ! 56 (sub ! 1 refl (whole !)))) (no-more !))))
+          (from ! (stop !)) (init ! 22 refl (tt, (tt, (record { fits = P .table-room .0 }, tt)))) $
           assigns ! (addr ! (from ! (fld ! refl (hop ! (look-in ! 54 (sub ! 0 refl (whole !))) (stop !))))) (from ! (stop !))
-            (init ! 20 refl (tt, tt)) $
+          (init ! 20 refl (tt, tt)) $
           assigns ! (agg ! (and-then ! (load ! (from ! (stop !)) (look ! 20 refl))
-            (and-then ! (load ! (from ! (fld ! refl (stop !))) (look-in ! 54 (sub ! 1 refl (whole !)))) (no-more !))))
-            (from ! (stop !)) (init ! 18 refl (tt, (tt, (record { fits = P .report-room .0 }, tt)))) $
+          (and-then ! (load ! (from ! (fld ! refl (stop !))) (look-in ! 54 (sub ! 1 refl (whole !)))) (no-more !))))
+          (from ! (stop !)) (init ! 18 refl (tt, (tt, (record { fits = P .report-room .0 }, tt)))) $
           assigns ! (addr ! (from ! (fld ! refl (hop ! (look-in ! 52 (sub ! 0 refl (whole !))) (stop !))))) (from ! (stop !))
-            (init ! 16 refl (tt, tt)) $
+          (init ! 16 refl (tt, tt)) $
           assigns ! (agg ! (and-then ! (load ! (from ! (stop !)) (look ! 16 refl))
-            (and-then ! (load ! (from ! (fld ! refl (stop !))) (look-in ! 52 (sub ! 1 refl (whole !)))) (no-more !))))
-            (from ! (stop !)) (init ! 14 refl (tt, (tt, (record { fits = P .linearization-room .0 }, tt)))) $
+          (and-then ! (load ! (from ! (fld ! refl (stop !))) (look-in ! 52 (sub ! 1 refl (whole !)))) (no-more !))))
+          (from ! (stop !)) (init ! 14 refl (tt, (tt, (record { fits = P .linearization-room .0 }, tt)))) $
           cut (Buffers w P b) (later (some (λ (n : Loans). raw (⋆ 𝓤 H A (Lending w P n b)))) ∷ [])
-            _ (lends w P b (long P counts a)) $ await ! tt $ pick ! (λ n.
+          _ (lends w P b (long P counts a)) $ await ! tt $ pick ! (λ n.
           cut (raw (⋆ 𝓤 H A (Lending w P n b)) ∷ []) (Lending w P n b) _ (id⊢ 𝓤 _) $
           cut (Passed w P n b) (raw (TurnSearching w .pre (to-turn w P counts (a .progress) b n)) ∷ [])
-            _ (goes-turn w P counts (a .progress) b is-counts (s .1) (along-turnable (entry P) counts a more) n) $
+          _ (goes-turn w P counts (a .progress) b is-counts (s .1) (along-turnable (entry P) counts a more) n) $
           calls-at ! fm (TurnSearching w) (known .turn-searching) (to-turn w P counts (a .progress) b n)
           (and-then ! (load ! (from ! (stop !)) (look ! 55 refl))
-            (and-then ! (load ! (from ! (stop !)) (look ! 43 refl))
-            (and-then ! (load ! (from ! (stop !)) (look ! 41 refl))
-            (and-then ! (load ! (from ! (stop !)) (look ! 19 refl))
-            (and-then ! (load ! (from ! (stop !)) (look ! 15 refl))
-            (and-then ! (load ! (from ! (stop !)) (look ! 11 refl)) (no-more !))))))) (λ v.
+          (and-then ! (load ! (from ! (stop !)) (look ! 43 refl))
+          (and-then ! (load ! (from ! (stop !)) (look ! 41 refl))
+          (and-then ! (load ! (from ! (stop !)) (look ! 19 refl))
+          (and-then ! (load ! (from ! (stop !)) (look ! 15 refl))
+          (and-then ! (load ! (from ! (stop !)) (look ! 11 refl)) (no-more !))))))) (λ v.
           use1 W (later (some (λ (z : Told Progress). given (Turns P counts (a .progress) b z)
-            (raw (⋆ 𝓤 H A (Turned-with w P counts (a .progress) b n v z)))))) (told-turn w P counts (a .progress) b n v) $
-            await ! tt $ pick ! (λ z. learn ! (λ turned.
+          (raw (⋆ 𝓤 H A (Turned-with w P counts (a .progress) b n v z)))))) (told-turn w P counts (a .progress) b n v) $
+          await ! tt $ pick ! (λ z. learn ! (λ turned.
           cut (raw (⋆ 𝓤 H A (Turned-with w P counts (a .progress) b n v z)) ∷ [])
-            (Turned-with w P counts (a .progress) b n v z) _ (id⊢ 𝓤 _) $
+          (Turned-with w P counts (a .progress) b n v z) _ (id⊢ 𝓤 _) $
           sees ! progress-struct (z .result) (v ∷ [])
-            (λ is. land ! (from ! (stop !)) (store ! 48 refl (typed W progress-struct (z .result) is)) $
+          (λ is. land ! (from ! (stop !)) (store ! 48 refl (typed W progress-struct (z .result) is)) $
           rewrite ! 48 (λ (u : Val). ‵ (fat fullShare (τ 8) (L 8) 0 u)) (ap only (told progress-struct (z .result) is)) refl $
-            drop ! $ move ! (1 ∷ 2 ∷ 3 ∷ 4 ∷ 5 ∷ 6 ∷ 8 ∷ 9 ∷ 10 ∷ []) $
+          drop ! $ move ! (1 ∷ 2 ∷ 3 ∷ 4 ∷ 5 ∷ 6 ∷ 8 ∷ 9 ∷ 10 ∷ []) $
           cut (Over w P n (z .left) ++ Kept w P n b)
-            (later (raw (⋆ 𝓤 H A (Back w P (z .left)))) ∷ []) _ (comes w P n b (z .left) (long P counts a) (turned .same)) $ await ! tt $
+          (later (raw (⋆ 𝓤 H A (Back w P (z .left)))) ∷ []) _ (comes w P n b (z .left) (long P counts a) (turned .same)) $ await ! tt $
           cut (raw (⋆ 𝓤 H A (Back w P (z .left))) ∷ []) (Back w P (z .left)) _ (id⊢ 𝓤 _) $
           -- [the slices and their tokens; the file's token; the file; the tally and its token; the locals]
           forget ! 26 refl $ forget ! 24 refl $ forget ! 22 refl $ forget ! 20 refl $ forget ! 18 refl $ forget ! 16 refl $
-            forget ! 14 refl $ move ! (7 ∷ 6 ∷ []) $
+          forget ! 14 refl $ move ! (7 ∷ 6 ∷ []) $
           adding z (subst (Is (row progress-struct) (z .result)) (told progress-struct (z .result) is) is) turned)))))
 
     leaving : ltb (a .progress .number) (counts .grants) ≡ false → Sq W (At s) (runs C Λ (En w L) mir-of.turn-1 (anyQ (Turned s)))
     unfolding afterTurn
     leaving test =
         assigns ! (bin ! (load ! (from ! (fld ! refl (stop !))) (look-in ! 44 (sub ! 3 refl (whole !))))
-          (load ! (from ! (fld ! refl (stop !))) (look-in ! 46 (sub ! 4 refl (whole !)))) tt) (from ! (stop !)) (init ! 26 refl (tt, tt)) $
+        (load ! (from ! (fld ! refl (stop !))) (look-in ! 46 (sub ! 4 refl (whole !)))) tt) (from ! (stop !)) (init ! 26 refl (tt, tt)) $
         rewrite ! 26 (λ (c : Bool). ‵ (fat fullShare (τ 17) (L 17) 0 (vbool c))) test refl $
-          leaves-loop ! (load ! (from ! (stop !)) (look ! 26 refl)) $
+        leaves-loop ! (load ! (from ! (stop !)) (look ! 26 refl)) $
         forget ! 26 refl $ exec ! C Λ (En w L) mir-of.t-15 (atRet (En w L) (Post w P)) $
         closing (ltb-false (a .progress .number) (counts .grants) test)
 
@@ -248,4 +252,4 @@ module _ (w : Setting) (P : Parameters) (known : Known w) (L : ℕ → ℕ) (cou
   pub looped : (s : Place) → Sq W (At s) (Runs w P known L mir-of.t-14)
   looped s =
       first ! $ blocks ! $ loops ! (known .tables)
-        Nearer Nearer-wf At (λ u. turn-by u (ltb (u .0 .progress .number) (counts .grants)) refl) s
+      Nearer Nearer-wf At (λ u. turn-by u (ltb (u .0 .progress .number) (counts .grants)) refl) s

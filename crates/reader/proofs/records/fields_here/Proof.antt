@@ -45,7 +45,7 @@ returns : tie.Need-returns
 returns c =
     let a = c .before .before .before .before .before .args in
     fields-read (now (a .file)) (a .at) _ _ _ _ (c .before .before .before .byte-at .ensures)
-      (c .before .before .byte-at2 .ensures) (c .before .word-at .ensures) (c .word-at2 .ensures)
+    (c .before .before .byte-at2 .ensures) (c .before .word-at .ensures) (c .word-at2 .ensures)
 
 pub fields-here-spec : {M : Type 1} → statement M
 fields-here-spec =

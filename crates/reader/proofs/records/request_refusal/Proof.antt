@@ -26,8 +26,13 @@ fields-refusal-requires c κs = search needs
 returns-3 : tie.Need-returns-3
 unfolding requestRefusal
 returns-3 c =
-    simp (length-drop, le-ltb _ _ (c .before .before .before .if1 .left), lt-leb _ _ (c .before .before .if2 .left),
-      c .fields-refusal .ensures, c .before .fields-here .ensures)
+    simp (
+      length-drop,
+      le-ltb _ _ (c .before .before .before .if1 .left),
+      lt-leb _ _ (c .before .before .if2 .left),
+      c .fields-refusal .ensures,
+      c .before .fields-here .ensures,
+    )
 
 pub request-refusal-spec : {M : Type 1} → statement M
 request-refusal-spec =

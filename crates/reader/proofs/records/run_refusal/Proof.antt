@@ -26,7 +26,7 @@ returns-2 c =
     let a = c .before .before .before .before .before .args in
     let t = drop (a .at) (now (a .file)) in
     rw (run-numbers (a .heads) (a .before) (c .before .before .run-here .result) t (c .before .before .run-here .ensures)
-      (rw length-drop (c .before .before .before .if1 .left)))
+    (rw length-drop (c .before .before .before .if1 .left)))
     (simp (le-leb _ _ (c .if2 .taken)))
 
 returns-3 : tie.Need-returns-3
@@ -38,7 +38,7 @@ returns-3 c =
     let a = start .args in
     let t = drop (a .at) (now (a .file)) in
     rw (run-numbers (a .heads) (a .before) (after-run-here .run-here .result) t (after-run-here .run-here .ensures)
-      (rw length-drop (tested .if1 .left)))
+    (rw length-drop (tested .if1 .left)))
     (simp (lt-leb _ _ (after-if2 .if2 .left), eq-eqb _ _ (c .if3 .taken)))
 
 does-extend-requires : tie.Need-does-extend-requires
@@ -55,7 +55,7 @@ returns-4 c =
     let a = start .args in
     let t = drop (a .at) (now (a .file)) in
     rw (run-numbers (a .heads) (a .before) (after-run-here .run-here .result) t (after-run-here .run-here .ensures)
-      (rw length-drop (tested .if1 .left)))
+    (rw length-drop (tested .if1 .left)))
     (simp (lt-leb _ _ (after-if2 .if2 .left), ne-eqb _ _ (after-if3 .if3 .left), ← after-does-extend .does-extend .ensures, c .if4 .taken))
 
 returns-5 : tie.Need-returns-5
@@ -69,7 +69,7 @@ returns-5 c =
     let a = start .args in
     let t = drop (a .at) (now (a .file)) in
     rw (run-numbers (a .heads) (a .before) (after-run-here .run-here .result) t (after-run-here .run-here .ensures)
-      (rw length-drop (tested .if1 .left)))
+    (rw length-drop (tested .if1 .left)))
     (simp (lt-leb _ _ (after-if2 .if2 .left), ne-eqb _ _ (after-if3 .if3 .left), ← after-does-extend .does-extend .ensures, c .if4 .left))
 
 pub run-refusal-spec : {M : Type 1} → statement M

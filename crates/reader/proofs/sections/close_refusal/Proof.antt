@@ -24,8 +24,12 @@ returns-2 c = simp (length-drop, le-ltb _ _ (c .before .before .if1 .left), ← 
 returns-3 : tie.Need-returns-3
 unfolding closeRefusal balanceRefusal
 returns-3 c =
-    simp (length-drop, le-ltb _ _ (c .before .before .before .if1 .left),
-      eq-eqb _ _ (sym (c .before .before .word-at .ensures) ∙ c .before .if2 .left), lt-ltb _ _ (c .if3 .taken))
+    simp (
+      length-drop,
+      le-ltb _ _ (c .before .before .before .if1 .left),
+      eq-eqb _ _ (sym (c .before .before .word-at .ensures) ∙ c .before .if2 .left),
+      lt-ltb _ _ (c .if3 .taken),
+    )
 
 returns-4 : tie.Need-returns-4
 unfolding closeRefusal balanceRefusal
@@ -34,9 +38,13 @@ returns-4 c =
     let after-if2 = after-if3 .before in
     let after-word-at = after-if2 .before in
     let tested = after-word-at .before in
-    simp (length-drop, le-ltb _ _ (tested .if1 .left),
-      eq-eqb _ _ (sym (after-word-at .word-at .ensures) ∙ after-if2 .if2 .left), le-ltb _ _ (after-if3 .if3 .left),
-      lt-ltb _ _ (c .if4 .taken))
+    simp (
+      length-drop,
+      le-ltb _ _ (tested .if1 .left),
+      eq-eqb _ _ (sym (after-word-at .word-at .ensures) ∙ after-if2 .if2 .left),
+      le-ltb _ _ (after-if3 .if3 .left),
+      lt-ltb _ _ (c .if4 .taken),
+    )
 
 sum-words-requires : tie.Need-sum-words-requires
 sum-words-requires c κs = search needs
@@ -50,9 +58,15 @@ returns-5 c =
     let after-if2 = after-if3 .before in
     let after-word-at = after-if2 .before in
     let tested = after-word-at .before in
-    simp (length-drop, le-ltb _ _ (tested .if1 .left),
-      eq-eqb _ _ (sym (after-word-at .word-at .ensures) ∙ after-if2 .if2 .left), le-ltb _ _ (after-if3 .if3 .left),
-      le-ltb _ _ (after-if4 .if4 .left), ← after-sum-words .sum-words .ensures, ne-eqb _ _ (c .if5 .taken))
+    simp (
+      length-drop,
+      le-ltb _ _ (tested .if1 .left),
+      eq-eqb _ _ (sym (after-word-at .word-at .ensures) ∙ after-if2 .if2 .left),
+      le-ltb _ _ (after-if3 .if3 .left),
+      le-ltb _ _ (after-if4 .if4 .left),
+      ← after-sum-words .sum-words .ensures,
+      ne-eqb _ _ (c .if5 .taken),
+    )
 
 returns-6 : tie.Need-returns-6
 unfolding closeRefusal balanceRefusal
@@ -63,9 +77,15 @@ returns-6 c =
     let after-if2 = after-if3 .before in
     let after-word-at = after-if2 .before in
     let tested = after-word-at .before in
-    simp (length-drop, le-ltb _ _ (tested .if1 .left),
-      eq-eqb _ _ (sym (after-word-at .word-at .ensures) ∙ after-if2 .if2 .left), le-ltb _ _ (after-if3 .if3 .left),
-      le-ltb _ _ (after-if4 .if4 .left), ← after-sum-words .sum-words .ensures, c .if5 .left)
+    simp (
+      length-drop,
+      le-ltb _ _ (tested .if1 .left),
+      eq-eqb _ _ (sym (after-word-at .word-at .ensures) ∙ after-if2 .if2 .left),
+      le-ltb _ _ (after-if3 .if3 .left),
+      le-ltb _ _ (after-if4 .if4 .left),
+      ← after-sum-words .sum-words .ensures,
+      c .if5 .left,
+    )
 
 pub close-refusal-spec : {M : Type 1} → statement M
 close-refusal-spec =

@@ -20,8 +20,11 @@ returns-2 c = simp (le-ltb _ _ (c .before .before .if1 .left), ne-eqb _ _ (c .if
 returns-3 : tie.Need-returns-3
 unfolding headerRefusal
 returns-3 c =
-    simp (le-ltb _ _ (c .before .before .before .if1 .left),
-      eq-eqb _ _ (sym (c .before .before .word-at .ensures) ∙ c .before .if2 .left), lt-ltb _ _ (c .if3 .taken))
+    simp (
+      le-ltb _ _ (c .before .before .before .if1 .left),
+      eq-eqb _ _ (sym (c .before .before .word-at .ensures) ∙ c .before .if2 .left),
+      lt-ltb _ _ (c .if3 .taken),
+    )
 
 word-at-requires-2 : tie.Need-word-at-requires-2
 word-at-requires-2 c κs = search needs
@@ -47,8 +50,14 @@ returns-4 c =
     let after-if2 = after-if3 .before in
     let after-word-at = after-if2 .before in
     let tested = after-word-at .before in
-    simp (le-ltb _ _ (tested .if1 .left), eq-eqb _ _ (sym (after-word-at .word-at .ensures) ∙ after-if2 .if2 .left),
-      le-ltb _ _ (after-if3 .if3 .left), c .sizes-refusal .ensures, after-word-at2 .word-at2 .ensures, after-word-at3 .word-at3 .ensures)
+    simp (
+      le-ltb _ _ (tested .if1 .left),
+      eq-eqb _ _ (sym (after-word-at .word-at .ensures) ∙ after-if2 .if2 .left),
+      le-ltb _ _ (after-if3 .if3 .left),
+      c .sizes-refusal .ensures,
+      after-word-at2 .word-at2 .ensures,
+      after-word-at3 .word-at3 .ensures,
+    )
 
 pub header-refusal-spec : {M : Type 1} → statement M
 header-refusal-spec =

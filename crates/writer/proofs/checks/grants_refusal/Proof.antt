@@ -28,7 +28,7 @@ returns : tie.Need-returns Inv-loop μ-loop
 returns c =
     let a = c .before .before .before .before .before .before .args in
     serving-stops (a .heads) (now (a .grants)) (c .before .before .before .before .loop .i)
-      (c .before .before .before .before .loop .inv) (omega arith) (omega arith)
+    (c .before .before .before .before .loop .inv) (omega arith) (omega arith)
 
 add-i : tie.Need-add-i Inv-loop μ-loop
 add-i c = search needs
@@ -40,7 +40,7 @@ loop-again : tie.Need-loop-again Inv-loop μ-loop
 loop-again c =
     let a = c .before .before .before .before .before .before .args in
     serving-on (a .heads) (now (a .grants)) (c .before .before .before .before .loop .i)
-      (c .before .before .before .before .loop .inv) (omega arith) (omega arith)
+    (c .before .before .before .before .loop .inv) (omega arith) (omega arith)
 
 returns-2 : tie.Need-returns-2 Inv-loop μ-loop
 returns-2 c =

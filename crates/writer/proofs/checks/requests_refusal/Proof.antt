@@ -34,7 +34,7 @@ returns c =
     let start = looped .before .before in
     let a = start .args in
     passing-stops (a .nodes) (a .heads) (now (a .requests)) (looped .loop .at) (looped .loop .inv)
-      (after-fields-refusal .fields-refusal .result) (omega arith) (cc) (c .if1 .taken)
+    (after-fields-refusal .fields-refusal .result) (omega arith) (cc) (c .if1 .taken)
 
 add-at : tie.Need-add-at Inv-loop μ-loop
 add-at c = search needs
@@ -49,7 +49,7 @@ loop-again c =
     let start = looped .before .before in
     let a = start .args in
     passing-on (a .nodes) (a .heads) (now (a .requests)) (looped .loop .at) (looped .loop .inv)
-      (after-fields-refusal .fields-refusal .result) (omega arith) (cc) (omega arith)
+    (after-fields-refusal .fields-refusal .result) (omega arith) (cc) (omega arith)
 
 returns-2 : tie.Need-returns-2 Inv-loop μ-loop
 returns-2 c =

@@ -38,13 +38,16 @@ returns c =
     let l = c .before .before .before .before .loop in
     let extends = c .before .does-extend in
     growing-stops (now (a .grants)) (a .at) (l .i) (l .run) (l .inv) (omega arith)
-      (sym (extends .ensures) ∙ not-true (extends .result) (c .if1 .taken))
+    (sym (extends .ensures) ∙ not-true (extends .result) (c .if1 .taken))
 
 add-run : tie.Need-add-run Inv-loop μ-loop
 add-run c =
     let extends = c .before .before .does-extend in
-    omega (arith, extended (c .before .before .before .before .before .loop .run)
-      _ (sym (extends .ensures) ∙ not-false (extends .result) (c .before .if1 .left)) .under)
+    omega (
+      arith,
+      extended (c .before .before .before .before .before .loop .run)
+          _ (sym (extends .ensures) ∙ not-false (extends .result) (c .before .if1 .left)) .under,
+    )
 
 add-i-2 : tie.Need-add-i-2 Inv-loop μ-loop
 add-i-2 c = search needs
@@ -58,7 +61,7 @@ loop-again c =
     let l = c .before .before .before .before .before .loop in
     let extends = c .before .before .does-extend in
     growing-on (now (a .grants)) (a .at) (l .i) (l .run) (l .inv) (omega arith)
-      (sym (extends .ensures) ∙ not-false (extends .result) (c .before .if1 .left))
+    (sym (extends .ensures) ∙ not-false (extends .result) (c .before .if1 .left))
 
 returns-2 : tie.Need-returns-2 Inv-loop μ-loop
 returns-2 c =

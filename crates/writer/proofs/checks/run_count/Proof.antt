@@ -28,15 +28,21 @@ add-i : tie.Need-add-i Inv-loop μ-loop
 add-i c =
     let run = c .before .run-at in
     let l = c .before .before .before .loop in
-    omega (arith, run-taken (now (c .before .before .before .before .before .args .grants)) (l .i) (run .result) (omega arith)
-      (run .ensures))
+    omega (
+      arith,
+      run-taken (now (c .before .before .before .before .before .args .grants)) (l .i) (run .result) (omega arith)
+          (run .ensures),
+    )
 
 add-runs : tie.Need-add-runs Inv-loop μ-loop
 add-runs c =
     let run = c .before .run-at in
     let l = c .before .before .before .loop in
-    omega (arith, counted-few (now (c .before .before .before .before .before .args .grants)) (l .i) (l .runs) (l .inv)
-      (run .result) (run .ensures))
+    omega (
+      arith,
+      counted-few (now (c .before .before .before .before .before .args .grants)) (l .i) (l .runs) (l .inv)
+          (run .result) (run .ensures),
+    )
 
 loop-less : tie.Need-loop-less Inv-loop μ-loop
 loop-less c = omega (arith, ap length (c .before .run-at .ensures))

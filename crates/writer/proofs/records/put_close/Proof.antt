@@ -40,9 +40,9 @@ returns c =
     let start = after-put-word .before .before .before in
     let a = start .args in
     close-stored (now (a .out)) _ _ (a .at) (after-sum-words .sum-words .result)
-      (after-wrapping-sub-u16 .wrapping-sub-u16 .result) (omega arith) (omega arith)
+    (after-wrapping-sub-u16 .wrapping-sub-u16 .result) (omega arith) (omega arith)
     (after-put-word .put-word .ensures) (after-sum-words .sum-words .ensures)
-      (after-wrapping-sub-u16 .wrapping-sub-u16 .ensures) (after-put-word2 .put-word2 .ensures)
+    (after-wrapping-sub-u16 .wrapping-sub-u16 .ensures) (after-put-word2 .put-word2 .ensures)
 
 pub put-close-spec : {M : Type 1} → statement M
 put-close-spec =

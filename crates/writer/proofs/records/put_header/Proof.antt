@@ -28,9 +28,9 @@ returns c =
     let start = after-put-word .before .before .before in
     let a = start .args in
     let two = stored-on (now (a .out)) _ _ (wordBytes jobMark) (wordBytes (a .nodes)) 0 2 (omega arith)
-      (after-put-word .put-word .ensures) (after-put-word2 .put-word2 .ensures) in
+    (after-put-word .put-word .ensures) (after-put-word2 .put-word2 .ensures) in
     stored-on (now (a .out)) _ _ (wordBytes jobMark ++ wordBytes (a .nodes))
-      (wordBytes (a .heads)) 0 4 (omega arith) two (after-put-word3 .put-word3 .ensures)
+    (wordBytes (a .heads)) 0 4 (omega arith) two (after-put-word3 .put-word3 .ensures)
 
 pub put-header-spec : {M : Type 1} → statement M
 put-header-spec =

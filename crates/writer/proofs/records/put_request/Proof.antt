@@ -16,8 +16,11 @@ add-put-bytes c = search needs
 
 cast-put-bytes : tie.Need-cast-put-bytes
 cast-put-bytes c =
-    omega (arith, fit mostNodes mostHeads (c .before .before .before .before .before .before .before .args .fields)
-      (c .before .before .before .before .before .before .before .pre .1))
+    omega (
+      arith,
+      fit mostNodes mostHeads (c .before .before .before .before .before .before .before .args .fields)
+          (c .before .before .before .before .before .before .before .pre .1),
+    )
 
 cast-put-bytes-2 : tie.Need-cast-put-bytes-2
 cast-put-bytes-2 c =
@@ -43,7 +46,9 @@ add-put-word-2 c = search needs
 
 cast-put-word-2 : tie.Need-cast-put-word-2
 cast-put-word-2 c =
-    let start = c .before .before .before .before .before .before .before .before .before .before .before .before .before .before .before .before .before .before in
+    let start =
+    c .before .before .before .before .before .before .before .before .before
+    .before .before .before .before .before .before .before .before .before in
     omega (arith, fit mostNodes mostHeads (start .args .fields) (start .pre .1))
 
 put-word-requires-3 : tie.Need-put-word-requires-3
@@ -62,7 +67,7 @@ returns c =
     let a = start .args in
     request-stored (now (a .out)) _ _ _ _ (a .at) (a .fields) (start .pre .1)
     (after-put-word .put-word .ensures) (after-put-bytes .put-bytes .ensures) (after-put-word2 .put-word2 .ensures)
-      (after-put-word3 .put-word3 .ensures)
+    (after-put-word3 .put-word3 .ensures)
 
 pub put-request-spec : {M : Type 1} → statement M
 put-request-spec =

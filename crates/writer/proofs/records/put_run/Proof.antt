@@ -28,7 +28,7 @@ returns c =
     let start = after-put-word .before .before .before in
     let a = start .args in
     stored-on (now (a .out)) _ _ (wordBytes runMark) (a .run .head ∷ a .run .count ∷ []) (a .at) (a .at + 2) (omega arith)
-      (after-put-word .put-word .ensures) (after-put-bytes .put-bytes .ensures)
+    (after-put-word .put-word .ensures) (after-put-bytes .put-bytes .ensures)
 
 pub put-run-spec : {M : Type 1} → statement M
 put-run-spec =
