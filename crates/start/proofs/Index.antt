@@ -1,5 +1,6 @@
 -- The index of the requests' successors, made from the last request on.
 --
+--   indexRoom                   the length of the index
 --   Indexed qs firsts index q   firsts has each head's first request from q on, index the successors of the requests from q on
 --
 -- Main laws: indexed-none, before the last request; indexed-on, one request more; indexed-all, the whole index.
@@ -11,7 +12,7 @@ use native.Mathlib.Decide.{ℕ-discrete}
 use lib.ListN.{length, getD, set, replicate, length-set, getD-replicate}
 use lib.Seq.{getD-set-same, getD-set-other}
 use Rattle.reader.specs.declared.Checked.{Checked}
-use Rattle.jobfile.specs.Format.{mostHeads}
+use Rattle.jobfile.specs.Format.{mostHeads, mostRequests}
 use Rattle.job.specs.declared.Request.{Request}
 use Rattle.rules.specs.State.{noRequest, requestAt, seek}
 use Rattle.stepper.specs.Shown.{requestsIn, Playing}
@@ -19,14 +20,17 @@ use Rattle.stepper.specs.Index.{Indexes}
 use Rattle.stepper.proofs.Seek.{seek-here, seek-on, seek-none, playing-count}
 use Rattle.stepper.proofs.Reached.{playing-admitted}
 
+abbrev pub indexRoom : ℕ
+indexRoom = 514
+
 pub record Indexed (qs : List Request) (firsts index : List ℕ) (q : ℕ) : Type 0 where
   pub within : q ≤ length qs
   pub heads : length firsts ≡ mostHeads
-  pub size : length index ≡ 512
+  pub size : length index ≡ indexRoom
   pub first : (h : ℕ) → h < mostHeads → getD firsts h 0 ≡ seek qs h q
   pub successor : (p : ℕ) → q ≤ p → p < length qs → getD index p 0 ≡ seek qs (requestAt qs p .head) (suc p)
 
-pub indexed-none : (qs : List Request) (count : ℕ) → count ≡ length qs → Indexed qs (replicate mostHeads count) (replicate 512 0) count
+pub indexed-none : (qs : List Request) (count : ℕ) → count ≡ length qs → Indexed qs (replicate mostHeads count) (replicate indexRoom 0) count
 indexed-none qs count all =
     record {
       within = omega (arith, all);
@@ -37,7 +41,7 @@ indexed-none qs count all =
     }
 
 module _ {qs : List Request} {firsts index : List ℕ} {q : ℕ} (i : Indexed qs firsts index q) (p head : ℕ) (is : suc p ≡ q)
-    (own : requestAt qs p .head ≡ head) (few : head < mostHeads) (room : p < 512) where
+    (own : requestAt qs p .head ≡ head) (few : head < mostHeads) (room : p < indexRoom) where
   here : p < length qs
   here = omega (arith, is, i .within)
 
@@ -71,7 +75,7 @@ indexed-all {qs} none i = record { successor = λ p l inside. i .successor p (om
 -- ---- what an accepted file says
 
 module _ {file : List ℕ} {counts : Checked} (playing : Playing file counts) where
-  pub few-requests : counts .requests ≤ 512
+  pub few-requests : counts .requests ≤ mostRequests
   few-requests = omega (arith, playing-count playing, playing-admitted playing .few-requests)
 
   pub few-heads : (q : ℕ) → q < counts .requests → (r : Request)

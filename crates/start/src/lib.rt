@@ -61,15 +61,20 @@ pub fn first_requests(file: &[u8], counts: Checked) -> [u16; MOST_HEADS]
     firsts
 }
 
+// The numbers in the index of next requests: one for each request, and two more. With these the compiler lays the array of
+// heads, which is beside the index on the stack of a play, on a multiple of 16 (docs/DECISIONS.md, "Heads by value, and
+// speed"); bench/shape looks at it.
+pub const INDEX_ROOM: usize = 514;
+
 // For each request the next one of its head, or the number of requests: an index for the grants. It is made from the last
 // request on, with the first request of each head so far.
-pub fn successors(file: &[u8], counts: Checked) -> [u16; 512]
+pub fn successors(file: &[u8], counts: Checked) -> [u16; INDEX_ROOM]
     requires { ⌜ Playing (now file) counts ⌝ }
     ensures { λ r. ⌜ Indexes (requestsIn (now (file .entry))) r ⌝ }
 {
     let requests = counts.requests;
     let mut firsts = [requests as u16; MOST_HEADS];
-    let mut index = [0u16; 512];
+    let mut index = [0u16; INDEX_ROOM];
     let mut q = requests;
     while 0 < q {
         q -= 1;
