@@ -6,7 +6,7 @@ use mathlib.Core.List.{List}
 use Prim.Native.Nat.{ℕ, zero, suc, _-_, _≤_, _<_}
 use native.Mathlib.Omega.{arith}
 use lib.ListN.{length, set, length-set}
-use Rattle.word.specs.Word.{mostNodes}
+use Rattle.job.specs.Job.{mostNodes}
 use Rattle.chain.specs.Chain.{below}
 
 pub record Linking (start table : List ℕ) (first i : ℕ) : Type 0 where

@@ -1,12 +1,12 @@
 // The longest enquiry known: about the two lowest nodes of one chain of 4,096. It prints the answer and the grants used.
 // The two functions that call each other pass plain numbers, so that their calls compile to jumps: beyond the enquiry's
 // array of 16 KiB, the longest enquiry needs no more stack than the shortest.
-use word::MOST_NODES;
+use job::MOST_NODES;
 use word::Word;
 ghost use mathlib.Core.Path.{_≡_};
 ghost use Prim.Native.Nat.{_≤_};
 ghost use lib.ListN.{length};
-ghost use Rattle.word.specs.Word.{mostNodes};
+ghost use Rattle.job.specs.Job.{mostNodes};
 ghost use Rattle.chain.specs.Chain.{linked};
 
 // Fills a table: each word has rank 0 and the next node as its parent, and the last node is the root.

@@ -11,7 +11,7 @@ use lib.ListN.{length, take, drop, replicate, length-append, length-map}
 use lib.Seq.{length-take-le}
 use borrow.Author.Tests.{eqb-true, le-ltb}
 use Rattle.basics.proofs.Conditions.{split}
-use Rattle.job.specs.Job.{Job}
+use Rattle.job.specs.Job.{mostNodes, mostRequests, Job}
 use Rattle.job.specs.declared.Played.{Played}
 use Rattle.word.specs.Word.{encode}
 use Rattle.linearization.specs.Entry.{flat}
@@ -111,7 +111,7 @@ module _ (played : Played) (table report linearization out : List ℕ) (printabl
       }
 
 -- the text of the play is what the program prints
-pub put-output : (file : List ℕ) (left : Left) → left ≡ playedOf file (replicate 4096 0) (replicate 2048 0) (replicate 1024 0)
+pub put-output : (file : List ℕ) (left : Left) → left ≡ playedOf file (replicate mostNodes 0) (replicate (4 * mostRequests) 0) (replicate (2 * mostRequests) 0)
     → {before after : List ℕ} {bytes : ℕ} → Put (textOf left) before after bytes → Put (output file) before after bytes
 unfolding output
 put-output file left is {before} {after} {bytes} put = subst (λ text. Put text before after bytes) (ap textOf is) put

@@ -11,6 +11,7 @@ use mathlib.Core.Path.{_≡_}
 use mathlib.Core.List.{List, _++_}
 use Prim.Native.Nat.{ℕ, _+_, _*_, _≤_}
 use lib.ListN.{length, take, drop, replicate}
+use Rattle.job.specs.Job.{mostNodes, mostRequests}
 use Rattle.job.specs.declared.Played.{Played}
 use Rattle.player.specs.Player.{Left, playedOf}
 use Rattle.listing.specs.Listing.{listing, Enough}
@@ -22,11 +23,11 @@ textOf left = listing (left .result) (left .table) (left .report) (left .lineari
 -- The file is played on a table, a report and a linearization of zeros, as long as the largest job needs:
 -- 4,096 places, and four and two numbers for each of 512 requests.
 unfoldable pub output : List ℕ → List ℕ
-output file = textOf (playedOf file (replicate 4096 0) (replicate 2048 0) (replicate 1024 0))
+output file = textOf (playedOf file (replicate mostNodes 0) (replicate (4 * mostRequests) 0) (replicate (2 * mostRequests) 0))
 
 -- A line for each place, request and entry, the job's and the tally's, of at most 64 bytes each.
 abbrev pub longest : ℕ
-longest = 64 * (4096 + 512 + 512 + 2)
+longest = 64 * (mostNodes + mostRequests + mostRequests + 2)
 
 -- What is printed: the first `bytes` bytes of a buffer.
 pub record Put (text before after : List ℕ) (bytes : ℕ) : Type 0 where
@@ -47,4 +48,4 @@ PutInput buffer bytes before after printed = (input : List ℕ) → Holds input 
 
 pub record Printable (played : Played) (table report linearization : List ℕ) : Type 0 where
   pub enough : Enough played table report linearization
-  pub lines : played .nodes + played .requests + played .entries ≤ 4096 + 512 + 512
+  pub lines : played .nodes + played .requests + played .entries ≤ mostNodes + mostRequests + mostRequests

@@ -2,7 +2,10 @@
 mod input;
 
 use input::read_input;
+use job::MOST_NODES;
+use job::MOST_REQUESTS;
 use job::Played;
+use word::Word;
 ghost use Prim.Native.Nat.{_≤_, _<_};
 ghost use lib.ListN.{length};
 ghost use Rattle.io.specs.Counts.{Counts};
@@ -13,7 +16,7 @@ ghost use Rattle.dock.specs.Dock.{output, longest, Put, PutInput, Printa
 // Writes the text of a play into `out`, which has room for every text, and answers the text's length.
 fn put_text(
     played: Played,
-    table: &[u32],
+    table: &[Word],
     report: &[u32],
     linearization: &[u32],
     out: &mut [u8],
@@ -32,9 +35,9 @@ fn print_job(file: &[u8], out: &mut [u8]) -> usize
     requires { ⌜ longest ≤ length (now out) ⌝ }
     ensures { λ r. ⌜ Put (output (now (file .entry))) (now (out .entry)) (now (out .exit)) r ⌝ }
 {
-    let mut table = [0u32; 4096];
-    let mut report = [0u32; 2048];
-    let mut linearization = [0u32; 1024];
+    let mut table = [0u32; MOST_NODES];
+    let mut report = [0u32; 4 * MOST_REQUESTS];
+    let mut linearization = [0u32; 2 * MOST_REQUESTS];
     let played = player::play(file, &mut table, &mut report, &mut linearization);
     put_text(played, &table, &report, &linearization, out)
 }

@@ -3,6 +3,7 @@
 use job::Played;
 use listing::Listed;
 use query::Queried;
+use word::Word;
 use writer::Written;
 ghost use mathlib.Core.Path.{_≡_};
 ghost use Rattle.player.specs.Player.{left, playedOf};
@@ -16,7 +17,7 @@ ghost use Rattle.listing.specs.Listing.{listed, printed};
 #[no_mangle]
 pub extern "C" fn grouping_play(
     file: &[u8],
-    table: &mut [u32],
+    table: &mut [Word],
     report: &mut [u32],
     linearization: &mut [u32],
 ) -> Played
@@ -46,7 +47,7 @@ pub extern "C" fn grouping_write(
 
 // Makes a counter enquiry: are x and y in one set, within a budget of grants?
 #[no_mangle]
-pub extern "C" fn grouping_query(table: &mut [u32], x: u32, y: u32, budget: u16) -> Queried
+pub extern "C" fn grouping_query(table: &mut [Word], x: u32, y: u32, budget: u16) -> Queried
     ensures exact { λ r. ⌜ record { queried = r; table = now (table .exit) } ≡ queried (now (table .entry)) x y budget ⌝ }
     ensures faithful { λ r. ⌜ (r .number ≡ 0
         → Faithful (now (table .entry)) x y budget (record { queried = r; table = now (table .exit) })) ⌝ }
@@ -58,7 +59,7 @@ pub extern "C" fn grouping_query(table: &mut [u32], x: u32, y: u32, budget: u16)
 #[no_mangle]
 pub extern "C" fn grouping_list(
     played: Played,
-    table: &[u32],
+    table: &[Word],
     report: &[u32],
     linearization: &[u32],
     out: &mut [u8],

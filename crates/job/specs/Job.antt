@@ -3,6 +3,7 @@
 --   kindNumber k    the number that stands for the kind k in a file
 --   kindOf n        the kind that the number n stands for
 --   answerNumber a  the number that stands for the answer a in the report
+--   mostNodes, mostHeads, mostRequests   the sizes of the largest job
 --   Job             nodes, heads, requests and schedule
 use mathlib.Core.Bool.{cond}
 use mathlib.Core.List.{List}
@@ -13,6 +14,18 @@ use Rattle.job.specs.declared.Kind.the-variants.{Union, SameSet}
 use Rattle.job.specs.declared.Answer.{Answer}
 use Rattle.job.specs.declared.Answer.the-variants.{Unfinished, Joined, Together, Yes, No}
 use Rattle.job.specs.declared.Request.{Request}
+
+-- Document 01, "Job file": there are at most 4,096 places,
+abbrev pub mostNodes : ℕ
+mostNodes = 4096
+
+-- 16 heads
+abbrev pub mostHeads : ℕ
+mostHeads = 16
+
+-- and 512 requests.
+abbrev pub mostRequests : ℕ
+mostRequests = 512
 
 -- Document 01, "Job file": kind 1 is a union, 2 a same-set.
 abbrev pub kindNumber : Kind → ℕ

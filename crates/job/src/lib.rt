@@ -2,6 +2,15 @@
 ghost use mathlib.Core.Path.{_≡_};
 ghost use Rattle.job.specs.Job.{answerNumber};
 
+// The most nodes of a job and of a table (document 01: places).
+pub const MOST_NODES: usize = 4096;
+
+// The most heads of a job.
+pub const MOST_HEADS: usize = 16;
+
+// The most requests of a job.
+pub const MOST_REQUESTS: usize = 512;
+
 // What a request asks (document 01: kind).
 pub enum Kind {
     Union,

@@ -12,9 +12,9 @@ use lib.ListN.{length, getD, take, drop, take-append-drop}
 use Rattle.job.specs.declared.Kind.{Kind}
 use Rattle.job.specs.declared.Kind.the-variants.{Union, SameSet}
 use Rattle.job.specs.declared.Request.{Request}
-use Rattle.job.specs.Job.{Job, kindNumber}
+use Rattle.job.specs.Job.{Job, kindNumber, mostNodes, mostHeads}
 use Rattle.jobfile.specs.declared.Run.{Run}
-use Rattle.jobfile.specs.Format.{mostNodes, mostHeads, closeMark, wordBytes, extends}
+use Rattle.jobfile.specs.Format.{closeMark, wordBytes, extends}
 use Rattle.jobfile.specs.Written.{requestsBytes, runsBytes, nextRun, runsFrom, longestRuns, fileWith, balance, written}
 use Rattle.jobfile.specs.Admitted.{Serves, Admitted, Bytes}
 use Rattle.jobfile.proofs.Runs.{Follows, longest-follow}

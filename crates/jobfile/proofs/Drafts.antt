@@ -11,9 +11,9 @@ use lib.Dec.{ltb, leb}
 use lib.ListN.{length, getD, length-map}
 use borrow.Author.Tests.{ltb-false, leb-false, le-ltb, lt-leb}
 use Rattle.job.specs.declared.Request.{Request}
-use Rattle.job.specs.Job.{Job, kindNumber}
+use Rattle.job.specs.Job.{Job, kindNumber, mostRequests}
 use Rattle.jobfile.specs.declared.Fields.{Fields}
-use Rattle.jobfile.specs.Format.{mostBytes, mostRequests, fieldsRefusal, requestOf, lengthRefusal}
+use Rattle.jobfile.specs.Format.{mostBytes, fieldsRefusal, requestOf, lengthRefusal}
 use Rattle.jobfile.specs.Written.{written}
 use Rattle.jobfile.specs.Draft.{Draft, fieldsOf, jobOf, countRefusal, eachRefusal, grantsRefusal, draftRefusal, numbersOf, draftOf}
 use Rattle.jobfile.specs.Admitted.{Serves, Admitted}

@@ -15,7 +15,8 @@ use lib.Seq.{drop-drop, drop-cons}
 use borrow.Author.Tests.{ne-eqb, le-ltb, lt-leb}
 use Rattle.job.specs.declared.Request.{Request}
 use Rattle.jobfile.specs.declared.Run.{Run}
-use Rattle.jobfile.specs.Format.{requestMark, runMark, requestSize, runSize, mostRequests, word, wordBytes}
+use Rattle.jobfile.specs.Format.{requestMark, runMark, requestSize, runSize, word, wordBytes}
+use Rattle.job.specs.Job.{mostRequests}
 use Rattle.jobfile.specs.Meaning.{fieldsAt, requestAt, requestRefusal, runAt, runRefusal}
 use Rattle.jobfile.specs.Written.{requestBytes, requestsBytes, runBytes, runsBytes}
 use Rattle.jobfile.specs.Admitted.{Serves, Bytes}

@@ -13,7 +13,8 @@ use lib.ListN.{length, getD, drop}
 use borrow.Author.Tests.{eqb-true, eqb-false, ltb-false, leb-false, not-false}
 use Rattle.job.specs.declared.Request.{Request}
 use Rattle.jobfile.specs.declared.Run.{Run}
-use Rattle.jobfile.specs.Format.{jobMark, closeMark, jobSize, requestSize, runSize, closeSize, mostBytes, mostRequests, word, wordSum}
+use Rattle.jobfile.specs.Format.{jobMark, closeMark, jobSize, requestSize, runSize, closeSize, mostBytes, word, wordSum}
+use Rattle.job.specs.Job.{mostRequests}
 use Rattle.jobfile.specs.Format.{extends, lengthRefusal}
 use Rattle.jobfile.specs.Meaning.{sectionRefusal, nodesIn, headsIn, headerRefusal, fieldsAt, requestAt, requestRefusal}
 use Rattle.jobfile.specs.Meaning.{requestsRefusal, runRefusal, runsRefusal, fullRun, closeRefusal, balanceRefusal, requestRecords}

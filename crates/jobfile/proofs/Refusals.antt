@@ -13,7 +13,8 @@ use lib.Dec.{eqb, ltb, leb}
 use borrow.Author.Tests.{eqb-true, eqb-false, ltb-false, leb-false, ne-eqb, le-ltb, lt-leb}
 use Rattle.basics.proofs.Conditions.{split}
 use Rattle.jobfile.specs.declared.Fields.{Fields}
-use Rattle.jobfile.specs.Format.{_then_, mostNodes, mostHeads, sizesRefusal, fieldsRefusal}
+use Rattle.jobfile.specs.Format.{_then_, sizesRefusal, fieldsRefusal}
+use Rattle.job.specs.Job.{mostNodes, mostHeads}
 
 pub record Passed (b : Bool) (n : ℕ) : Type 0 where
   pub test : b ≡ false

@@ -7,8 +7,8 @@ use mathlib.Core.List.{List}
 use Prim.Native.Nat.{ℕ, _<_, _≤_}
 use lib.ListN.{length, getD}
 use Rattle.job.specs.declared.Request.{Request}
-use Rattle.job.specs.Job.{Job}
-use Rattle.jobfile.specs.Format.{mostBytes, mostNodes, mostHeads, mostRequests}
+use Rattle.job.specs.Job.{Job, mostNodes, mostHeads, mostRequests}
+use Rattle.jobfile.specs.Format.{mostBytes}
 use Rattle.jobfile.specs.Written.{written}
 
 -- A request's head is below the heads, and its two places below the places.

@@ -13,9 +13,9 @@ use Prim.Native.Nat.{ℕ}
 use lib.Dec.{ltb, leb}
 use lib.ListN.{length}
 use Rattle.job.specs.declared.Request.{Request}
-use Rattle.job.specs.Job.{Job, kindNumber}
+use Rattle.job.specs.Job.{Job, kindNumber, mostRequests}
 use Rattle.jobfile.specs.declared.Fields.{Fields}
-use Rattle.jobfile.specs.Format.{mostRequests, _then_, sizesRefusal, fieldsRefusal, requestOf, lengthRefusal}
+use Rattle.jobfile.specs.Format.{_then_, sizesRefusal, fieldsRefusal, requestOf, lengthRefusal}
 use Rattle.jobfile.specs.Written.{written}
 
 -- The writer is given places, heads, requests and a list of head numbers, one per grant.

@@ -5,7 +5,7 @@
 --   jobSize, requestSize, runSize, closeSize   the bytes of each
 --   requestPlace q, runPlace n i   the bytes where request q stands, and run i behind n requests
 --   fileSize n i            the bytes of a file with n requests and i runs
---   mostBytes, mostNodes, mostHeads, mostRequests, mostGrants   the largest file, job and run
+--   mostBytes, mostGrants   the largest file, and the largest run
 --   word t, wordBytes w     the 16-bit word at the start of t, and the two bytes of the word w
 --   wordSum s               the sum of the 16-bit words of s
 --   a then b (_then_)       the refusal a, or b where a is none
@@ -20,7 +20,7 @@ use Prim.Native.Nat.{ℕ, _+_, _*_, _/_, _%_}
 use lib.Dec.{eqb, ltb, leb}
 use lib.ListN.{length, getD}
 use Rattle.job.specs.declared.Request.{Request}
-use Rattle.job.specs.Job.{kindOf}
+use Rattle.job.specs.Job.{mostNodes, mostHeads, kindOf}
 use Rattle.jobfile.specs.declared.Fields.{Fields}
 use Rattle.jobfile.specs.declared.Run.{Run}
 
@@ -71,18 +71,6 @@ fileSize requests runs = runPlace requests runs + closeSize
 -- A file has at most 32,768 bytes.
 abbrev pub mostBytes : ℕ
 mostBytes = 32768
-
--- There are at most 4,096 places,
-abbrev pub mostNodes : ℕ
-mostNodes = 4096
-
--- 16 heads
-abbrev pub mostHeads : ℕ
-mostHeads = 16
-
--- and 512 requests.
-abbrev pub mostRequests : ℕ
-mostRequests = 512
 
 -- A run is 8 bits.
 abbrev pub mostGrants : ℕ

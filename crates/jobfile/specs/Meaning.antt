@@ -20,11 +20,11 @@ use Prim.Native.Nat.{ℕ, zero, suc, _+_, _%_}
 use lib.Dec.{eqb, ltb, leb}
 use lib.ListN.{length, getD, drop, replicate}
 use Rattle.job.specs.declared.Request.{Request}
-use Rattle.job.specs.Job.{Job}
+use Rattle.job.specs.Job.{Job, mostRequests}
 use Rattle.jobfile.specs.declared.Fields.{Fields}
 use Rattle.jobfile.specs.declared.Run.{Run}
 use Rattle.jobfile.specs.Format.{jobMark, requestMark, runMark, closeMark, jobSize, requestSize, runSize, closeSize, requestPlace}
-use Rattle.jobfile.specs.Format.{runPlace, mostRequests, mostGrants, word, wordSum, _then_, sizesRefusal, fieldsRefusal, requestOf}
+use Rattle.jobfile.specs.Format.{runPlace, mostGrants, word, wordSum, _then_, sizesRefusal, fieldsRefusal, requestOf}
 use Rattle.jobfile.specs.Format.{extends, lengthRefusal}
 
 -- A section goes on as long as its mark follows; no section has more records than the file has bytes.

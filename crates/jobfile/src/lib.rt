@@ -1,6 +1,8 @@
 // What the reader and the writer of job files share: bytes and words, the numbers of a request, a run, and the checks on them.
 pub mod bytes;
 
+use job::MOST_HEADS;
+use job::MOST_NODES;
 ghost use mathlib.Core.Path.{_≡_};
 ghost use Rattle.jobfile.specs.Format.{requestPlace, runPlace, sizesRefusal, fieldsRefusal, extends};
 
@@ -59,13 +61,13 @@ pub fn sizes_refusal(nodes: u32, heads: u32) -> u32
     if nodes == 0 {
         return 4;
     }
-    if 4096 < nodes {
+    if MOST_NODES < nodes as usize {
         return 4;
     }
     if heads == 0 {
         return 5;
     }
-    if 16 < heads {
+    if MOST_HEADS < heads as usize {
         return 5;
     }
     0

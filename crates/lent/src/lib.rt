@@ -9,6 +9,7 @@ use reader::Checked;
 use turns::Progress;
 use turns::counted;
 use turns::first_tally;
+use word::Word;
 ghost use mathlib.Core.Path.{_≡_};
 ghost use Rattle.turns.specs.Turns.{Addable, countedOf, buffersOf};
 ghost use Rattle.player.specs.Player.{left, playedOf};
@@ -21,7 +22,7 @@ fn turn_searching(
     file: &[u8],
     counts: Checked,
     progress: Progress,
-    table: &mut [u32],
+    table: &mut [Word],
     report: &mut [u32],
     linearization: &mut [u32],
 ) -> Progress
@@ -55,7 +56,7 @@ pub fn add(tally: &mut Tally, progress: Progress)
 #[no_mangle]
 pub extern "C" fn grouping_play_lent(
     file: &[u8],
-    table: &mut [u32],
+    table: &mut [Word],
     report: &mut [u32],
     linearization: &mut [u32],
     tally: &mut Tally,

@@ -3,6 +3,7 @@ mod sections;
 
 use job::Played;
 use job::Tally;
+use word::Word;
 ghost use mathlib.Core.Path.{_≡_};
 ghost use lib.ListN.{length};
 ghost use Rattle.text.specs.Writing.{Wrote};
@@ -34,7 +35,7 @@ fn put_job(played: Played, out: &mut [u8]) -> usize
 // Writes all sections.
 fn put_sections(
     played: Played,
-    table: &[u32],
+    table: &[Word],
     report: &[u32],
     linearization: &[u32],
     out: &mut [u8],
@@ -66,7 +67,7 @@ fn put_tally(tally: Tally, out: &mut [u8], at: usize) -> usize
 // Writes the text of a job that was not refused.
 fn put_accepted(
     played: Played,
-    table: &[u32],
+    table: &[Word],
     report: &[u32],
     linearization: &[u32],
     out: &mut [u8],
@@ -91,7 +92,7 @@ fn put_refused(number: u32, out: &mut [u8]) -> usize
 // Writes the text.
 fn put_listing(
     played: Played,
-    table: &[u32],
+    table: &[Word],
     report: &[u32],
     linearization: &[u32],
     out: &mut [u8],
@@ -108,7 +109,7 @@ fn put_listing(
 }
 
 // The length of the text: writing it where there is no room only counts.
-fn listing_length(played: Played, table: &[u32], report: &[u32], linearization: &[u32]) -> usize
+fn listing_length(played: Played, table: &[Word], report: &[u32], linearization: &[u32]) -> usize
     requires { ⌜ Enough played (now table) (now report) (now linearization) ⌝ }
     ensures { λ r. ⌜ r ≡ length (listing played (now (table .entry)) (now (report .entry)) (now (linearization .entry))) ⌝ }
 {
@@ -117,7 +118,7 @@ fn listing_length(played: Played, table: &[u32], report: &[u32], linearization: 
 }
 
 // Whether one of the three buffers with numbers is too short.
-fn any_short(played: Played, table: &[u32], report: &[u32], linearization: &[u32]) -> bool
+fn any_short(played: Played, table: &[Word], report: &[u32], linearization: &[u32]) -> bool
     ensures { λ r. ⌜ r ≡ sourcesShort played (now (table .entry)) (now (report .entry)) (now (linearization .entry)) ⌝ }
 {
     if sections::is_short(Section::Words, table, played.nodes) {
@@ -132,7 +133,7 @@ fn any_short(played: Played, table: &[u32], report: &[u32], linearization: &[u32
 // Prints a played job: its text into `out`, or refusal 14 where a buffer is too short, with `out` as it was.
 pub fn list(
     played: Played,
-    table: &[u32],
+    table: &[Word],
     report: &[u32],
     linearization: &[u32],
     out: &mut [u8],

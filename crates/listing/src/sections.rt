@@ -1,5 +1,6 @@
 // The sections: a line for each node, request or entry, from the numbers in a lent buffer.
 use crate::Section;
+use word::Word;
 ghost use mathlib.Core.Path.{_≡_};
 ghost use Prim.Native.Nat.{_+_, _*_, _<_, _≤_};
 ghost use lib.Dec.{ltb};
@@ -28,7 +29,7 @@ pub fn is_short(section: Section, buffer: &[u32], count: u32) -> bool
 }
 
 // Writes the line of node i.
-fn put_word(table: &[u32], i: u32, out: &mut [u8], at: usize) -> usize
+fn put_word(table: &[Word], i: u32, out: &mut [u8], at: usize) -> usize
     requires { ⌜ i < length (now table) ⌝ }
     ensures { λ r. ⌜ Wrote (row Section.Words (now (table .entry)) i) at (now (out .entry)) (now (out .exit)) r ⌝ }
 {

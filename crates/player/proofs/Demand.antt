@@ -6,13 +6,12 @@ use mathlib.Core.List.{List, [], _∷_, _++_, map}
 use Prim.Native.Nat.{ℕ, _*_}
 use lib.ListN.{length, take, drop, length-map}
 use lib.Seq.{take-at}
-use Rattle.job.specs.Job.{Job}
+use Rattle.job.specs.Job.{Job, mostHeads}
 use Rattle.word.specs.declared.Node.{Node}
 use Rattle.word.specs.Word.{decode, encode}
 use Rattle.linearization.specs.Partition.{apart}
 use Rattle.linearization.specs.Entry.{Entry, flat, entriesOf}
 use Rattle.linearization.proofs.Numbers.{length-flat, entriesOf-flat}
-use Rattle.jobfile.specs.Format.{mostHeads}
 use Rattle.jobfile.specs.Meaning.{meaning}
 use Rattle.jobfile.specs.Admitted.{Admitted}
 use Rattle.rules.specs.declared.Row.{Row}

@@ -19,7 +19,7 @@ use Rattle.job.specs.declared.Tally.{Tally}
 use Rattle.job.specs.declared.Played.{Played}
 use Rattle.word.specs.Word.{encode}
 use Rattle.process.specs.declared.Head.{Head}
-use Rattle.jobfile.specs.Format.{mostHeads}
+use Rattle.job.specs.Job.{mostHeads}
 use Rattle.jobfile.specs.Meaning.{refused, meaning}
 use Rattle.mask.specs.Mask.{maskOf}
 use Rattle.reader.specs.declared.Checked.{Checked}

@@ -1,4 +1,5 @@
 // The player: it checks a job file and the lent buffers, and then plays the file's grants on them.
+use job::MOST_HEADS;
 use job::Played;
 use job::Tally;
 use reader::Checked;
@@ -8,12 +9,12 @@ use start::first_requests;
 use start::fresh_table;
 use start::resting_heads;
 use start::successors;
-use stepper::MOST_HEADS;
 use turns::Progress;
 use turns::counted;
 use turns::first_progress;
 use turns::first_tally;
 use turns::turn;
+use word::Word;
 ghost use mathlib.Core.Path.{_≡_};
 ghost use Prim.Native.Nat.{_*_, _≤_};
 ghost use lib.ListN.{length};
@@ -64,7 +65,7 @@ fn turned_down(counts: Checked) -> Plan
 }
 
 // Lays out the start on buffers that are long enough; what is past the nodes and the requests stays as lent.
-fn lay_out(file: &[u8], counts: Checked, table: &mut [u32], report: &mut [u32]) -> Plan
+fn lay_out(file: &[u8], counts: Checked, table: &mut [Word], report: &mut [u32]) -> Plan
     requires { ⌜ Playing (now file) counts ⌝ }
     requires { ⌜ counts .nodes ≤ length (now table) ⌝ }
     requires { ⌜ 4 * counts .requests ≤ length (now report) ⌝ }
@@ -87,7 +88,7 @@ fn lay_out(file: &[u8], counts: Checked, table: &mut [u32], report: &mut [u32]) 
 // Checks the file and the lent buffers, and lays out the start where nothing is refused.
 pub fn prepare(
     file: &[u8],
-    table: &mut [u32],
+    table: &mut [Word],
     report: &mut [u32],
     linearization: &mut [u32],
 ) -> Plan
@@ -108,7 +109,7 @@ pub fn turn_on(
     successors: &[u16],
     counts: Checked,
     progress: Progress,
-    table: &mut [u32],
+    table: &mut [Word],
     report: &mut [u32],
     linearization: &mut [u32],
 ) -> Progress
@@ -167,7 +168,12 @@ pub fn closed(counts: Checked, progress: Progress, tally: Tally) -> Played
 }
 
 // Plays a job file: any bytes, on any lent buffers.
-pub fn play(file: &[u8], table: &mut [u32], report: &mut [u32], linearization: &mut [u32]) -> Played
+pub fn play(
+    file: &[u8],
+    table: &mut [Word],
+    report: &mut [u32],
+    linearization: &mut [u32],
+) -> Played
     ensures exact { λ r. ⌜ left (now (table .exit)) (now (report .exit)) (now (linearization .exit)) r
         ≡ playedOf (now (file .entry)) (now (table .entry)) (now (report .entry)) (now (linearization .entry)) ⌝ }
     ensures linearized { λ r. ⌜ (r .number ≡ 0

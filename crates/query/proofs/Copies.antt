@@ -13,7 +13,8 @@ use native.Mathlib.Nat.{zero-add}
 use native.Mathlib.Omega.{arith}
 use lib.ListN.{length, getD, set, drop, length-map, length-set, length-append, drop-of-length-le}
 use lib.Seq.{sets, sets-eq, drop-cons, drop-length}
-use Rattle.word.specs.Word.{encode, mostNodes}
+use Rattle.word.specs.Word.{encode}
+use Rattle.job.specs.Job.{mostNodes}
 use Rattle.rules.specs.Table.{freshFrom}
 use Rattle.rules.proofs.Table.{length-fresh}
 

@@ -11,7 +11,8 @@ use lib.ListN.{length, take, replicate, length-map, length-append, length-replic
 use lib.Seq.{sets, take-at}
 use borrow.Author.Tests.{eq-eqb, ne-eqb}
 use Rattle.word.specs.declared.Node.{Node}
-use Rattle.word.specs.Word.{decode, encode, mostNodes}
+use Rattle.word.specs.Word.{decode, encode}
+use Rattle.job.specs.Job.{mostNodes}
 use Rattle.rules.proofs.Table.{length-fresh}
 use Rattle.query.specs.Query.{Result, refusal, steps, queried}
 use Rattle.query.specs.Numbers.{looking, Ready, ended}

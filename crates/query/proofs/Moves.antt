@@ -13,7 +13,8 @@ use Rattle.basics.proofs.Conditions.{split}
 use Rattle.basics.proofs.Lists.{set-mapped}
 use Rattle.job.specs.declared.Answer.the-variants.{Unfinished}
 use Rattle.word.specs.declared.Node.{Node}
-use Rattle.word.specs.Word.{rankOf, parentOf, decode, encode, same, mostNodes, mostRank}
+use Rattle.word.specs.Word.{rankOf, parentOf, decode, encode, same, mostRank}
+use Rattle.job.specs.Job.{mostNodes}
 use Rattle.word.proofs.Laws.{same-true, encode-decode}
 use Rattle.process.specs.declared.Access.the-variants.{Cas}
 use Rattle.forest.proofs.Halving.{Halving}

@@ -15,7 +15,8 @@ use Rattle.basics.proofs.Conditions.{split}
 use Rattle.job.specs.declared.Answer.{Answer}
 use Rattle.job.specs.declared.Answer.the-variants.{Unfinished}
 use Rattle.word.specs.declared.Node.{Node}
-use Rattle.word.specs.Word.{decode, encode, same, key, mostNodes, mostRank}
+use Rattle.word.specs.Word.{decode, encode, same, key, mostRank}
+use Rattle.job.specs.Job.{mostNodes}
 use Rattle.process.specs.declared.Access.{Access}
 use Rattle.process.specs.declared.Access.the-variants.{Idle, Load, Cas}
 use Rattle.process.specs.declared.Head.{Head}

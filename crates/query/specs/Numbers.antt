@@ -16,9 +16,9 @@ use mathlib.Core.Bool.{Bool, true, false}
 use mathlib.Core.List.{List, map}
 use Prim.Native.Nat.{ℕ, _+_, _*_, _/_, _%_, _≤_, _<_}
 use Rattle.job.specs.declared.Answer.{Answer}
-use Rattle.job.specs.Job.{answerNumber}
+use Rattle.job.specs.Job.{answerNumber, mostNodes}
 use Rattle.word.specs.declared.Node.{Node}
-use Rattle.word.specs.Word.{parentOf, decode, mostNodes}
+use Rattle.word.specs.Word.{parentOf, decode}
 use Rattle.process.specs.declared.Step.the-variants.{ReadNode, ReadParent}
 use Rattle.process.specs.declared.Errand.{Errand}
 use Rattle.process.specs.declared.Errand.the-variants.{SameX, SameY}

@@ -1,7 +1,7 @@
 // The counter enquiry of document 01: a same-set alone on a lent table, with a budget of grants.
 use job::Answer;
+use job::MOST_NODES;
 use table::admission::table_refusal;
-use word::MOST_NODES;
 use word::Node;
 use word::Word;
 ghost use mathlib.Core.Path.{_≡_};
@@ -9,7 +9,8 @@ ghost use mathlib.Core.List.{map};
 ghost use Prim.Native.Nat.{_-_, _<_, _≤_};
 ghost use lib.ListN.{length, take};
 ghost use lib.Seq.{sets};
-ghost use Rattle.word.specs.Word.{rankOf, decode, encode, mostNodes, mostRank};
+ghost use Rattle.word.specs.Word.{rankOf, decode, encode, mostRank};
+ghost use Rattle.job.specs.Job.{mostNodes};
 ghost use Rattle.process.specs.declared.Access.the-variants.{Cas};
 ghost use Rattle.rules.specs.Table.{freshFrom, touched};
 ghost use Rattle.table.specs.Admitted.{Admitted};

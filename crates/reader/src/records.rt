@@ -1,5 +1,6 @@
 // One record: the request or the run at a place of the file, and its refusal, 0 for none.
 use job::Kind;
+use job::MOST_REQUESTS;
 use job::Request;
 use jobfile::Fields;
 use jobfile::REQUEST_SIZE;
@@ -68,7 +69,7 @@ pub fn request_refusal(file: &[u8], at: usize, nodes: u32, heads: u32, number: u
     if file.len() - at < REQUEST_SIZE {
         return 2;
     }
-    if 512 <= number {
+    if MOST_REQUESTS <= number as usize {
         return 9;
     }
     fields_refusal(nodes, heads, fields_here(file, at))

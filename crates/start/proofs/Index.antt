@@ -12,7 +12,7 @@ use native.Mathlib.Decide.{ℕ-discrete}
 use lib.ListN.{length, getD, set, replicate, length-set, getD-replicate}
 use lib.Seq.{getD-set-same, getD-set-other}
 use Rattle.reader.specs.declared.Checked.{Checked}
-use Rattle.jobfile.specs.Format.{mostHeads, mostRequests}
+use Rattle.job.specs.Job.{mostHeads, mostRequests}
 use Rattle.job.specs.declared.Request.{Request}
 use Rattle.rules.specs.State.{noRequest, requestAt, seek}
 use Rattle.stepper.specs.Shown.{requestsIn, Playing}

@@ -14,11 +14,10 @@ use native.Mathlib.Omega.{arith}
 use lib.ListN.{length, getD, replicate, length-map}
 use Rattle.basics.proofs.Lists.{getD-mapped}
 use Rattle.job.specs.declared.Request.{Request}
-use Rattle.job.specs.Job.{Job}
+use Rattle.job.specs.Job.{Job, mostHeads}
 use Rattle.word.specs.declared.Node.{Node}
 use Rattle.word.specs.Word.{encode}
 use Rattle.process.specs.declared.Head.{Head}
-use Rattle.jobfile.specs.Format.{mostHeads}
 use Rattle.mask.specs.Mask.{maskOf}
 use Rattle.rules.specs.Table.{noNode, fresh}
 use Rattle.rules.specs.Report.{noRow}

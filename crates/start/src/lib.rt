@@ -1,19 +1,20 @@
 // What stands before the first grant: the table's start, the report's zeros, and every head before its first request.
+use job::MOST_HEADS;
 use process::Head;
 use process::NO_WAIT;
 use process::Stage;
 use process::Task;
 use reader::Checked;
 use stepper::Heads;
-use stepper::MOST_HEADS;
 use stepper::requests::next_request;
 use word::Node;
+use word::Word;
 ghost use mathlib.Core.Path.{_≡_};
 ghost use mathlib.Core.List.{map};
 ghost use Prim.Native.Nat.{_≤_};
 ghost use lib.ListN.{length, replicate};
 ghost use Rattle.word.specs.Word.{encode, nodeLimit};
-ghost use Rattle.jobfile.specs.Format.{mostHeads};
+ghost use Rattle.job.specs.Job.{mostHeads};
 ghost use Rattle.mask.specs.Mask.{maskOf};
 ghost use Rattle.rules.specs.Table.{fresh};
 ghost use Rattle.rules.specs.State.{resting};
@@ -22,7 +23,7 @@ ghost use Rattle.stepper.specs.Index.{Indexes};
 ghost use Rattle.start.specs.Start.{firstRequests, isRequest};
 
 // Each node its own parent, rank 0.
-pub fn fresh_table(table: &mut [u32])
+pub fn fresh_table(table: &mut [Word])
     requires { ⌜ length (now table) ≤ nodeLimit ⌝ }
     ensures { λ r. ⌜ now (table .exit) ≡ map encode (fresh (length (now (table .entry)))) ⌝ }
 {

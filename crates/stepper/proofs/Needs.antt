@@ -25,7 +25,7 @@ use Rattle.linearization.specs.Entry.{occurrences, inserted, Insertable}
 use Rattle.linearization.proofs.Entries.{length-insert}
 use Rattle.linearization.proofs.Replay.{replayed-rising}
 use Rattle.linearization.proofs.Numbers.{insertable-shown}
-use Rattle.jobfile.specs.Format.{mostHeads}
+use Rattle.job.specs.Job.{mostHeads}
 use Rattle.jobfile.specs.Meaning.{meaning}
 use Rattle.mask.proofs.Laws.{flag-of, left-least}
 use Rattle.rules.specs.Table.{seen, touched}

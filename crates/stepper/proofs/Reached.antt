@@ -13,10 +13,9 @@ use lib.ListN.{length, getD, take, drop, take-append-drop}
 use lib.Seq.{take-suc}
 use Rattle.reader.specs.declared.Checked.{Checked}
 use Rattle.job.specs.declared.Request.{Request}
-use Rattle.job.specs.Job.{Job}
+use Rattle.job.specs.Job.{Job, mostHeads}
 use Rattle.linearization.specs.Partition.{apart}
 use Rattle.forest.proofs.Roots.{start-roots}
-use Rattle.jobfile.specs.Format.{mostHeads}
 use Rattle.jobfile.specs.Meaning.{meaning}
 use Rattle.jobfile.specs.Admitted.{Admitted}
 use Rattle.jobfile.proofs.RoundTrip.{admitted-meaning}

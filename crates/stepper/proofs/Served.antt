@@ -9,7 +9,7 @@ use native.Mathlib.Omega.{arith}
 use lib.Dec.{eqb, ltb}
 use lib.ListN.{length, getD, set, drop}
 use Rattle.basics.proofs.Conditions.{split}
-use Rattle.jobfile.specs.Format.{mostHeads}
+use Rattle.job.specs.Job.{mostHeads}
 use Rattle.job.specs.declared.Request.{Request}
 use Rattle.word.specs.Word.{decode, encode}
 use Rattle.process.specs.declared.Head.{Head}

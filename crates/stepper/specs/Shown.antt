@@ -18,11 +18,10 @@ use mathlib.Core.List.{List, [], _++_, map, List·Memᴰ}
 use Prim.Native.Nat.{ℕ, suc, _*_, _≤_, _<_}
 use lib.ListN.{length, drop}
 use Rattle.job.specs.declared.Request.{Request}
-use Rattle.job.specs.Job.{Job}
+use Rattle.job.specs.Job.{Job, mostHeads}
 use Rattle.word.specs.Word.{encode}
 use Rattle.process.specs.declared.Head.{Head}
 use Rattle.linearization.specs.Entry.{flat}
-use Rattle.jobfile.specs.Format.{mostHeads}
 use Rattle.jobfile.specs.Meaning.{meaning}
 use Rattle.jobfile.specs.Admitted.{Bytes}
 use Rattle.mask.specs.Mask.{maskOf}

@@ -7,8 +7,10 @@ use crate::buffers::charge_row;
 use crate::buffers::enter;
 use crate::heads::ready_head;
 use crate::heads::settled_head;
+use job::MOST_HEADS;
 use process::Head;
 use reader::Checked;
+use word::Word;
 ghost use mathlib.Core.Path.{_≡_};
 ghost use mathlib.Core.Bool.{true, cond};
 ghost use Prim.Native.Nat.{_-_, _/_, _%_, _^_, _≤_, _<_};
@@ -16,10 +18,7 @@ ghost use lib.Dec.{eqb, ltb};
 ghost use Rattle.stepper.specs.Shown.{buffers, requestsIn, Grantable, Grants};
 ghost use Rattle.stepper.specs.Index.{Indexes};
 
-// The heads of every play; those that a job does not have get no request and no grant.
-pub const MOST_HEADS: usize = 16;
-
-// What a grant takes and leaves by value.
+// What a grant takes and leaves by value: the heads of every play. Those that a job does not have get no request and no grant.
 pub type Heads = [Head; MOST_HEADS];
 
 // What a grant adds to the tally: an idle grant, a swap that did not write, a link.
@@ -57,7 +56,7 @@ fn serve(
     mut heads: Heads,
     h: u32,
     number: u32,
-    table: &mut [u32],
+    table: &mut [Word],
     report: &mut [u32],
     linearization: &mut [u32],
     entries: u32,
@@ -101,7 +100,7 @@ pub fn grant(
     heads: Heads,
     h: u32,
     number: u32,
-    table: &mut [u32],
+    table: &mut [Word],
     report: &mut [u32],
     linearization: &mut [u32],
     entries: u32,

@@ -16,7 +16,8 @@ use lib.Dec.{eqb, ltb, leb}
 use lib.ListN.{length, length-map}
 use borrow.Author.Tests.{ltb-false, leb-false}
 use Rattle.word.specs.declared.Node.{Node}
-use Rattle.word.specs.Word.{rankOf, parentOf, decode, encode, before, key, mostNodes, mostRank}
+use Rattle.word.specs.Word.{rankOf, parentOf, decode, encode, before, key, mostRank}
+use Rattle.job.specs.Job.{mostNodes}
 use Rattle.word.proofs.Laws.{before-key}
 use Rattle.forest.proofs.Forest.{WellFormed}
 use Rattle.rules.specs.Table.{at, parent, rank}

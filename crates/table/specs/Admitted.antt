@@ -13,7 +13,8 @@ use Prim.Native.Nat.{ℕ, zero, suc, _≤_, _<_}
 use lib.Dec.{eqb, ltb, leb}
 use lib.ListN.{length, getD}
 use Rattle.word.specs.declared.Node.{Node}
-use Rattle.word.specs.Word.{rankOf, parentOf, before, key, mostNodes, mostRank}
+use Rattle.word.specs.Word.{rankOf, parentOf, before, key, mostRank}
+use Rattle.job.specs.Job.{mostNodes}
 use Rattle.rules.specs.Table.{parent, rank}
 
 abbrev pub wordAt : List ℕ → ℕ → ℕ

@@ -1,12 +1,13 @@
 // A table that a host lends: whether it is admitted, and the walk to a root in one that is.
-use word::MOST_NODES;
+use job::MOST_NODES;
 use word::MOST_RANK;
 use word::Word;
 ghost use mathlib.Core.Path.{_≡_};
 ghost use mathlib.Core.List.{map};
 ghost use Prim.Native.Nat.{_<_, _≤_};
 ghost use lib.ListN.{length};
-ghost use Rattle.word.specs.Word.{decode, mostNodes};
+ghost use Rattle.word.specs.Word.{decode};
+ghost use Rattle.job.specs.Job.{mostNodes};
 ghost use Rattle.forest.specs.Forest.{Leads};
 ghost use Rattle.rules.specs.Table.{parent};
 ghost use Rattle.table.specs.Admitted.{isFaulty, anyFaulty, tableRefusal, Admitted};

@@ -4,6 +4,7 @@ use reader::Checked;
 use stepper::Done;
 use stepper::Heads;
 use stepper::grant;
+use word::Word;
 ghost use mathlib.Core.Path.{_≡_};
 ghost use Prim.Native.Nat.{_<_};
 ghost use Rattle.rules.specs.Step.{plus};
@@ -89,7 +90,7 @@ pub fn turn(
     successors: &[u16],
     counts: Checked,
     progress: Progress,
-    table: &mut [u32],
+    table: &mut [Word],
     report: &mut [u32],
     linearization: &mut [u32],
 ) -> Progress

@@ -6,7 +6,7 @@
 --   before ra a rb b       node a of rank ra comes before node b of rank rb
 --   key r i                rank r and number i of a node as one number, in that order
 --   rankLimit, nodeLimit   ranks and node numbers below these have a word
---   mostNodes, mostRank    the most nodes of a table, and the highest rank that a node of one can have
+--   mostRank               the highest rank that a node of a table can have
 use mathlib.Core.Bool.{Bool, cond, false}
 use Prim.Native.Nat.{ℕ, _+_, _*_, _/_, _%_}
 use lib.Dec.{eqb, ltb}
@@ -20,10 +20,7 @@ rankLimit = 256
 abbrev pub nodeLimit : ℕ
 nodeLimit = 65536
 
--- Places are at most 4,096, and ranks never exceed the whole part of the base-2 logarithm of the place count.
-abbrev pub mostNodes : ℕ
-mostNodes = 4096
-
+-- Ranks never exceed the whole part of the base-2 logarithm of the place count, which is at most 4,096.
 abbrev pub mostRank : ℕ
 mostRank = 12
 

@@ -6,9 +6,6 @@ ghost use Rattle.word.specs.Word.{rankOf, parentOf, decode, encode, same
 // A table's word.
 pub type Word = u32;
 
-// The most nodes of a table.
-pub const MOST_NODES: usize = 4096;
-
 // The highest rank that a node of a table can have.
 pub const MOST_RANK: u32 = 12;
 

@@ -11,7 +11,8 @@ use lib.Dec.{eqb, ltb}
 use lib.ListN.{length, length-map}
 use borrow.Author.Tests.{ne-eqb, lt-ltb, le-ltb, ltb-false}
 use Rattle.basics.proofs.Conditions.{split}
-use Rattle.jobfile.specs.Format.{runSize, closeSize, requestPlace, fileSize, mostBytes, mostNodes, mostHeads, mostRequests, _then_}
+use Rattle.jobfile.specs.Format.{runSize, closeSize, requestPlace, fileSize, mostBytes, _then_}
+use Rattle.job.specs.Job.{mostNodes, mostHeads, mostRequests}
 use Rattle.jobfile.specs.Format.{sizesRefusal, lengthRefusal}
 use Rattle.jobfile.specs.Written.{longestRuns, written}
 use Rattle.jobfile.specs.Draft.{Draft, fieldsOf, jobOf, countRefusal, eachRefusal, grantsRefusal, draftRefusal}

@@ -14,7 +14,8 @@ use lib.ListN.{length, drop, length-drop}
 use lib.Seq.{getD-drop, drop-drop}
 use borrow.Author.Tests.{ne-eqb, lt-ltb, le-ltb}
 use Rattle.jobfile.specs.declared.Fields.{Fields}
-use Rattle.jobfile.specs.Format.{mostNodes, mostHeads, mostRequests, _then_, fieldsRefusal}
+use Rattle.jobfile.specs.Format.{_then_, fieldsRefusal}
+use Rattle.job.specs.Job.{mostNodes, mostHeads, mostRequests}
 use Rattle.jobfile.specs.Draft.{fieldsOf, countRefusal, eachRefusal}
 use Rattle.jobfile.proofs.Refusals.{through, Sized, Fit, fit, fit-passes}
 use Rattle.writer.specs.Write.{fieldsFrom}

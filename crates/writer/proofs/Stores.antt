@@ -15,7 +15,8 @@ use lib.ListN.{length, drop, set, drop-of-length-le, length-map}
 use lib.Seq.{sets, sets-eq, length-sets}
 use Rattle.job.specs.declared.Request.{Request}
 use Rattle.jobfile.specs.declared.Fields.{Fields}
-use Rattle.jobfile.specs.Format.{requestMark, requestSize, mostNodes, mostHeads, wordBytes, fieldsRefusal, requestOf}
+use Rattle.jobfile.specs.Format.{requestMark, requestSize, wordBytes, fieldsRefusal, requestOf}
+use Rattle.job.specs.Job.{mostNodes, mostHeads}
 use Rattle.jobfile.specs.Written.{recordsBytes, requestBytes, longestRuns}
 use Rattle.jobfile.specs.Draft.{fieldsOf, eachRefusal}
 use Rattle.jobfile.proofs.KindNumbers.{kind-written}

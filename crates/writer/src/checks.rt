@@ -1,5 +1,6 @@
 // What the writer checks before it writes a byte, in document 01's order, and the length of the file.
 use crate::Written;
+use job::MOST_REQUESTS;
 use jobfile::CLOSE_SIZE;
 use jobfile::Fields;
 use jobfile::MOST_BYTES;
@@ -85,7 +86,7 @@ fn numbers_refusal(nodes: u32, heads: u32, requests: &[u32], grants: &[u8]) -> u
     if number != 0 {
         return number;
     }
-    if 512 < requests.len() / 4 {
+    if MOST_REQUESTS < requests.len() / 4 {
         return 9;
     }
     let number = requests_refusal(nodes, heads, requests);

@@ -2,7 +2,7 @@
 use Prim.Native.Nat.{_-_}
 use native.Mathlib.Omega.{arith}
 use borrow.Author.Needs.{needs}
-use Rattle.word.specs.Word.{mostNodes}
+use Rattle.job.specs.Job.{mostNodes}
 use Rattle.query.proofs.Copies.{Padding, padding-start, padding-on, padding-done}
 use Rattle.query.proofs.pad.Statement.{statement}
 use Rattle.query.proofs.pad.Tie as tie

@@ -1,7 +1,7 @@
 -- `start::first_mask`: the mask has the flags from place h on.
 use borrow.Author.Needs.{needs}
 use native.Mathlib.Omega.{arith}
-use Rattle.jobfile.specs.Format.{mostHeads}
+use Rattle.job.specs.Job.{mostHeads}
 use Rattle.start.specs.Start.{isRequest}
 use Rattle.start.proofs.Loops.{Gathered, gathered-none, gathered-on, gathered-all, gathered-small}
 use Rattle.start.proofs.first_mask.Statement.{statement}

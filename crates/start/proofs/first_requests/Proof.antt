@@ -3,7 +3,7 @@ use mathlib.Core.Path.{refl}
 use borrow.Author.Needs.{needs}
 use native.Mathlib.Omega.{arith}
 use Prim.Native.Nat.{_-_}
-use Rattle.jobfile.specs.Format.{mostHeads}
+use Rattle.job.specs.Job.{mostHeads}
 use Rattle.stepper.specs.Shown.{requestsIn}
 use Rattle.stepper.proofs.Needs.{next-small}
 use denote.Ref.{now}

@@ -6,7 +6,7 @@ use native.Mathlib.Omega.{arith}
 use Prim.Native.Nat.{_-_}
 use lib.ListN.{length, getD, length-map}
 use Rattle.basics.proofs.Lists.{getD-mapped}
-use Rattle.jobfile.specs.Format.{mostHeads}
+use Rattle.job.specs.Job.{mostHeads}
 use Rattle.process.specs.declared.Stage.the-variants.{Resting}
 use Rattle.rules.specs.State.{resting}
 use Rattle.start.proofs.Loops.{Filled, filled-none, filled-on, filled-all}

@@ -2,7 +2,7 @@
 use native.Mathlib.Omega.{arith}
 use denote.Ref.{now}
 use borrow.Author.Needs.{needs}
-use Rattle.jobfile.specs.Format.{mostNodes, mostHeads}
+use Rattle.job.specs.Job.{mostNodes, mostHeads}
 use Rattle.jobfile.proofs.Refusals.{fit}
 use Rattle.writer.proofs.Stores.{request-stored}
 use Rattle.writer.proofs.records.put_request.Statement.{statement}
