@@ -3,10 +3,12 @@
 use std::hint::black_box;
 use std::time::{Duration, Instant};
 
+use grouping_core::MOST_LISTING;
 use peer::gen::{self, Random};
 use peer::job::{Job, Request};
+use peer::listing;
 use peer::player::{Outcome, Player, AMPLE, PEER};
-use peer::proved::{CORE, LENT};
+use peer::proved::{list_into, CORE, LENT};
 
 const ROUNDS: usize = 200;
 /// A round repeats its call for at least this long.
@@ -27,12 +29,12 @@ impl Times {
         Times::between(&CORE, &PEER, call)
     }
 
-    /// The least of all rounds, the two players in turn.
-    fn between(first: &Player, second: &Player, mut call: impl FnMut(&Player)) -> Times {
+    /// The least of all rounds, the two in turn, players or single calls of theirs.
+    fn between<P>(first: &P, second: &P, mut call: impl FnMut(&P)) -> Times {
         let calls = calls_to_a_round(|| call(second));
-        let mut round = |player: &Player, depth: usize| {
+        let mut round = |one: &P, depth: usize| {
             let start = Instant::now();
-            at_depth(depth, &mut || (0..calls).for_each(|_| call(player)));
+            at_depth(depth, &mut || (0..calls).for_each(|_| call(one)));
             start.elapsed().as_nanos() as f64 / f64::from(calls)
         };
         let mut least = Times { first: f64::INFINITY, second: f64::INFINITY };
@@ -115,6 +117,19 @@ fn write(job: &Job) -> Times {
         let (nodes, heads) = black_box((job.nodes, job.heads));
         black_box((player.write)(nodes, heads, &requests, &job.grants, &mut buffer));
     })
+}
+
+/// Prints an outcome: the core into the buffer, the peer into a string of its own.
+type List = fn(&Outcome, &mut [u8]);
+
+fn list(outcome: &Outcome) -> Times {
+    let mut text = vec![0; MOST_LISTING];
+    let by_core: List = |outcome, text| _ = black_box(list_into(outcome, text));
+    let by_peer: List = |outcome, _| {
+        let Outcome { played, table, report, lineup } = outcome;
+        black_box(listing::text(played, table, report, lineup));
+    };
+    Times::between(&by_core, &by_peer, |list| list(black_box(outcome), &mut text))
 }
 
 fn file(job: &Job) -> Vec<u8> {
@@ -225,6 +240,11 @@ fn bytes() {
         let bytes = file(job).len() as f64;
         println!("{:<40} {}", format!("write, {name}"), write(job).columns(bytes));
     }
+    let played = file(&busy_job(0, 4096, 512, 50, false));
+    let text = (PEER.list)(&played);
+    assert_eq!((CORE.list)(&played), text);
+    let printing = list(&Outcome::of(PEER.play, &played, AMPLE));
+    println!("{:<40} {}", "list, 4096 nodes, 512 requests", printing.columns(text.len() as f64));
 }
 
 fn enquiry() {
