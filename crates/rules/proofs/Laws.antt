@@ -177,7 +177,8 @@ module _ {n : ℕ} (qs : List Request) (m : ℕ) {s : Start} (begin : Startable 
       let inside = playable-inside playable in
       let granted = granted-later gs hs playable in
       let inv = started-invariant (playable-cut gs hs playable) begin in
-      let same = later-refl n (parent (S .table)) (rank (S .table)) (labels qs (s .labels) S) in
-      let later = run-layer inside (later-layer (parent (S .table)) (rank (S .table)) (labels qs (s .labels) S)) S past hs granted inv same in
+      let sets = labels qs (s .labels) S in
+      let same = later-refl n (parent (S .table)) (rank (S .table)) sets in
+      let later = run-layer inside (later-layer (parent (S .table)) (rank (S .table)) sets) S past hs granted inv same in
       subst (λ S′. Follows n (S .table) (S′ .table)) (sym (run-prefix qs first gs hs))
       (later-follows inv (run-invariant inside S past hs granted inv) later)

@@ -25,13 +25,13 @@ same-length-3 : tie.Need-same-length-3
 same-length-3 c = search needs
 
 returns : tie.Need-returns
-returns c = let served = c .before .before .before .before .before .before in λ gs lent standing. served .serve .ensures gs lent standing
+returns c = c .before .before .before .before .before .before .serve .ensures
 
 returns-2 : tie.Need-returns-2
 returns-2 c =
     let p = c .before .before .before .before .before .before .before .pre .0 in
     let t = sym (c .before .is-set .ensures) ∙ c .if1 .left in
-    λ gs lent standing.
+    λ origin gs lent standing.
     record { buffers = idle-shown (p .playing) (p .head) standing t; done = idle-done (p .playing) (p .head) standing t }
 
 pub grant-spec : {M : Type 1} → statement M

@@ -95,7 +95,7 @@ same-length-3 c = search needs
 
 returns : tie.Need-returns
 returns c =
-    λ gs lent standing.
+    λ origin gs lent standing.
     let entered = c .before .before .before in
     let charged = entered .before .before .before .before .before in
     let settled = charged .before .before .before in

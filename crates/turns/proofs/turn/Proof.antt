@@ -38,8 +38,8 @@ returns c =
     let granted = c .before .before .before .before .before .before .before .before .before in
     let opened = granted .before .before .before .before .before .before in
     let start = opened .before .before .before .before .before .before in
-    λ lent standing. let g = granted .grant .ensures _ lent standing in
-    turn-turned (start .pre .0) (opened .open-run .result) (opened .open-run .ensures) _ _ lent refl (c .taken .ensures) (g .buffers)
+    λ origin lent standing. let g = granted .grant .ensures origin _ lent standing in
+    turn-turned (start .pre .0) (opened .open-run .result) (opened .open-run .ensures) _ _ origin lent refl (c .taken .ensures) (g .buffers)
     (g .done)
 
 pub turn-spec : {M : Type 1} → statement M
