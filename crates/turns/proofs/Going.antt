@@ -24,7 +24,7 @@ use Rattle.stepper.specs.Shown.{startOf, stateAfter, requestsIn, Playing, Stand
 use Rattle.stepper.proofs.Reached.{cut-granted, after-next, playing-admitted}
 use Rattle.turns.specs.declared.Progress.{Progress}
 use Rattle.turns.specs.Turns.{runsOf, scheduleIn, stateAt, remaining, countedOf, buffersOf, StandingAt, Turnable, Turned}
-use Rattle.turns.specs.Turns.{firstProgress, firstTally}
+use Rattle.turns.specs.Turns.{firstProgress, firstTally, runOf}
 use Rattle.turns.proofs.Counters.{working-ones, counted-step, Small, counted-small}
 
 pub record Going (origin : Start) (file : List ℕ) (counts : Checked) (lent : List ℕ) (p : Progress) (tally : Tally)
@@ -121,5 +121,5 @@ module _ {origin : Start} {file : List ℕ} {counts : Checked} {lent : List ℕ}
 
   -- ---- the end
 
-  pub going-end : length schedule ≤ p .number → stateAt origin file (p .number) ≡ stateAfter origin (meaning file .job) schedule
+  pub going-end : length schedule ≤ p .number → stateAt origin file (p .number) ≡ runOf origin (meaning file .job)
   going-end all = ap (stateAfter origin (meaning file .job)) (take-all (p .number) schedule all)

@@ -14,6 +14,7 @@
 --   Turns                  what it leaves of buffers that show the grants so far, from any start
 --   firstProgress hs m     what a play carries before its first grant
 --   firstTally m           the tally before the first grant
+--   runOf origin j         the rules' run of the job j from that start
 use mathlib.Core.Path.{_≡_}
 use mathlib.Core.Bool.{false, cond}
 use mathlib.Core.List.{List, _++_}
@@ -23,6 +24,7 @@ use lib.Dec.{eqb}
 use lib.ListN.{length, getD, take, drop, replicate}
 use Rattle.reader.specs.declared.Checked.{Checked}
 use Rattle.job.specs.declared.Tally.{Tally}
+use Rattle.job.specs.Job.{Job}
 use Rattle.process.specs.declared.Head.{Head}
 use Rattle.jobfile.specs.declared.Run.{Run}
 use Rattle.jobfile.specs.Meaning.{meaning, granted}
@@ -124,3 +126,6 @@ firstProgress heads mask =
 -- All three numbers are zero when an accepted job starts; the fourth is the mask's count of ones.
 abbrev pub firstTally : ℕ → Tally
 firstTally mask = record { idle = 0; failed = 0; links = 0; working = ones mask }
+
+abbrev pub runOf : Start → Job → State
+runOf origin j = stateAfter origin j (j .schedule)

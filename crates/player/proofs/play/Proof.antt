@@ -110,7 +110,7 @@ loop-less c =
     (made .prepare .ensures .1) (made .prepare .ensures .0) (judged .if1 .left) (made .prepare .kept .1 .0)
     (made .prepare .kept .1 .1 .0) (made .prepare .kept .1 .1 .1 .0) (looped .before .first-tally .result)
     (looped .before .first-tally .ensures)) in
-    let turns = turned .turn-on .ensures _ (here .going .standing) in
+    let turns = turned .turn-on .ensures _ _ (here .going .standing) in
     omega (arith, turned .before .before .before .before .before .if2 .taken, turns .turned .number)
 
 loop-again : tie.Need-loop-again Inv-loop μ-loop

@@ -50,8 +50,8 @@ returns : tie.Need-returns
 returns c =
     let turned = c .before .before .before .before .before .before in
     let k = turned .before .before .before .before .before .before .before .before .before .before .before in
-    λ lent standing. turned-on (k .args .table .now) (k .args .report .now) _ _ (k .pre .0)
-    (turned .turn .kept .1 .1 .1 .1 .0) (turned .turn .kept .1 .1 .1 .1 .1 .0) (turned .turn .ensures lent standing)
+    λ origin lent standing. turned-on (k .args .table .now) (k .args .report .now) _ _ (k .pre .0)
+    (turned .turn .kept .1 .1 .1 .1 .0) (turned .turn .kept .1 .1 .1 .1 .1 .0) (turned .turn .ensures origin lent standing)
 
 pub turn-on-spec : {M : Type 1} → statement M
 turn-on-spec =
