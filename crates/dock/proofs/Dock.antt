@@ -11,7 +11,7 @@ use lib.ListN.{length, take, drop, replicate, length-append, length-map}
 use lib.Seq.{length-take-le}
 use borrow.Author.Tests.{eqb-true, le-ltb}
 use Rattle.basics.proofs.Conditions.{split}
-use Rattle.job.specs.Job.{mostNodes, mostRequests, Job}
+use Rattle.job.specs.Job.{mostNodes, mostRequests}
 use Rattle.job.specs.declared.Played.{Played}
 use Rattle.word.specs.Word.{encode}
 use Rattle.linearization.specs.Entry.{flat}
@@ -24,8 +24,8 @@ use Rattle.stepper.specs.Buffers.{flatRows}
 use Rattle.stepper.proofs.Lists.{length-rows}
 use Rattle.stepper.proofs.Needs.{invariant-few}
 use Rattle.turns.specs.Turns.{runOf}
-use Rattle.player.specs.Player.{Left, cutOf, lentRefusal, playRefusal, playedOf}
-use Rattle.player.proofs.Demand.{run-ended}
+use Rattle.player.specs.Player.{Left, cutOf, originIn, lentRefusal, playRefusal, playedOf}
+use Rattle.player.proofs.Demand.{run-ended, origin-initial}
 use Rattle.listing.specs.declared.Listed.{Listed}
 use Rattle.listing.specs.Listing.{listing, sourcesShort, listed, printed}
 use Rattle.listing.proofs.Listing.{Fitting, listing-lines}
@@ -37,27 +37,30 @@ abbrev pub PrintableLeft : Left → Type 0
 PrintableLeft left = Printable (left .result) (left .table) (left .report) (left .linearization)
 
 -- The table has the job's nodes, the report its requests, and a request is entered at most once.
-accepted-printable : (j : Job) → Admitted j → (table report linearization : List ℕ) → PrintableLeft (cutOf j table report linearization)
-accepted-printable j admitted table report linearization =
-    let ended = run-ended j admitted in
+accepted-printable : (file : List ℕ) → Admitted (meaning file .job) → (table report linearization : List ℕ)
+    → PrintableLeft (cutOf (originIn file) (meaning file .job) table report linearization)
+accepted-printable file admitted table report linearization =
+    let j = meaning file .job in
+    let end = runOf (originIn file) j in
+    let ended = run-ended j (origin-initial file) admitted in
     record {
       enough = record {
         words = omega (
           arith,
-          length-append (map encode (runOf j .table)) (drop (j .nodes) table),
-          length-map (runOf j .table) encode,
+          length-append (map encode (end .table)) (drop (j .nodes) table),
+          length-map (end .table) encode,
           ended .nodes,
         );
         requests = omega (
           arith,
-          length-append (flatRows (runOf j .report)) (drop (4 * length (j .requests)) report),
-          length-rows (runOf j .report),
+          length-append (flatRows (end .report)) (drop (4 * length (j .requests)) report),
+          length-rows (end .report),
           ended .reports,
         );
         entries = omega (
           arith,
-          length-append (flat (runOf j .entries)) (drop (2 * length (runOf j .entries)) linearization),
-          length-flat (runOf j .entries),
+          length-append (flat (end .entries)) (drop (2 * length (end .entries)) linearization),
+          length-flat (end .entries),
         );
       };
       lines = omega (arith, admitted .few-nodes, admitted .few-requests, invariant-few ended);
@@ -78,7 +81,7 @@ printable file table report linearization bytes =
     split (eqb refusal 0)
     (λ accepted.
     let own = accepted-file file _ _ _ (eqb-true refusal 0 accepted) in
-    rw accepted (accepted-printable (meaning file .job) (admitted-meaning file bytes own) table report linearization))
+    rw accepted (accepted-printable file (admitted-meaning file bytes own) table report linearization))
     (λ refused. rw refused (record {
       enough = record { words = omega arith; requests = omega arith; entries = omega arith };
       lines = omega arith;

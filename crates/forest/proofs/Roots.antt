@@ -1,4 +1,4 @@
--- How many roots a table has: all nodes at the start, one less with each link, the same after the other writes.
+-- How many roots a table has: all nodes where each is alone, one less with each link, the same after the other writes.
 --
 --   isRoot p i   the test that counts: node i is its own parent
 use mathlib.Core.Path.{_≡_, refl, sym, ap, _∙_}
@@ -11,7 +11,7 @@ use borrow.Author.Tests.{eq-eqb, ne-eqb}
 use Rattle.basics.proofs.Counts.{count-all, count-same, count-less}
 use Rattle.forest.specs.Forest.{rootCount}
 use Rattle.forest.proofs.Forest.{WellFormed}
-use Rattle.forest.proofs.Sound.{Sound, Start}
+use Rattle.forest.proofs.Sound.{Sound, Singletons}
 use Rattle.forest.proofs.Writes.{Changed}
 use Rattle.forest.proofs.Halving.{Halving, halving-root}
 use Rattle.forest.proofs.Linking.{Linking, linking-other}
@@ -20,8 +20,8 @@ use Rattle.forest.proofs.Raising.{Raising, raising-parents}
 abbrev isRoot : (ℕ → ℕ) → ℕ → Bool
 isRoot p i = eqb (p i) i
 
-pub start-roots : {n : ℕ} {p r B : ℕ → ℕ} → Start n p r B → rootCount p n ≡ n
-start-roots {n} {p} start = count-all (isRoot p) n (λ i l. eq-eqb (p i) i (start .roots i l))
+pub singletons-roots : {n : ℕ} {p r B : ℕ → ℕ} → Singletons n p r B → rootCount p n ≡ n
+singletons-roots {n} {p} single = count-all (isRoot p) n (λ i l. eq-eqb (p i) i (single .roots i l))
 
 pub halving-roots : {n : ℕ} {p r B p′ r′ : ℕ → ℕ} {v k u : ℕ} → WellFormed n p r → Halving n p r B v k u → Changed p p′ v u
     → Changed r r′ v k → rootCount p′ n ≡ rootCount p n

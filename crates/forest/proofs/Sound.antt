@@ -1,10 +1,10 @@
 -- Soundness of a table against labels: the facts that every write keeps.
 --
---   Heavy n p r B   a set has at least as many nodes as its ranks ask for
---   Sound n p r B   well formed, labelled and heavy
---   Start n p r B   document 01's start: each node its own parent, rank 0 and alone
+--   Heavy n p r B        a set has at least as many nodes as its ranks ask for
+--   Sound n p r B        well formed, labelled and heavy
+--   Singletons n p r B   each node its own parent, rank 0 and alone
 --
--- Main laws: start-sound, the start is sound; rank-bound and rank-limit, ranks never exceed the base-2 logarithm of
+-- Main laws: singletons-sound, singletons are sound; rank-bound and rank-limit, ranks never exceed the base-2 logarithm of
 -- the node count.
 use mathlib.Core.Path.{_≡_, sym, ap, _∙_}
 use mathlib.Core.Logic.{_≢_}
@@ -27,7 +27,7 @@ pub record Sound (n : ℕ) (p r B : ℕ → ℕ) : Type 0 where
   pub labelled : Labelled n p B
   pub heavy : Heavy n p r B
 
-pub record Start (n : ℕ) (p r B : ℕ → ℕ) : Type 0 where
+pub record Singletons (n : ℕ) (p r B : ℕ → ℕ) : Type 0 where
   pub limit : n ≤ nodeLimit
   pub roots : (i : ℕ) → i < n → p i ≡ i
   pub ranks : (i : ℕ) → i < n → r i ≡ 0
@@ -51,28 +51,28 @@ module _ {n : ℕ} {p r B : ℕ → ℕ} (sound : Sound n p r B) where
   pub rank-limit : (k : ℕ) → n ≤ 2 ^ k → (i : ℕ) → i < n → r i ≤ k
   rank-limit k h i l = power-limit (r i) k n (rank-bound i l) h
 
-module _ {n : ℕ} {p r B : ℕ → ℕ} (start : Start n p r B) where
-  start-formed : WellFormed n p r
-  start-formed =
+module _ {n : ℕ} {p r B : ℕ → ℕ} (single : Singletons n p r B) where
+  singletons-formed : WellFormed n p r
+  singletons-formed =
       record {
-        limit = start .limit;
-        inside = λ i l. omega (arith, start .roots i l);
-        rising = λ i l d. absurd (d (start .roots i l));
+        limit = single .limit;
+        inside = λ i l. omega (arith, single .roots i l);
+        rising = λ i l d. absurd (d (single .roots i l));
       }
 
-  start-labelled : Labelled n p B
-  start-labelled =
+  singletons-labelled : Labelled n p B
+  singletons-labelled =
       record {
-        along = λ i l. ap B (start .roots i l);
-        apart = λ i j li lj _ _ e. sym (start .alone i li) ∙ e ∙ start .alone j lj;
+        along = λ i l. ap B (single .roots i l);
+        apart = λ i j li lj _ _ e. sym (single .alone i li) ∙ e ∙ single .alone j lj;
       }
 
-  start-heavy : Heavy n p r B
-  start-heavy =
+  singletons-heavy : Heavy n p r B
+  singletons-heavy =
       record {
-        all = λ i l. rw (start .ranks i l) (size-positive n B i l);
-        lower = λ i l d. absurd (d (start .roots i l));
+        all = λ i l. rw (single .ranks i l) (size-positive n B i l);
+        lower = λ i l d. absurd (d (single .roots i l));
       }
 
-  pub start-sound : Sound n p r B
-  start-sound = record { formed = start-formed; labelled = start-labelled; heavy = start-heavy }
+  pub singletons-sound : Sound n p r B
+  singletons-sound = record { formed = singletons-formed; labelled = singletons-labelled; heavy = singletons-heavy }

@@ -12,7 +12,7 @@ use mathlib.Core.List.{List, [], _++_, map}
 use Prim.Native.Nat.{ℕ, _+_, _*_, _≤_, _<_}
 use native.Mathlib.Omega.{arith}
 use native.Mathlib.Decide.{ℕ-discrete}
-use lib.ListN.{length, take, drop, replicate, take-append-drop, length-replicate}
+use lib.ListN.{length, take, drop, replicate, take-append-drop, length-map, length-replicate}
 use lib.Seq.{take-at, drop-at, length-take-le}
 use borrow.Author.Tests.{eq-eqb, ne-eqb}
 use Rattle.job.specs.declared.Tally.{Tally}
@@ -23,8 +23,9 @@ use Rattle.jobfile.specs.Admitted.{Bytes}
 use Rattle.reader.specs.declared.Checked.{Checked}
 use Rattle.reader.specs.Reader.{countsOf}
 use Rattle.rules.specs.State.{tallyOf}
-use Rattle.rules.specs.Table.{fresh}
-use Rattle.start.proofs.Start.{length-words, start-standing}
+use Rattle.rules.specs.Start.{Start}
+use Rattle.rules.proofs.Theorem.{initial-startable}
+use Rattle.start.proofs.Start.{start-standing}
 use Rattle.stepper.specs.Shown.{requestsIn, Standing}
 use Rattle.stepper.proofs.Reached.{playing-admitted}
 use Rattle.turns.specs.declared.Progress.{Progress}
@@ -33,30 +34,30 @@ use Rattle.turns.proofs.Runs.{grants-few}
 use Rattle.turns.proofs.Counters.{small-addable}
 use Rattle.turns.proofs.Going.{Going, going-start, going-turnable, going-next, going-end}
 use Rattle.player.specs.declared.Plan.{Plan}
-use Rattle.player.specs.Player.{left, leftAt, refusedWith, cutOf, playedOf, Roomy}
+use Rattle.player.specs.Player.{left, leftAt, refusedWith, cutOf, originIn, playedOf, Roomy}
 use Rattle.player.specs.Plan.{idlePlan, acceptedPlan, laidOf, prepared, preparedOf}
 use Rattle.player.specs.Plan.{TurnableOn, TurnedOn, TurnsOn, closedOf}
 use Rattle.player.specs.Demand.{LinearizedHere, LawfulHere}
 use Rattle.player.proofs.Refusals.{refusal, accepted-roomy, refused-left, accepted-left}
 use Rattle.player.proofs.Prepared.{nodes-are, rows-are}
-use Rattle.player.proofs.Demand.{linearized-here, lawful-here}
+use Rattle.player.proofs.Demand.{linearized-from, lawful-from, origin-initial}
 
 -- ---- one turn on the lent buffers
 
-pub turned-on : {file : List ℕ} {counts : Checked} {p p′ : Progress} {linearization linearization′ lent : List ℕ}
-    (table report part rows : List ℕ)
+pub turned-on : {file : List ℕ} {counts : Checked} {p p′ : Progress} {origin : Start}
+    {linearization linearization′ lent : List ℕ} (table report part rows : List ℕ)
     → TurnableOn file counts p table report linearization
     → length part ≡ length (take (counts .nodes) table) → length rows ≡ length (take (4 * counts .requests) report)
-    → Turned file p p′ (buffersOf p′ part rows linearization′) lent
+    → Turned file p p′ (buffersOf p′ part rows linearization′) origin lent
     → TurnedOn file counts p p′ (buffersOf p table report linearization)
-    (buffersOf p′ (part ++ drop (counts .nodes) table) (rows ++ drop (4 * counts .requests) report) linearization′) lent
-turned-on {file} {counts} {p} {p′} {linearization} {linearization′} {lent} table report part rows t is-part is-rows turned =
+    (buffersOf p′ (part ++ drop (counts .nodes) table) (rows ++ drop (4 * counts .requests) report) linearization′) origin lent
+turned-on {file} {counts} {p} {p′} {origin} {linearization} {linearization′} {lent} table report part rows t is-part is-rows turned =
     let n = counts .nodes in
     let m = 4 * counts .requests in
     let long-part = is-part ∙ length-take-le n table (t .nodes) in
     let long-rows = is-rows ∙ length-take-le m report (t .rows) in
     record {
-      turned = subst₂ (λ a b. Turned file p p′ (buffersOf p′ a b linearization′) lent)
+      turned = subst₂ (λ a b. Turned file p p′ (buffersOf p′ a b linearization′) origin lent)
           (sym (take-at part (drop n table) n long-part)) (sym (take-at rows (drop m report) m long-rows)) turned;
       table-rest = drop-at part (drop n table) n long-part;
       report-rest = drop-at rows (drop m report) m long-rows;
@@ -102,7 +103,7 @@ module _ (E : Entry) (counts : Checked) where
     pub rows : m ≤ length report
     pub table-rest : drop n table ≡ drop n table₀
     pub report-rest : drop m report ≡ drop m report₀
-    pub going : Going file counts linearization₀ p tally (take n table) (take m report) linearization
+    pub going : Going (originIn file) file counts linearization₀ p tally (take n table) (take m report) linearization
 
   pub record Along : Type 0 where
     pub progress : Progress
@@ -135,8 +136,8 @@ module _ (E : Entry) (counts : Checked) where
         (buffersOf p′ table′ report′ linearization′))
         (added : tally′ ≡ countedOf (a .tally) (p′ .done) (p′ .mask)) where
       turned-here : TurnedOn file counts (a .progress) p′ (buffersOf (a .progress) (a .table) (a .report) (a .linearization))
-          (buffersOf p′ table′ report′ linearization′) linearization₀
-      turned-here = turned linearization₀ (a .lending .going .standing)
+          (buffersOf p′ table′ report′ linearization′) (originIn file) linearization₀
+      turned-here = turned (originIn file) linearization₀ (a .lending .going .standing)
 
       pub along-number : p′ .number ≡ a .progress .number + 1
       along-number = turned-here .turned .number
@@ -179,10 +180,11 @@ module _ (E : Entry) (counts : Checked) where
     report-cut : a .report ≡ take m (a .report) ++ drop m report₀
     report-cut = sym (take-append-drop m (a .report)) ∙ ap (λ d. take m (a .report) ++ d) (a .lending .report-rest)
 
-    last : stateAt file (a .progress .number) ≡ runOf (meaning file .job)
+    last : stateAt (originIn file) file (a .progress .number) ≡ runOf (originIn file) (meaning file .job)
     last = going-end (a .lending .going) (omega (arith, over, ap (λ k. k .grants) (a .lending .going .playing .checked)))
 
-    ended-cut : left (a .table) (a .report) (a .linearization) answer ≡ cutOf (meaning file .job) table₀ report₀ linearization₀
+    ended-cut : left (a .table) (a .report) (a .linearization) answer
+        ≡ cutOf (originIn file) (meaning file .job) table₀ report₀ linearization₀
     ended-cut =
         let counts-are = a .lending .going .playing .checked in
         let shows = a .lending .going .standing .shows in
@@ -200,7 +202,7 @@ module _ (E : Entry) (counts : Checked) where
         }))
         ∙ ap (λ T. leftAt (meaning file .job) T table₀ report₀ linearization₀) last
 
-    pub along-tally : a .tally ≡ tallyOf (requestsIn file) (runOf (meaning file .job))
+    pub along-tally : a .tally ≡ tallyOf (requestsIn file) (runOf (originIn file) (meaning file .job))
     along-tally = ap (λ x. x .result .tally) ended-cut
 
     accepted-end : PlayEnded E (a .table) (a .report) (a .linearization) answer
@@ -208,8 +210,8 @@ module _ (E : Entry) (counts : Checked) where
         let admitted = playing-admitted (a .lending .going .playing) in
         record {
           exact = ended-cut ∙ accepted-left file table₀ report₀ linearization₀ (a .lending .accepted);
-          linearized = λ z. linearized-here file admitted table₀ report₀ linearization₀ _ ended-cut;
-          lawful = λ z. lawful-here file admitted table₀ report₀ linearization₀ _ ended-cut;
+          linearized = λ z. linearized-from file (origin-initial file) admitted table₀ report₀ linearization₀ _ ended-cut;
+          lawful = λ z. lawful-from file (origin-initial file) admitted table₀ report₀ linearization₀ _ ended-cut;
         }
 
     pub along-end : (result : Played) → result ≡ answer → PlayEnded E (a .table) (a .report) (a .linearization) result
@@ -264,29 +266,34 @@ module _ (E : Entry) (table report linearization : List ℕ) (plan : Plan) (byte
     abbrev rows : ℕ
     rows = 4 * plan .counts .requests
 
-    table-is : table ≡ map encode (fresh (meaning file .job .nodes)) ++ drop size table₀
+    abbrev words : List ℕ
+    words = map encode (originIn file .table)
+
+    table-is : table ≡ words ++ drop size table₀
     table-is =
         ap (λ x. x .table) was-accepted
-        ∙ ap (λ k. map encode (fresh (meaning file .job .nodes)) ++ drop k table₀) (sym (nodes-are (roomy .playing)))
+        ∙ ap (λ k. words ++ drop k table₀) (sym (nodes-are (roomy .playing)))
 
     report-is : report ≡ replicate (4 * length (requestsIn file)) 0 ++ drop rows report₀
     report-is =
         ap (λ x. x .report) was-accepted
         ∙ ap (λ k. replicate (4 * length (requestsIn file)) 0 ++ drop k report₀) (sym (rows-are (roomy .playing)))
 
-    fresh-long : length (map encode (fresh (meaning file .job .nodes))) ≡ size
-    fresh-long = length-words (meaning file .job .nodes) ∙ sym (nodes-are (roomy .playing))
+    words-long : length words ≡ size
+    words-long =
+        length-map (originIn file .table) encode
+        ∙ initial-startable (omega (arith, playing-admitted (roomy .playing) .few-nodes)) (origin-initial file) .nodes
+        ∙ sym (nodes-are (roomy .playing))
 
     zeros-long : length {A = ℕ} (replicate (4 * length (requestsIn file)) 0) ≡ rows
     zeros-long = length-replicate (4 * length (requestsIn file)) 0 ∙ sym (rows-are (roomy .playing))
 
     -- the parts that the job needs are the start of the rules
     starts : buffersOf (plan .progress) (take size table) (take rows report) linearization
-        ≡ buffersOf (acceptedPlan file .progress) (map encode (fresh (meaning file .job .nodes)))
-        (replicate (4 * length (requestsIn file)) 0) linearization₀
+        ≡ buffersOf (acceptedPlan file .progress) words (replicate (4 * length (requestsIn file)) 0) linearization₀
     starts =
         (λ i. buffersOf (was-accepted i .plan .progress)
-        ((ap (take size) table-is ∙ take-at (map encode (fresh (meaning file .job .nodes))) (drop size table₀) size fresh-long) i)
+        ((ap (take size) table-is ∙ take-at words (drop size table₀) size words-long) i)
         ((ap (take rows) report-is ∙ take-at (replicate (4 * length (requestsIn file)) 0) (drop rows report₀) rows zeros-long) i)
         (was-accepted i .linearization))
 
@@ -302,14 +309,13 @@ module _ (E : Entry) (table report linearization : List ℕ) (plan : Plan) (byte
             linearization-long = linearization-long;
             nodes = omega (arith, nodes-are (roomy .playing), table-long, roomy .nodes);
             rows = omega (arith, rows-are (roomy .playing), report-long, roomy .rows);
-            table-rest = ap (drop size) table-is
-                ∙ drop-at (map encode (fresh (meaning file .job .nodes))) (drop size table₀) size fresh-long;
+            table-rest = ap (drop size) table-is ∙ drop-at words (drop size table₀) size words-long;
             report-rest = ap (drop rows) report-is
                 ∙ drop-at (replicate (4 * length (requestsIn file)) 0) (drop rows report₀) rows zeros-long;
             going = going-start (roomy .playing) (plan .progress) tally
                 (ap (λ x. x .plan .progress) was-accepted) is-tally
-                (subst (λ b. Standing (meaning file .job) b 1 [] linearization₀) (sym starts)
-                (start-standing (meaning file .job) linearization₀ (roomy .room)));
+                (subst (λ b. Standing (originIn file) (meaning file .job) b 1 [] linearization₀) (sym starts)
+                (start-standing (meaning file .job) (origin-initial file) linearization₀ (roomy .room)));
           }
 
   -- ---- either way

@@ -7,7 +7,7 @@ use Prim.Native.Nat.{ℕ, zero, suc, _≤_, _<_}
 use native.Mathlib.Omega.{arith}
 use lib.ListN.{length, getD, take, drop, take-append-drop}
 use lib.Seq.{take-all}
-use Rattle.job.specs.Job.{Job}
+use Rattle.job.specs.Job.{Job, mostHeads}
 use Rattle.word.specs.Word.{decode}
 use Rattle.jobfile.specs.Meaning.{accepted, meaning}
 use Rattle.jobfile.specs.Written.{written}
@@ -17,13 +17,15 @@ use Rattle.jobfile.proofs.RoundTrip.{written-meaning, admitted-meaning}
 use Rattle.jobfile.proofs.Places.{length-written}
 use Rattle.jobfile.proofs.Cuts.{runs-cut, written-bytes}
 use Rattle.rules.specs.Laws.{Follows}
+use Rattle.rules.specs.Start.{freshStart}
+use Rattle.rules.proofs.Theorem.{initial-startable}
 use Rattle.rules.proofs.Laws.{run-follows}
 use Rattle.stepper.specs.Shown.{stateAfter}
 use Rattle.stepper.proofs.Reached.{cut-granted, after-playable}
-use Rattle.player.specs.Player.{lentRefusal, leftAt, playedOf}
+use Rattle.player.specs.Player.{lentRefusal, originIn, leftAt, playedOf}
 use Rattle.player.specs.Cuts.{cut, fileCut, nodesLeft, LongEnough, Cuts}
 use Rattle.player.proofs.Refusals.{refusal, refusal-lent, accepted-left}
-use Rattle.player.proofs.Demand.{table-back}
+use Rattle.player.proofs.Demand.{origin-initial, table-back}
 
 -- ---- the grants of a cut
 
@@ -92,7 +94,7 @@ module _ (file : List ℕ) (bytes : Bytes file) (accepts : meaning file .number 
 
   module _ (table report linearization : List ℕ) (room : LongEnough j table report linearization) where
     cut-played : (k : ℕ) → playedOf (fileCut k file) table report linearization
-        ≡ leftAt (cut k j) (stateAfter j (take k (j .schedule))) table report linearization
+        ≡ leftAt (cut k j) (stateAfter (originIn file) j (take k (j .schedule))) table report linearization
     cut-played k =
         let is = ap (λ m. m .job) (cut-meaning k) in
         let none : refusal (fileCut k file) (length table) (length report) (length linearization) ≡ 0 =
@@ -100,12 +102,12 @@ module _ (file : List ℕ) (bytes : Bytes file) (accepts : meaning file .number 
         ∙ ap (λ i. lentRefusal i (length table) (length report) (length linearization)) is
         ∙ cut-room j admitted k (length table) (length report) (length linearization) ∙ room in
         sym (accepted-left (fileCut k file) table report linearization none)
-        ∙ ap (λ i. leftAt i (stateAfter i (i .schedule)) table report linearization) is
+        ∙ ap (λ i. leftAt i (stateAfter (freshStart (i .nodes)) i (i .schedule)) table report linearization) is
 
-    nodes-after : (k : ℕ) → nodesLeft k file table report linearization ≡ stateAfter j (take k (j .schedule)) .table
+    nodes-after : (k : ℕ) → nodesLeft k file table report linearization ≡ stateAfter (originIn file) j (take k (j .schedule)) .table
     nodes-after k =
         ap (λ x. map decode (take (j .nodes) (x .table))) (cut-played k)
-        ∙ table-back (cut k j) (cut-admitted j admitted k) (drop (j .nodes) table)
+        ∙ table-back (cut k j) (origin-initial file) (cut-admitted j admitted k) (drop (j .nodes) table)
 
     cut-follows : (k l : ℕ) → k ≤ l
         → Follows (j .nodes) (nodesLeft k file table report linearization) (nodesLeft l file table report linearization)
@@ -114,8 +116,9 @@ module _ (file : List ℕ) (bytes : Bytes file) (accepts : meaning file .number 
         let then = drop k (take l (j .schedule)) in
         let all : first ++ then ≡ take l (j .schedule) = take-on k l (j .schedule) h in
         let playable = after-playable j admitted (first ++ then) (λ g m. cut-granted j admitted l g (rw all at m)) in
-        subst₂ (Follows (j .nodes)) (sym (nodes-after k)) (sym (nodes-after l ∙ ap (λ gs. stateAfter j gs .table) (sym all)))
-        (run-follows first then playable)
+        subst₂ (Follows (j .nodes)) (sym (nodes-after k))
+        (sym (nodes-after l ∙ ap (λ gs. stateAfter (originIn file) j gs .table) (sym all)))
+        (run-follows (j .requests) mostHeads (initial-startable (playable .few) (origin-initial file)) first then playable)
 
   pub cuts : Cuts file
   cuts =

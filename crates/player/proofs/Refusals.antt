@@ -21,7 +21,7 @@ use Rattle.jobfile.specs.Meaning.{refused, meaning}
 use Rattle.jobfile.specs.Admitted.{Bytes}
 use Rattle.reader.specs.declared.Checked.{Checked}
 use Rattle.reader.specs.Reader.{countsOf}
-use Rattle.player.specs.Player.{refusedWith, lentRefusal, playRefusal, admissionOf, Left, cutOf, playedOf, Roomy}
+use Rattle.player.specs.Player.{refusedWith, lentRefusal, playRefusal, admissionOf, Left, cutOf, originIn, playedOf, Roomy}
 
 -- ---- the lent buffers, in their order
 
@@ -160,6 +160,7 @@ module _ (file table report linearization : List ℕ) where
   refused-left p n is e d =
       ap unchanged (is ∙ ap refusedWith e) ∙ sym (rw (ne-eqb number 0 (λ z. d (e ∙ z))) refl)
 
-  pub accepted-left : number ≡ 0 → cutOf (meaning file .job) table report linearization ≡ playedOf file table report linearization
+  pub accepted-left : number ≡ 0
+      → cutOf (originIn file) (meaning file .job) table report linearization ≡ playedOf file table report linearization
   unfolding playedOf
   accepted-left e = sym (rw (eq-eqb number 0 e) refl)

@@ -18,7 +18,7 @@ use Rattle.jobfile.specs.Written.{written}
 use Rattle.jobfile.specs.Admitted.{Admitted, Bytes}
 use Rattle.rules.specs.Laws.{Follows}
 use Rattle.stepper.specs.Shown.{stateAfter}
-use Rattle.player.specs.Player.{lentRefusal, leftAt, playedOf}
+use Rattle.player.specs.Player.{lentRefusal, originIn, leftAt, playedOf}
 
 -- The same places, heads and requests, and the first k grants.
 abbrev pub cut : ℕ → Job → Job
@@ -51,7 +51,7 @@ pub record Cuts (file : List ℕ) : Type 0 where
   -- for it is the run's state after k grants.
   pub played : (k : ℕ) (table report linearization : List ℕ) → LongEnough (meaning file .job) table report linearization
       → playedOf (fileCut k file) table report linearization
-      ≡ leftAt (cut k (meaning file .job)) (stateAfter (meaning file .job) (take k (meaning file .job .schedule)))
+      ≡ leftAt (cut k (meaning file .job)) (stateAfter (originIn file) (meaning file .job) (take k (meaning file .job .schedule)))
       table report linearization
   -- Between any two cuts of one file: what holds between any two moments of a run, of the tables that the two plays leave.
   pub follows : (k l : ℕ) → k ≤ l → (table report linearization : List ℕ) → LongEnough (meaning file .job) table report linearization

@@ -1,23 +1,25 @@
 -- Demand 3 and the laws of every moment, on what a play leaves in the lent buffers.
 --
 --   rowsOf numbers        the rows of a report, four numbers each
---   historyOf j           what the grants of the job j were, by the rules
---   LinearizedHere        the linearization theorem, of the exit buffers cut to what counts
---   LawfulHere            the laws of every moment, of the same and of the play's own counts
+--   historyOf origin j    what the grants of the job j were, by the rules, from that start
+--   LinearizedFrom        the linearization theorem from a start, of the exit buffers cut to what counts
+--   LawfulFrom            the laws of every moment from a start, of the same and of the play's own counts
+--   LinearizedHere, LawfulHere   the two from what the play starts from
 use mathlib.Core.List.{List, [], _∷_, map}
 use Prim.Native.Nat.{ℕ, _*_}
 use lib.ListN.{take}
 use Rattle.job.specs.declared.Played.{Played}
 use Rattle.job.specs.Job.{Job}
 use Rattle.word.specs.Word.{decode}
-use Rattle.linearization.specs.Partition.{apart}
 use Rattle.linearization.specs.Entry.{entriesOf}
 use Rattle.jobfile.specs.Meaning.{meaning}
 use Rattle.rules.specs.declared.Row.{Row}
+use Rattle.rules.specs.Start.{Start}
 use Rattle.rules.specs.Run.{Happening}
 use Rattle.rules.specs.Linearized.{Linearized}
 use Rattle.rules.specs.Laws.{Lawful}
 use Rattle.stepper.specs.Shown.{historyAfter}
+use Rattle.player.specs.Player.{originIn}
 
 abbrev pub rowsOf : List ℕ → List Row
 rowsOf [] = []
@@ -26,21 +28,27 @@ rowsOf (a ∷ f ∷ []) = []
 rowsOf (a ∷ f ∷ l ∷ []) = []
 rowsOf (a ∷ f ∷ l ∷ u ∷ numbers) = record { answer = a; first = f; last = l; used = u } ∷ rowsOf numbers
 
-abbrev pub historyOf : Job → List Happening
-historyOf j = historyAfter j (j .schedule)
+abbrev pub historyOf : Start → Job → List Happening
+historyOf origin j = historyAfter origin j (j .schedule)
 
-abbrev pub LinearizedHere : List ℕ → Played → List ℕ → List ℕ → List ℕ → Type 0
-LinearizedHere file played table report linearization =
-    Linearized apart (played .nodes) (meaning file .job .requests)
+abbrev pub LinearizedFrom : Start → List ℕ → Played → List ℕ → List ℕ → List ℕ → Type 0
+LinearizedFrom origin file played table report linearization =
+    Linearized (origin .labels) (played .nodes) (meaning file .job .requests)
     (map decode (take (played .nodes) table))
     (rowsOf (take (4 * played .requests) report))
     (entriesOf (take (2 * played .entries) linearization))
-    (historyOf (meaning file .job))
+    (historyOf origin (meaning file .job))
 
-abbrev pub LawfulHere : List ℕ → Played → List ℕ → List ℕ → Type 0
-LawfulHere file played table report =
-    Lawful (played .nodes) (played .heads) (meaning file .job .requests)
+abbrev pub LawfulFrom : Start → List ℕ → Played → List ℕ → List ℕ → Type 0
+LawfulFrom origin file played table report =
+    Lawful (origin .groups) (played .nodes) (played .heads) (meaning file .job .requests)
     (map decode (take (played .nodes) table))
     (rowsOf (take (4 * played .requests) report))
     (played .tally) (played .grants)
-    (historyOf (meaning file .job))
+    (historyOf origin (meaning file .job))
+
+abbrev pub LinearizedHere : List ℕ → Played → List ℕ → List ℕ → List ℕ → Type 0
+LinearizedHere file = LinearizedFrom (originIn file) file
+
+abbrev pub LawfulHere : List ℕ → Played → List ℕ → List ℕ → Type 0
+LawfulHere file = LawfulFrom (originIn file) file

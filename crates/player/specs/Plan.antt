@@ -24,13 +24,13 @@ use Rattle.jobfile.specs.Meaning.{refused, meaning}
 use Rattle.mask.specs.Mask.{maskOf}
 use Rattle.reader.specs.declared.Checked.{Checked}
 use Rattle.reader.specs.Reader.{countsOf}
-use Rattle.rules.specs.Table.{fresh}
 use Rattle.rules.specs.State.{resting, headsFrom}
+use Rattle.rules.specs.Start.{Start}
 use Rattle.stepper.specs.Shown.{Buffers, buffers, requestsIn}
 use Rattle.start.specs.Start.{workFlag}
 use Rattle.turns.specs.declared.Progress.{Progress}
 use Rattle.turns.specs.Turns.{StandingAt, Turnable, Turned, firstProgress}
-use Rattle.player.specs.Player.{playRefusal}
+use Rattle.player.specs.Player.{playRefusal, originIn}
 use Rattle.player.specs.declared.Plan.{Plan}
 
 -- ---- before the first grant
@@ -53,11 +53,11 @@ pub record Laid : Type 0 where
   pub report : List ℕ
   pub plan : Plan
 
--- Each node its own parent, and the requests' report numbers zero; what is past them stays as lent.
+-- The table of the start, and the requests' report numbers zero; what is past them stays as lent.
 abbrev pub laidOf : List ℕ → List ℕ → List ℕ → Laid
 laidOf file table report =
     record {
-      table = map encode (fresh (meaning file .job .nodes)) ++ drop (meaning file .job .nodes) table;
+      table = map encode (originIn file .table) ++ drop (meaning file .job .nodes) table;
       report = replicate (4 * length (requestsIn file)) 0 ++ drop (4 * length (requestsIn file)) report;
       plan = acceptedPlan file;
     }
@@ -92,13 +92,14 @@ pub record TurnableOn (file : List ℕ) (counts : Checked) (p : Progress) (table
   pub turnable : Turnable file counts p (take (counts .nodes) table) (take (4 * counts .requests) report) linearization
 
 -- The turn is made on the parts, and what is past them stays.
-pub record TurnedOn (file : List ℕ) (counts : Checked) (p p′ : Progress) (b b′ : Buffers) (lent : List ℕ) : Type 0 where
-  pub turned : Turned file p p′ (partOf counts b′) lent
+pub record TurnedOn (file : List ℕ) (counts : Checked) (p p′ : Progress) (b b′ : Buffers) (origin : Start) (lent : List ℕ) : Type 0 where
+  pub turned : Turned file p p′ (partOf counts b′) origin lent
   pub table-rest : drop (counts .nodes) (b′ .table) ≡ drop (counts .nodes) (b .table)
   pub report-rest : drop (4 * counts .requests) (b′ .report) ≡ drop (4 * counts .requests) (b .report)
 
 abbrev pub TurnsOn : List ℕ → Checked → Progress → Progress → Buffers → Buffers → Type 0
-TurnsOn file counts p p′ b b′ = (lent : List ℕ) → StandingAt file p (partOf counts b) lent → TurnedOn file counts p p′ b b′ lent
+TurnsOn file counts p p′ b b′ =
+    (origin : Start) (lent : List ℕ) → StandingAt origin file p (partOf counts b) lent → TurnedOn file counts p p′ b b′ origin lent
 
 -- ---- the end
 

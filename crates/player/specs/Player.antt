@@ -5,6 +5,7 @@
 --   lentRefusal j t r l the refusal of lent buffers of these lengths, 0 for none
 --   playRefusal         the refusal of a play
 --   admissionOf         what is known before anything is written
+--   originIn file       what a play of the file starts from
 --   Left, left ..       the buffers and the answer, and the same by its parts
 --   playedOf            what a play leaves
 use mathlib.Core.Bool.{cond}
@@ -19,6 +20,7 @@ use Rattle.jobfile.specs.Meaning.{refused, meaning}
 use Rattle.reader.specs.declared.Checked.{Checked}
 use Rattle.reader.specs.Reader.{countsOf}
 use Rattle.rules.specs.State.{State, tallyOf}
+use Rattle.rules.specs.Start.{Start, freshStart}
 use Rattle.stepper.specs.Shown.{shown, Playing}
 use Rattle.turns.specs.Turns.{runOf}
 
@@ -79,14 +81,18 @@ leftAt j S table report linearization =
     let b = shown (j .requests) S linearization in
     left (b .table ++ drop (j .nodes) table) (b .report ++ drop (4 * length (j .requests)) report) (b .linearization) (acceptedWith j S)
 
-abbrev pub cutOf : Job → List ℕ → List ℕ → List ℕ → Left
-cutOf j table report linearization = leftAt j (runOf j) table report linearization
+abbrev pub cutOf : Start → Job → List ℕ → List ℕ → List ℕ → Left
+cutOf origin j table report linearization = leftAt j (runOf origin j) table report linearization
+
+-- Every play starts with each place alone.
+abbrev pub originIn : List ℕ → Start
+originIn file = freshStart (meaning file .job .nodes)
 
 -- Refused: every buffer unchanged. Accepted: what the rules' run of the file's meaning leaves.
 unfoldable pub playedOf : List ℕ → List ℕ → List ℕ → List ℕ → Left
 playedOf file table report linearization =
     cond (eqb (playRefusal file (length table) (length report) (length linearization)) 0)
-    (cutOf (meaning file .job) table report linearization)
+    (cutOf (originIn file) (meaning file .job) table report linearization)
     (left table report linearization (refusedWith (playRefusal file (length table) (length report) (length linearization))))
 
 -- ---- for the inner functions

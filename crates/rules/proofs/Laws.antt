@@ -17,23 +17,22 @@ use Rattle.word.specs.Word.{before, key}
 use Rattle.word.proofs.Laws.{before-key}
 use Rattle.forest.proofs.Forest.{WellFormed, together-label, label-together}
 use Rattle.forest.proofs.Sound.{rank-bound}
-use Rattle.forest.proofs.Roots.{start-roots}
 use Rattle.forest.proofs.Later.{Later, later-refl}
-use Rattle.linearization.specs.Partition.{Labels, apart}
+use Rattle.linearization.specs.Partition.{Labels}
 use Rattle.rules.specs.declared.Row.{Row}
-use Rattle.rules.specs.Table.{parent, rank, fresh}
+use Rattle.rules.specs.Table.{parent, rank}
 use Rattle.rules.specs.Report.{noRow}
 use Rattle.rules.specs.State.{State, requestAt, start, tallyOf}
+use Rattle.rules.specs.Start.{Start}
 use Rattle.rules.specs.Step.{step}
 use Rattle.rules.specs.Run.{Happening, run, history}
 use Rattle.rules.specs.History.{countWhere, isOf, rowOf}
 use Rattle.rules.specs.Linearized.{rowAt, Playable}
 use Rattle.rules.specs.Laws.{some, isUnfinished, headsLeft, Lawful, Follows}
 use Rattle.rules.proofs.History.{row-other}
-use Rattle.rules.proofs.Table.{fresh-start}
 use Rattle.rules.proofs.Invariant.{labels, Invariant}
 use Rattle.rules.proofs.Theorem.{length-heads, start-row, start-invariant, step-heads, run-invariant, run-prefix}
-use Rattle.rules.proofs.Theorem.{playable-inside, started-invariant, fresh-startable}
+use Rattle.rules.proofs.Theorem.{playable-inside, started-invariant, Startable}
 use Rattle.rules.proofs.Positions.{some-false, phase-begun, phase-passed, phase-anchored, phase-of, answer-is, work-left}
 use Rattle.rules.proofs.Layer.{run-layer, AllTruthful, truthful-layer, Counted, counted-layer, InTurn, in-turn-layer, later-layer}
 
@@ -85,13 +84,13 @@ module _ {qs : List Request} {n : ℕ} {B : Labels} {roots₀ : ℕ} {S : State}
     ended-before turn = omega (arith, turn p q earlier within one (λ e. begun (first-is ∙ e)), first-is, last-is)
 
   invariant-lawful : (heads : ℕ) → heads ≤ length (S .heads) → ((q : ℕ) → q < length qs → requestAt qs q .head < heads)
-      → roots₀ ≡ n → Counted S past → AllTruthful past → InTurn qs past
-      → Lawful n heads qs (S .table) (S .report) (tallyOf qs S) (S .now) past
-  invariant-lawful heads few served all counted truthful turn =
+      → Counted S past → AllTruthful past → InTurn qs past
+      → Lawful roots₀ n heads qs (S .table) (S .report) (tallyOf qs S) (S .now) past
+  invariant-lawful heads few served counted truthful turn =
       record {
         parents = formed-before (inv .sound .formed);
         ranks = rank-bound (inv .sound);
-        roots = inv .roots ∙ all;
+        roots = inv .roots;
         reports = inv .reports;
         rows = inv .rows;
         fresh = λ q l none. inv .rows q l ∙ unused-row q past none;
@@ -147,41 +146,39 @@ playable-cut gs hs playable =
       granted = λ h k. playable .granted h (Memᴰ·append-left hs k);
     }
 
-module _ {n m : ℕ} {qs : List Request} where
-  granted-start : {gs : List ℕ} → Playable n m qs gs → (h : ℕ) → List·Memᴰ h gs → h < length (start qs m (fresh n) .heads)
+module _ {n : ℕ} (qs : List Request) (m : ℕ) {s : Start} (begin : Startable n s) where
+  abbrev first : State
+  first = start qs m (s .table)
+
+  granted-start : {gs : List ℕ} → Playable n m qs gs → (h : ℕ) → List·Memᴰ h gs → h < length (first .heads)
   granted-start playable h k = omega (arith, playable .granted h k, length-heads qs 0 m)
 
-  granted-later : (gs hs : List ℕ) → Playable n m qs (gs ++ hs) → (h : ℕ) → List·Memᴰ h hs
-      → h < length (run qs (start qs m (fresh n)) gs .heads)
-  granted-later gs hs playable h k =
-      omega (arith, granted-start playable h (Memᴰ·append-right gs k), run-heads qs (start qs m (fresh n)) gs)
+  granted-later : (gs hs : List ℕ) → Playable n m qs (gs ++ hs) → (h : ℕ) → List·Memᴰ h hs → h < length (run qs first gs .heads)
+  granted-later gs hs playable h k = omega (arith, granted-start playable h (Memᴰ·append-right gs k), run-heads qs first gs)
 
   -- m heads are played with, of which `heads` have requests
   pub run-lawful : {gs : List ℕ} → Playable n m qs gs → (heads : ℕ) → heads ≤ m → ((q : ℕ) → q < length qs → requestAt qs q .head < heads)
-      → Lawful n heads qs (run qs (start qs m (fresh n)) gs .table) (run qs (start qs m (fresh n)) gs .report)
-      (tallyOf qs (run qs (start qs m (fresh n)) gs)) (run qs (start qs m (fresh n)) gs .now) (history qs (start qs m (fresh n)) [] gs)
+      → Lawful (s .groups) n heads qs (run qs first gs .table) (run qs first gs .report)
+      (tallyOf qs (run qs first gs)) (run qs first gs .now) (history qs first [] gs)
   run-lawful {gs} playable heads few served =
-      let S = start qs m (fresh n) in
-      let many : heads ≤ length (run qs S gs .heads) = omega (arith, few, run-heads qs S gs, length-heads qs 0 m) in
-      let begin = fresh-startable n (playable .few) in
+      let many : heads ≤ length (run qs first gs .heads) = omega (arith, few, run-heads qs first gs, length-heads qs 0 m) in
       let inside = playable-inside playable in
       let granted = granted-start playable in
       let inv = start-invariant qs m begin in
-      let counted = run-layer inside counted-layer S [] gs granted inv (start-counted qs m (fresh n)) in
-      let truthful = run-layer inside truthful-layer S [] gs granted inv start-truthful in
-      let turn = run-layer inside in-turn-layer S [] gs granted inv (start-in-turn qs) in
-      let all = start-roots (fresh-start n (playable .few)) in
-      invariant-lawful (started-invariant playable begin) heads many served all counted truthful turn
+      let counted = run-layer inside counted-layer first [] gs granted inv (start-counted qs m (s .table)) in
+      let truthful = run-layer inside truthful-layer first [] gs granted inv start-truthful in
+      let turn = run-layer inside in-turn-layer first [] gs granted inv (start-in-turn qs) in
+      invariant-lawful (started-invariant playable begin) heads many served counted truthful turn
 
-  pub run-follows : (gs hs : List ℕ) → Playable n m qs (gs ++ hs)
-      → Follows n (run qs (start qs m (fresh n)) gs .table) (run qs (start qs m (fresh n)) (gs ++ hs) .table)
+  pub run-follows : (gs hs : List ℕ) → Playable n m qs (gs ++ hs) → Follows n (run qs first gs .table) (run qs first (gs ++ hs) .table)
   run-follows gs hs playable =
-      let S = run qs (start qs m (fresh n)) gs in
-      let past = history qs (start qs m (fresh n)) [] gs in
+      let S = run qs first gs in
+      let past = history qs first [] gs in
       let inside = playable-inside playable in
       let granted = granted-later gs hs playable in
-      let inv = started-invariant (playable-cut gs hs playable) (fresh-startable n (playable .few)) in
-      let same = later-refl n (parent (S .table)) (rank (S .table)) (labels qs apart S) in
-      let later = run-layer inside (later-layer (parent (S .table)) (rank (S .table)) (labels qs apart S)) S past hs granted inv same in
-      subst (λ S′. Follows n (S .table) (S′ .table)) (sym (run-prefix qs (start qs m (fresh n)) gs hs))
+      let inv = started-invariant (playable-cut gs hs playable) begin in
+      let sets = labels qs (s .labels) S in
+      let same = later-refl n (parent (S .table)) (rank (S .table)) sets in
+      let later = run-layer inside (later-layer (parent (S .table)) (rank (S .table)) sets) S past hs granted inv same in
+      subst (λ S′. Follows n (S .table) (S′ .table)) (sym (run-prefix qs first gs hs))
       (later-follows inv (run-invariant inside S past hs granted inv) later)

@@ -1,7 +1,7 @@
 -- The table as functions: what a store changes in parents and ranks, what a swap that writes has seen, and the start.
 --
 -- Laws: parent-changed and rank-changed, a store changes its own node alone; length-touched, an access leaves the number of
--- nodes; found-parent and found-rank, a swap that writes saw what it expected; fresh-at and fresh-start, the
+-- nodes; found-parent and found-rank, a swap that writes saw what it expected; fresh-at and fresh-singletons, the
 -- table at the start.
 use mathlib.Core.Path.{_≡_, refl, ap, _∙_}
 use mathlib.Core.Bool.{true}
@@ -14,7 +14,7 @@ use Rattle.basics.proofs.Conditions.{cond-both}
 use Rattle.word.specs.declared.Node.{Node}
 use Rattle.word.specs.Word.{same, nodeLimit}
 use Rattle.word.proofs.Laws.{same-true}
-use Rattle.forest.proofs.Sound.{Start}
+use Rattle.forest.proofs.Sound.{Singletons}
 use Rattle.forest.proofs.Writes.{Changed}
 use Rattle.process.specs.declared.Access.{Access}
 use Rattle.process.specs.declared.Access.the-variants.{Idle, Load, Cas}
@@ -63,8 +63,8 @@ fresh-at i (suc n) (suc j) h =
     let same : suc i + j ≡ i + suc j = omega arith in
     fresh-at (suc i) n j (omega arith) ∙ ap (λ k. record { rank = 0; parent = k }) same
 
-pub fresh-start : (n : ℕ) → n ≤ nodeLimit → Start n (parent (fresh n)) (rank (fresh n)) (λ i. i)
-fresh-start n limit =
+pub fresh-singletons : (n : ℕ) → n ≤ nodeLimit → Singletons n (parent (fresh n)) (rank (fresh n)) (λ i. i)
+fresh-singletons n limit =
     record {
       limit = limit;
       roots = λ i h. omega (arith, ap (λ w. w .parent) (fresh-at 0 n i h));

@@ -1,9 +1,9 @@
 -- Demand 3: every run of every accepted job is linearizable, cut anywhere.
 --
---   Startable n t B    the table t shows the sets B: what a run may start from
+--   Startable n s   the table of the start s has n nodes and shows the groups that s names: what the invariant needs
 --
 -- Main laws: headsFrom-at, each head at the start; run-invariant, the invariant holds at every moment of every run;
--- linearized, the theorem for any start; fresh-linearized, the theorem for document 01's start; run-prefix and
+-- linearized, the theorem for any start; initial-startable, every start that a run may have is one; run-prefix and
 -- history-prefix, a cut is a shorter schedule.
 use mathlib.Core.Path.{_≡_, refl, sym, ap, _∙_}
 use mathlib.Core.Logic.{_≢_}
@@ -23,27 +23,31 @@ use Rattle.process.specs.declared.Head.{Head}
 use Rattle.process.specs.Process.{isResting}
 use Rattle.forest.specs.Forest.{rootCount}
 use Rattle.forest.proofs.Forest.{together-iff-label}
-use Rattle.forest.proofs.Sound.{Sound, start-sound}
-use Rattle.linearization.specs.Partition.{Labels, apart}
+use Rattle.forest.proofs.Sound.{Sound, singletons-sound}
+use Rattle.forest.proofs.Roots.{singletons-roots}
+use Rattle.linearization.specs.Partition.{Labels}
 use Rattle.linearization.specs.Entry.{Entry, occurrences}
 use Rattle.linearization.proofs.Replay.{Replayed, ended, replayed-fact, replayed-rising, replayed-replies, replayed-map}
-use Rattle.rules.specs.Table.{parent, rank, fresh}
+use Rattle.rules.specs.Table.{parent, rank}
 use Rattle.rules.specs.Report.{noRow}
 use Rattle.rules.specs.State.{State, requestAt, seek, resting, headsFrom, start, hasWork}
+use Rattle.rules.specs.Start.{Start, freshStart, Initial}
+use Rattle.rules.specs.Start.Initial.{alone}
 use Rattle.rules.specs.Step.{headAt, ready, advanced, settled, step}
 use Rattle.rules.specs.Run.{Happening, run, happened, history}
 use Rattle.rules.specs.History.{rowOf, linkOf}
 use Rattle.rules.specs.Linearized.{operationAt, rowAt, promised, isListed, Playable, Linearized}
-use Rattle.rules.proofs.Table.{length-fresh, fresh-start}
+use Rattle.rules.proofs.Table.{length-fresh, fresh-singletons}
 use Rattle.rules.proofs.Requests.{seek-own, seek-least}
 use Rattle.rules.proofs.Stages.{Inside}
 use Rattle.rules.proofs.Invariant.{Waiting, Phase, Placed, Invariant}
 use Rattle.rules.proofs.Invariant.Phase.{over, current, waiting}
 use Rattle.rules.proofs.Grant.{step-invariant}
 
-pub record Startable (n : ℕ) (t : List Node) (B : Labels) : Type 0 where
-  pub nodes : length t ≡ n
-  pub sound : Sound n (parent t) (rank t) B
+pub record Startable (n : ℕ) (s : Start) : Type 0 where
+  pub nodes : length (s .table) ≡ n
+  pub sound : Sound n (parent (s .table)) (rank (s .table)) (s .labels)
+  pub groups : rootCount (parent (s .table)) n ≡ s .groups
 
 -- ---- the start
 
@@ -94,16 +98,17 @@ start-row q = refl
 never-busy : {A : Type 0} (b : Bool) → b ≡ true → b ≡ false → A
 never-busy b t f = absurd (true≢false (sym t ∙ f))
 
-pub start-invariant : {n : ℕ} {t : List Node} {B : Labels} (qs : List Request) (m : ℕ) → Startable n t B
-    → Invariant qs n B (rootCount (parent t) n) (start qs m t) []
-start-invariant {n} {t} {B} qs m begin =
+pub start-invariant : {n : ℕ} {s : Start} (qs : List Request) (m : ℕ) → Startable n s
+    → Invariant qs n (s .labels) (s .groups) (start qs m (s .table)) []
+start-invariant {n} {s} qs m begin =
+    let t = s .table in
     record {
       nodes = begin .nodes;
       clock = refl;
       reports = length-replicate (length qs) noRow;
       rows = λ q l. getD-replicate (length qs) q noRow noRow l ∙ start-row q;
       sound = begin .sound;
-      roots = omega arith;
+      roots = omega (arith, begin .groups);
       own = λ h l within. rw (start-head qs m t h (omega (arith, length-heads qs 0 m)))
           (seek-own qs h 0 (rw (start-head qs m t h (omega (arith, length-heads qs 0 m))) at within));
       busy = λ h b. never-busy (isResting (headAt (start qs m t) h)) (start-resting qs m t h) b;
@@ -196,21 +201,24 @@ module _ {n m : ℕ} {qs : List Request} {gs : List ℕ} (playable : Playable n 
   pub playable-inside : (q : ℕ) → q < length qs → Inside n (requestAt qs q)
   playable-inside q l = record { x = playable .left q l; y = playable .right q l }
 
-  pub started-invariant : {t : List Node} {B : Labels} → Startable n t B
-      → Invariant qs n B (rootCount (parent t) n) (run qs (start qs m t) gs) (history qs (start qs m t) [] gs)
-  started-invariant {t} begin =
-      run-invariant playable-inside (start qs m t) [] gs (λ h k. omega (arith, playable .granted h k, length-heads qs 0 m))
-      (start-invariant qs m begin)
+  module _ {s : Start} (begin : Startable n s) where
+    abbrev S : State
+    S = start qs m (s .table)
 
-  pub linearized : {t : List Node} {B : Labels} → Startable n t B
-      → Linearized B n qs (run qs (start qs m t) gs .table) (run qs (start qs m t) gs .report) (run qs (start qs m t) gs .entries)
-      (history qs (start qs m t) [] gs)
-  linearized begin = invariant-linearized (started-invariant begin)
+    pub started-invariant : Invariant qs n (s .labels) (s .groups) (run qs S gs) (history qs S [] gs)
+    started-invariant =
+        run-invariant playable-inside S [] gs (λ h k. omega (arith, playable .granted h k, length-heads qs 0 m))
+        (start-invariant qs m begin)
 
-pub fresh-startable : (n : ℕ) → n ≤ nodeLimit → Startable n (fresh n) apart
-fresh-startable n few = record { nodes = length-fresh 0 n; sound = start-sound (fresh-start n few) }
+    pub linearized : Linearized (s .labels) n qs (run qs S gs .table) (run qs S gs .report) (run qs S gs .entries) (history qs S [] gs)
+    linearized = invariant-linearized started-invariant
 
-pub fresh-linearized : {n m : ℕ} {qs : List Request} {gs : List ℕ} → Playable n m qs gs
-    → Linearized apart n qs (run qs (start qs m (fresh n)) gs .table) (run qs (start qs m (fresh n)) gs .report)
-    (run qs (start qs m (fresh n)) gs .entries) (history qs (start qs m (fresh n)) [] gs)
-fresh-linearized {n} playable = linearized playable (fresh-startable n (playable .few))
+-- ---- the starts that a run may have
+
+fresh-startable : (n : ℕ) → n ≤ nodeLimit → Startable n (freshStart n)
+fresh-startable n few =
+    let single = fresh-singletons n few in
+    record { nodes = length-fresh 0 n; sound = singletons-sound single; groups = singletons-roots single }
+
+pub initial-startable : {n : ℕ} {s : Start} → n ≤ nodeLimit → Initial n s → Startable n s
+initial-startable {n} few alone = fresh-startable n few

@@ -56,15 +56,15 @@ pub record Anchored (q : ℕ) (row : Row) (past : List Happening) : Type 0 where
   pub yes : row .answer ≡ 3 → pointOf SameSet q past ≡ row .last
   pub no : row .answer ≡ 4 → pointOf SameSet q past ≡ lastButOne (isOf q) past
 
--- At every moment of a run.
-pub record Lawful (nodes heads : ℕ) (qs : List Request) (table : List Node) (report : List Row) (tally : Tally) (grants : ℕ)
+-- At every moment of a run that started from that many groups.
+pub record Lawful (groups nodes heads : ℕ) (qs : List Request) (table : List Node) (report : List Row) (tally : Tally) (grants : ℕ)
     (past : List Happening) : Type 0 where
   -- "Every parent that isn't the place itself comes after it."
   pub parents : (i : ℕ) → i < nodes → parent table i ≢ i → before (rank table i) i (rank table (parent table i)) (parent table i) ≡ true
   -- "Ranks never exceed the whole part of the base-2 logarithm of the place count."
   pub ranks : (i : ℕ) → i < nodes → 2 ^ rank table i ≤ nodes
-  -- "Roots plus successful links equal the place count."
-  pub roots : rootCount (parent table) nodes + tally .links ≡ nodes
+  -- "Roots plus successful links equal the place count": as many as there were groups at the start.
+  pub roots : rootCount (parent table) nodes + tally .links ≡ groups
   -- "Each request gets four 32-bit numbers": those that the history gives it.
   pub reports : length report ≡ length qs
   pub rows : (q : ℕ) → q < length qs → rowAt report q ≡ rowOf q past

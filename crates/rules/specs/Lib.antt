@@ -1,7 +1,8 @@
--- The rules of document 01: the table, the report, the state, one step, the run and its history; what is promised of it.
+-- The rules of document 01: the table, the report, the state, the start, one step, the run and its history; what is promised of it.
 pub mod Table
 pub mod Report
 pub mod State
+pub mod Start
 pub mod Step
 pub mod Action
 pub mod Run

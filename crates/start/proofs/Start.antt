@@ -22,6 +22,7 @@ use Rattle.mask.specs.Mask.{maskOf}
 use Rattle.rules.specs.Table.{noNode, fresh}
 use Rattle.rules.specs.Report.{noRow}
 use Rattle.rules.specs.State.{seek, resting, headsFrom}
+use Rattle.rules.specs.Start.{Start, Initial}
 use Rattle.rules.proofs.Table.{length-fresh, fresh-at}
 use Rattle.stepper.specs.Buffers.{flatRows}
 use Rattle.stepper.specs.Shown.{buffers, Standing}
@@ -93,14 +94,15 @@ start-rows (suc k) =
 
 -- ---- all of it
 
-pub start-standing : (j : Job) (lent : List ℕ) → 2 * length (j .requests) ≤ length lent
-    → Standing j
-    (buffers (headsFrom (j .requests) 0 mostHeads) (map encode (fresh (j .nodes))) (replicate (4 * length (j .requests)) 0) lent 0
+pub start-standing : {origin : Start} (j : Job) → Initial (j .nodes) origin → (lent : List ℕ) → 2 * length (j .requests) ≤ length lent
+    → Standing origin j
+    (buffers (headsFrom (j .requests) 0 mostHeads) (map encode (origin .table)) (replicate (4 * length (j .requests)) 0) lent 0
     (maskOf (map (workFlag (length (j .requests))) (headsFrom (j .requests) 0 mostHeads))))
     1 [] lent
-start-standing j lent room =
+start-standing {origin} j initial lent room =
     record {
-      shows = ap (λ rows. buffers (headsFrom (j .requests) 0 mostHeads) (map encode (fresh (j .nodes))) rows lent 0
+      initial = initial;
+      shows = ap (λ rows. buffers (headsFrom (j .requests) 0 mostHeads) (map encode (origin .table)) rows lent 0
           (maskOf (map (workFlag (length (j .requests))) (headsFrom (j .requests) 0 mostHeads)))) (sym (start-rows (length (j .requests))));
       next = refl;
       granted = λ h m. absurd (elim m [ ]);

@@ -20,7 +20,7 @@ use Rattle.process.specs.declared.Advanced.{Advanced}
 use Rattle.process.specs.Process.{Raisable, queued}
 use Rattle.process.specs.Access.{accessOf}
 use Rattle.process.specs.Advance.{advanceOf}
-use Rattle.linearization.specs.Partition.{apart}
+use Rattle.linearization.specs.Partition.{Labels}
 use Rattle.linearization.specs.Entry.{occurrences, inserted, Insertable}
 use Rattle.linearization.proofs.Entries.{length-insert}
 use Rattle.linearization.proofs.Replay.{replayed-rising}
@@ -31,6 +31,7 @@ use Rattle.mask.proofs.Laws.{flag-of, left-least}
 use Rattle.rules.specs.Table.{seen, touched}
 use Rattle.rules.specs.Report.{charge, noRow, isFinal}
 use Rattle.rules.specs.State.{requestAt, State, seek, resting, hasWork}
+use Rattle.rules.specs.Start.{Start}
 use Rattle.rules.specs.Step.{ready, headAt, advanced, settled, served, passed, step}
 use Rattle.rules.specs.Run.{Happening, happened}
 use Rattle.rules.specs.Run.Happening.{idle}
@@ -68,7 +69,7 @@ count-bound f (a ∷ past) = split (f a) (λ t. rw t (omega (arith, count-bound 
 
 -- ---- what holds of every state of a run
 
-module _ {qs : List Request} {n : ℕ} {S : State} {past : List Happening} (inv : Invariant qs n apart n S past) where
+module _ {qs : List Request} {n groups : ℕ} {B : Labels} {S : State} {past : List Happening} (inv : Invariant qs n B groups S past) where
   listed-once : (q : ℕ) → q < length qs → occurrences q (S .entries) ≤ 1
   listed-once q l =
       split (isListed (rowAt (S .report) q) (linkOf q past))
@@ -100,17 +101,17 @@ settled-final qs h moved next t e =
 -- ---- a served grant
 
 module _ {file : List ℕ} {counts : Checked} {h number : ℕ} {b : Buffers} (playing : Playing file counts) (present : h < mostHeads)
-    {gs lent : List ℕ} (standing : Standing (meaning file .job) b number gs lent) where
+    {origin : Start} {gs lent : List ℕ} (standing : Standing origin (meaning file .job) b number gs lent) where
   abbrev qs : List Request
   qs = requestsIn file
 
   abbrev S : State
-  S = stateAfter (meaning file .job) gs
+  S = stateAfter origin (meaning file .job) gs
 
   abbrev past : List Happening
-  past = historyAfter (meaning file .job) gs
+  past = historyAfter origin (meaning file .job) gs
 
-  here : Reached qs (meaning file .job .nodes) b number S past lent
+  here : Reached origin qs (meaning file .job .nodes) b number S past lent
   here = reached playing standing
 
   -- the mask tells whether the head has work left
@@ -129,7 +130,7 @@ module _ {file : List ℕ} {counts : Checked} {h number : ℕ} {b : Buffers} (pl
     work : hasWork qs (headAt S h) ≡ true
     work = sym work-shown ∙ bit
 
-    in-service : Serving qs (meaning file .job .nodes) apart S past h (ready qs (headAt S h))
+    in-service : Serving qs (meaning file .job .nodes) (origin .labels) S past h (ready qs (headAt S h))
     in-service =
         serving-ready (playing-inside playing) (here .invariant) h (omega (arith, here .heads))
         (ltb-true (headAt S h .task .request) (length qs) work)

@@ -1,6 +1,6 @@
 -- Behind a standing: the state that the buffers show is one of a run of an accepted job, so that the rules' invariant holds.
 --
---   Reached   the buffers show the state S, which a run over n nodes has reached with the history `past`
+--   Reached   the buffers show the state S, which a run over n nodes from that start has reached with the history `past`
 --
 -- Main laws: cut-granted, the grants of a cut are for heads; after-next, one grant more of a schedule is the rules' step;
 -- after-invariant, the invariant after any grants for heads; playing-admitted and playing-inside, what an accepted file says;
@@ -14,24 +14,23 @@ use lib.Seq.{take-suc}
 use Rattle.reader.specs.declared.Checked.{Checked}
 use Rattle.job.specs.declared.Request.{Request}
 use Rattle.job.specs.Job.{Job, mostHeads}
-use Rattle.linearization.specs.Partition.{apart}
-use Rattle.forest.proofs.Roots.{start-roots}
 use Rattle.jobfile.specs.Meaning.{meaning}
 use Rattle.jobfile.specs.Admitted.{Admitted}
 use Rattle.jobfile.proofs.RoundTrip.{admitted-meaning}
 use Rattle.rules.specs.State.{State, noRequest, requestAt}
+use Rattle.rules.specs.Start.{Start, Initial}
 use Rattle.rules.specs.Step.{step}
 use Rattle.rules.specs.Run.{Happening, happened, history}
 use Rattle.rules.specs.Linearized.{Playable}
-use Rattle.rules.proofs.Table.{fresh-start}
 use Rattle.rules.proofs.Stages.{Inside}
 use Rattle.rules.proofs.Invariant.{Invariant}
-use Rattle.rules.proofs.Theorem.{length-heads, run-prefix, started-invariant, fresh-startable}
+use Rattle.rules.proofs.Theorem.{length-heads, run-prefix, started-invariant, initial-startable}
 use Rattle.rules.proofs.Laws.{run-heads}
 use Rattle.stepper.specs.Shown.{Buffers, shown, startOf, stateAfter, historyAfter, requestsIn, Playing, Standing}
 
-pub record Reached (qs : List Request) (n : ℕ) (b : Buffers) (number : ℕ) (S : State) (past : List Happening) (lent : List ℕ) : Type 0 where
-  pub invariant : Invariant qs n apart n S past
+pub record Reached (origin : Start) (qs : List Request) (n : ℕ) (b : Buffers) (number : ℕ) (S : State) (past : List Happening)
+    (lent : List ℕ) : Type 0 where
+  pub invariant : Invariant qs n (origin .labels) (origin .groups) S past
   pub heads : length (S .heads) ≡ mostHeads
   pub shows : b ≡ shown qs S lent
   pub next : number ≡ suc (S .now)
@@ -50,12 +49,12 @@ pub cut-granted : (j : Job) → Admitted j → (k h : ℕ) → List·Memᴰ h (t
 cut-granted j a k h m =
     admitted-granted j a h (subst (List·Memᴰ h) (take-append-drop k (j .schedule)) (Memᴰ·append-left (drop k (j .schedule)) m))
 
-pub after-next : (j : Job) (gs : List ℕ) (k : ℕ) → k < length gs
-    → stateAfter j (take (k + 1) gs) ≡ step (j .requests) (stateAfter j (take k gs)) (getD gs k 0)
-after-next j gs k l =
+pub after-next : (origin : Start) (j : Job) (gs : List ℕ) (k : ℕ) → k < length gs
+    → stateAfter origin j (take (k + 1) gs) ≡ step (j .requests) (stateAfter origin j (take k gs)) (getD gs k 0)
+after-next origin j gs k l =
     let one : k + 1 ≡ suc k = omega arith in
-    ap (λ i. stateAfter j (take i gs)) one ∙ ap (stateAfter j) (take-suc gs k 0 l)
-    ∙ run-prefix (j .requests) (startOf j) (take k gs) (getD gs k 0 ∷ [])
+    ap (λ i. stateAfter origin j (take i gs)) one ∙ ap (stateAfter origin j) (take-suc gs k 0 l)
+    ∙ run-prefix (j .requests) (startOf origin j) (take k gs) (getD gs k 0 ∷ [])
 
 -- ---- a run counts its grants
 
@@ -76,15 +75,16 @@ after-playable j a gs granted =
       granted = granted;
     }
 
-module _ (j : Job) (admitted : Admitted j) (gs : List ℕ) (granted : (h : ℕ) → List·Memᴰ h gs → h < mostHeads) where
-  pub after-invariant : Invariant (j .requests) (j .nodes) apart (j .nodes) (stateAfter j gs) (historyAfter j gs)
+module _ {origin : Start} (j : Job) (initial : Initial (j .nodes) origin) (admitted : Admitted j) (gs : List ℕ)
+    (granted : (h : ℕ) → List·Memᴰ h gs → h < mostHeads) where
+  pub after-invariant : Invariant (j .requests) (j .nodes) (origin .labels) (origin .groups) (stateAfter origin j gs)
+      (historyAfter origin j gs)
   after-invariant =
       let playable = after-playable j admitted gs granted in
-      subst (λ k. Invariant (j .requests) (j .nodes) apart k (stateAfter j gs) (historyAfter j gs))
-      (start-roots (fresh-start (j .nodes) (playable .few))) (started-invariant playable (fresh-startable (j .nodes) (playable .few)))
+      started-invariant playable (initial-startable (playable .few) initial)
 
-  pub after-now : stateAfter j gs .now ≡ length gs
-  after-now = omega (arith, after-invariant .clock, length-history (j .requests) (startOf j) [] gs)
+  pub after-now : stateAfter origin j gs .now ≡ length gs
+  after-now = omega (arith, after-invariant .clock, length-history (j .requests) (startOf origin j) [] gs)
 
 -- ---- what an accepted file says
 
@@ -97,14 +97,14 @@ module _ {file : List ℕ} {counts : Checked} (playing : Playing file counts) wh
       let s = playing-admitted .each-request q noRequest l in
       record { x = s .x; y = s .y }
 
-  pub reached : {b : Buffers} {number : ℕ} {gs lent : List ℕ} → Standing (meaning file .job) b number gs lent
-      → Reached (requestsIn file) (meaning file .job .nodes) b number
-      (stateAfter (meaning file .job) gs) (historyAfter (meaning file .job) gs) lent
-  reached {gs = gs} standing =
+  pub reached : {origin : Start} {b : Buffers} {number : ℕ} {gs lent : List ℕ} → Standing origin (meaning file .job) b number gs lent
+      → Reached origin (requestsIn file) (meaning file .job .nodes) b number
+      (stateAfter origin (meaning file .job) gs) (historyAfter origin (meaning file .job) gs) lent
+  reached {origin} {gs = gs} standing =
       record {
-        invariant = after-invariant (meaning file .job) playing-admitted gs (standing .granted);
-        heads = run-heads (requestsIn file) (startOf (meaning file .job)) gs ∙ length-heads (requestsIn file) 0 mostHeads;
+        invariant = after-invariant (meaning file .job) (standing .initial) playing-admitted gs (standing .granted);
+        heads = run-heads (requestsIn file) (startOf origin (meaning file .job)) gs ∙ length-heads (requestsIn file) 0 mostHeads;
         shows = standing .shows;
-        next = omega (arith, standing .next, after-now (meaning file .job) playing-admitted gs (standing .granted));
+        next = omega (arith, standing .next, after-now (meaning file .job) (standing .initial) playing-admitted gs (standing .granted));
         room = standing .room;
       }

@@ -18,13 +18,14 @@ use Rattle.process.specs.Process.{Raisable}
 use Rattle.process.specs.Access.{accessOf}
 use Rattle.process.specs.Advance.{advanceOf}
 use Rattle.forest.proofs.Sound.{rank-limit}
-use Rattle.linearization.specs.Partition.{apart}
+use Rattle.linearization.specs.Partition.{Labels}
 use Rattle.linearization.specs.Entry.{flat, inserted}
 use Rattle.mask.specs.Mask.{maskOf}
 use Rattle.mask.proofs.Laws.{mask-kept, mask-left}
 use Rattle.rules.specs.Table.{parent, rank, seen, touched}
 use Rattle.rules.specs.Report.{charge, noRow}
 use Rattle.rules.specs.State.{State, resting, hasWork}
+use Rattle.rules.specs.Start.{Start}
 use Rattle.rules.specs.Step.{ready, headAt, advanced, settled, entered, served, step}
 use Rattle.rules.specs.Run.{Happening, actionOf, happened}
 use Rattle.rules.specs.Run.Happening.{serving}
@@ -52,16 +53,17 @@ unfolding happened
 happened-served qs S h t = rw t refl
 
 -- A table of a run has words.
-pub invariant-worded : {qs : List Request} {n : ℕ} {S : State} {past : List Happening} → Invariant qs n apart n S past → Worded (S .table)
+pub invariant-worded : {qs : List Request} {n groups : ℕ} {B : Labels} {S : State} {past : List Happening} → Invariant qs n B groups S past
+    → Worded (S .table)
 invariant-worded {n = n} inv =
     record {
       rank = λ i h. omega (arith, rank-limit (inv .sound) 16 (omega (arith, inv .sound .formed .limit)) i (omega (arith, inv .nodes)));
       parent = λ i h. omega (arith, inv .sound .formed .limit, inv .sound .formed .inside i (omega (arith, inv .nodes)));
     }
 
-module _ {qs : List Request} {n : ℕ} {b : Buffers} {number : ℕ} {S : State} {past : List Happening} {lent : List ℕ}
-    (here : Reached qs n b number S past lent) (h : ℕ) (present : h < mostHeads)
-    (in-service : Serving qs n apart S past h (ready qs (headAt S h))) where
+module _ {origin : Start} {qs : List Request} {n : ℕ} {b : Buffers} {number : ℕ} {S : State} {past : List Happening} {lent : List ℕ}
+    (here : Reached origin qs n b number S past lent) (h : ℕ) (present : h < mostHeads)
+    (in-service : Serving qs n (origin .labels) S past h (ready qs (headAt S h))) where
   abbrev head : Head
   head = ready qs (headAt S h)
 
@@ -69,7 +71,7 @@ module _ {qs : List Request} {n : ℕ} {b : Buffers} {number : ℕ} {S : State} 
   unfolding accessOf
   access-here =
       subst (λ k. Within k (accessOf head)) (sym (here .invariant .nodes))
-      (access-within (momentOf qs n apart S) _ (head .task) (head .stage) (in-service .knows))
+      (access-within (momentOf qs n (origin .labels) S) _ (head .task) (head .stage) (in-service .knows))
 
   -- the head is as the rules have it
   pub head-shown : ready qs (getD (b .heads) h (resting 0)) ≡ head
@@ -86,7 +88,7 @@ module _ {qs : List Request} {n : ℕ} {b : Buffers} {number : ℕ} {S : State} 
 
   pub head-raisable : Raisable (head .stage)
   head-raisable =
-      stage-raisable (momentOf qs n apart S) _ (head .task)
+      stage-raisable (momentOf qs n (origin .labels) S) _ (head .task)
       (here .invariant .sound .formed .limit) (head .stage) (in-service .knows)
 
   pub moved-here : advanceOf head (seen (map decode (b .table)) (accessOf head)) number ≡ advanced S head

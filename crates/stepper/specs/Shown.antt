@@ -1,17 +1,18 @@
 -- How the lent buffers show a state of the rules: the table as words, four numbers a request, two an entry, one bit a head.
 --
---   Buffers           heads, table, report, linearization, the number of entries and the work mask
---   buffers ..        the same, by its parts
---   shown qs S lent   what the buffers hold in state S; numbers past the entries are as lent
---   Done, doneOf a    what a grant adds to the tally
---   requestsIn file   the requests of a file
---   startOf j         the rules' start of the job j
---   stateAfter j gs   the rules' state of the job j after the grants gs
---   historyAfter j gs  what those grants were, the newest first
---   Playing           an accepted file, with its counts
---   Standing          the buffers show the state after the grants gs, and the next grant is the one of that number
---   Grantable         they do, for a grant to head h
---   Stepped, Grants   what a grant makes of the buffers: after the grants gs, and after any grants whose state they show
+--   Buffers                   heads, table, report, linearization, the number of entries and the work mask
+--   buffers ..                the same, by its parts
+--   shown qs S lent           what the buffers hold in state S; numbers past the entries are as lent
+--   Done, doneOf a            what a grant adds to the tally
+--   requestsIn file           the requests of a file
+--   startOf origin j          the rules' state of the job j before its first grant, from that start
+--   stateAfter origin j gs    the same after the grants gs
+--   historyAfter origin j gs  what those grants were, the newest first
+--   Playing                   an accepted file, with its counts
+--   Standing                  the buffers show the state after the grants gs, and the next grant is the one of that number
+--   Grantable                 they do, for a grant to head h
+--   Stepped                   what a grant makes of the buffers, after the grants gs
+--   Grants                    what it makes of them after any grants, from any start, whose state they show
 use mathlib.Core.Path.{_≡_}
 use mathlib.Core.Bool.{true, false}
 use mathlib.Core.List.{List, [], _++_, map, List·Memᴰ}
@@ -27,8 +28,8 @@ use Rattle.jobfile.specs.Admitted.{Bytes}
 use Rattle.mask.specs.Mask.{maskOf}
 use Rattle.reader.specs.declared.Checked.{Checked}
 use Rattle.reader.specs.Reader.{countsOf}
-use Rattle.rules.specs.Table.{fresh}
 use Rattle.rules.specs.State.{State, start, hasWork}
+use Rattle.rules.specs.Start.{Start, Initial}
 use Rattle.rules.specs.Step.{step}
 use Rattle.rules.specs.Run.{Happening, run, happened, history}
 use Rattle.rules.specs.Run.Happening.{idle, serving}
@@ -63,18 +64,19 @@ doneOf idle = record { idle = true; failed = false; linked = false }
 doneOf (serving q act) = record { idle = false; failed = act .event .failed; linked = act .event .linked }
 
 -- Every job is played with sixteen heads; those that it does not have get no request and no grant.
-abbrev pub startOf : Job → State
-startOf j = start (j .requests) mostHeads (fresh (j .nodes))
+abbrev pub startOf : Start → Job → State
+startOf origin j = start (j .requests) mostHeads (origin .table)
 
-abbrev pub stateAfter : Job → List ℕ → State
-stateAfter j gs = run (j .requests) (startOf j) gs
+abbrev pub stateAfter : Start → Job → List ℕ → State
+stateAfter origin j gs = run (j .requests) (startOf origin j) gs
 
-abbrev pub historyAfter : Job → List ℕ → List Happening
-historyAfter j gs = history (j .requests) (startOf j) [] gs
+abbrev pub historyAfter : Start → Job → List ℕ → List Happening
+historyAfter origin j gs = history (j .requests) (startOf origin j) [] gs
 
 -- The buffers b show the state of the job j after the grants gs, and the next grant is the one of that number.
-pub record Standing (j : Job) (b : Buffers) (number : ℕ) (gs lent : List ℕ) : Type 0 where
-  pub shows : b ≡ shown (j .requests) (stateAfter j gs) lent
+pub record Standing (origin : Start) (j : Job) (b : Buffers) (number : ℕ) (gs lent : List ℕ) : Type 0 where
+  pub initial : Initial (j .nodes) origin
+  pub shows : b ≡ shown (j .requests) (stateAfter origin j gs) lent
   pub next : number ≡ suc (length gs)
   -- every grant so far was for a head
   pub granted : (h : ℕ) → List·Memᴰ h gs → h < mostHeads
@@ -93,15 +95,17 @@ pub record Playing (file : List ℕ) (counts : Checked) : Type 0 where
 pub record Grantable (file : List ℕ) (counts : Checked) (h number : ℕ) (b : Buffers) : Type 0 where
   pub playing : Playing file counts
   pub head : h < mostHeads
+  pub origin : Start
   pub grants : List ℕ
   pub lent : List ℕ
-  pub standing : Standing (meaning file .job) b number grants lent
+  pub standing : Standing origin (meaning file .job) b number grants lent
 
 -- After the grants gs, one for head h leaves buffers that show the rules' step, and it was what the rules say.
-pub record Stepped (file : List ℕ) (h : ℕ) (b′ : Buffers) (was : Done) (gs lent : List ℕ) : Type 0 where
-  pub buffers : b′ ≡ shown (requestsIn file) (step (requestsIn file) (stateAfter (meaning file .job) gs) h) lent
-  pub done : was ≡ doneOf (happened (requestsIn file) (stateAfter (meaning file .job) gs) h)
+pub record Stepped (file : List ℕ) (h : ℕ) (b′ : Buffers) (was : Done) (origin : Start) (gs lent : List ℕ) : Type 0 where
+  pub buffers : b′ ≡ shown (requestsIn file) (step (requestsIn file) (stateAfter origin (meaning file .job) gs) h) lent
+  pub done : was ≡ doneOf (happened (requestsIn file) (stateAfter origin (meaning file .job) gs) h)
 
--- So it is after any grants whose state the buffers b show at the grant of that number.
+-- So it is after any grants, from any start, whose state the buffers b show at the grant of that number.
 abbrev pub Grants : List ℕ → ℕ → ℕ → Buffers → Buffers → Done → Type 0
-Grants file h number b b′ was = (gs lent : List ℕ) → Standing (meaning file .job) b number gs lent → Stepped file h b′ was gs lent
+Grants file h number b b′ was =
+    (origin : Start) (gs lent : List ℕ) → Standing origin (meaning file .job) b number gs lent → Stepped file h b′ was origin gs lent

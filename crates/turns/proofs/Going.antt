@@ -18,6 +18,7 @@ use Rattle.mask.specs.Mask.{maskOf}
 use Rattle.jobfile.specs.Meaning.{meaning}
 use Rattle.jobfile.proofs.Runs.{granted-longest}
 use Rattle.rules.specs.State.{hasWork, tallyOf}
+use Rattle.rules.specs.Start.{Start}
 use Rattle.rules.specs.Step.{step}
 use Rattle.stepper.specs.Shown.{startOf, stateAfter, requestsIn, Playing, Standing}
 use Rattle.stepper.proofs.Reached.{cut-granted, after-next, playing-admitted}
@@ -26,33 +27,34 @@ use Rattle.turns.specs.Turns.{runsOf, scheduleIn, stateAt, remaining, co
 use Rattle.turns.specs.Turns.{firstProgress, firstTally, runOf}
 use Rattle.turns.proofs.Counters.{working-ones, counted-step, Small, counted-small}
 
-pub record Going (file : List ℕ) (counts : Checked) (lent : List ℕ) (p : Progress) (tally : Tally)
+pub record Going (origin : Start) (file : List ℕ) (counts : Checked) (lent : List ℕ) (p : Progress) (tally : Tally)
     (table report linearization : List ℕ) : Type 0 where
   pub playing : Playing file counts
   pub within : p .number ≤ length (scheduleIn file)
   pub left : remaining (runsOf file) (p .cursor) ≡ drop (p .number) (scheduleIn file)
-  pub standing : StandingAt file p (buffersOf p table report linearization) lent
-  pub tallied : tally ≡ tallyOf (requestsIn file) (stateAt file (p .number))
+  pub standing : StandingAt origin file p (buffersOf p table report linearization) lent
+  pub tallied : tally ≡ tallyOf (requestsIn file) (stateAt origin file (p .number))
   pub small : Small tally (p .number)
 
 -- ---- the start
 
-pub going-start : {file : List ℕ} {counts : Checked} {mask : ℕ} {heads : List Head} {lent table report linearization : List ℕ}
+pub going-start : {origin : Start} {file : List ℕ} {counts : Checked} {mask : ℕ} {heads : List Head}
+    {lent table report linearization : List ℕ}
     → Playing file counts → (p : Progress) (tally : Tally) → p ≡ firstProgress heads mask → tally ≡ firstTally (p .mask)
-    → Standing (meaning file .job) (buffersOf p table report linearization) 1 [] lent
-    → Going file counts lent p tally table report linearization
-going-start {file} {lent = lent} {table} {report} {linearization} playing p tally is is-tally standing =
+    → Standing origin (meaning file .job) (buffersOf p table report linearization) 1 [] lent
+    → Going origin file counts lent p tally table report linearization
+going-start {origin} {file} {lent = lent} {table} {report} {linearization} playing p tally is is-tally standing =
     let none : p .number ≡ 0 = ap (λ q. q .number) is in
     record {
       playing = playing;
       within = omega (arith, none);
       left = ap (λ q. remaining (runsOf file) (q .cursor)) is ∙ granted-longest (scheduleIn file)
           ∙ ap (λ k. drop k (scheduleIn file)) (sym none);
-      standing = subst (λ k. Standing (meaning file .job) (buffersOf p table report linearization) (k + 1) (take k (scheduleIn file)) lent)
-          (sym none) standing;
+      standing = subst (λ k. Standing origin (meaning file .job) (buffersOf p table report linearization) (k + 1)
+          (take k (scheduleIn file)) lent) (sym none) standing;
       tallied = is-tally ∙ ap (λ w. record { idle = 0; failed = 0; links = 0; working = w })
-          (ap (λ c. ones (c .mask)) (standing .shows) ∙ sym (working-ones (requestsIn file) (startOf (meaning file .job) .heads)))
-          ∙ ap (λ k. tallyOf (requestsIn file) (stateAt file k)) (sym none);
+          (ap (λ c. ones (c .mask)) (standing .shows) ∙ sym (working-ones (requestsIn file) (startOf origin (meaning file .job) .heads)))
+          ∙ ap (λ k. tallyOf (requestsIn file) (stateAt origin file k)) (sym none);
       small = record {
         idle = omega (arith, ap (λ t. t .idle) is-tally);
         failed = omega (arith, ap (λ t. t .failed) is-tally);
@@ -62,8 +64,8 @@ going-start {file} {lent = lent} {table} {report} {linearization} playing p tall
 
 -- ---- one turn
 
-module _ {file : List ℕ} {counts : Checked} {lent : List ℕ} {p : Progress} {tally : Tally} {table report linearization : List ℕ}
-    (g : Going file counts lent p tally table report linearization) where
+module _ {origin : Start} {file : List ℕ} {counts : Checked} {lent : List ℕ} {p : Progress} {tally : Tally}
+    {table report linearization : List ℕ} (g : Going origin file counts lent p tally table report linearization) where
   abbrev qs : List Request
   qs = requestsIn file
 
@@ -75,35 +77,36 @@ module _ {file : List ℕ} {counts : Checked} {lent : List ℕ} {p : Progress} {
 
   module _ (more : p .number < length schedule) where
     pub going-turnable : Turnable file counts p table report linearization
-    going-turnable = record { playing = g .playing; more = more; left = g .left; lent = lent; standing = g .standing }
+    going-turnable = record { playing = g .playing; more = more; left = g .left; origin = origin; lent = lent; standing = g .standing }
 
     -- one grant more is the rules' step
-    stepped : stateAt file (p .number + 1) ≡ step qs (stateAt file (p .number)) h
-    stepped = after-next (meaning file .job) schedule (p .number) more
+    stepped : stateAt origin file (p .number + 1) ≡ step qs (stateAt origin file (p .number)) h
+    stepped = after-next origin (meaning file .job) schedule (p .number) more
 
     module _ (p′ : Progress) (tally′ : Tally) (table′ report′ linearization′ : List ℕ)
-        (turned : Turned file p p′ (buffersOf p′ table′ report′ linearization′) lent)
+        (turned : Turned file p p′ (buffersOf p′ table′ report′ linearization′) origin lent)
         (counted : tally′ ≡ countedOf tally (p′ .done) (p′ .mask)) where
-      standing-after : StandingAt file p′ (buffersOf p′ table′ report′ linearization′) lent
+      standing-after : StandingAt origin file p′ (buffersOf p′ table′ report′ linearization′) lent
       standing-after =
-          subst (λ k. Standing (meaning file .job) (buffersOf p′ table′ report′ linearization′) (k + 1) (take k schedule) lent)
+          subst (λ k. Standing origin (meaning file .job) (buffersOf p′ table′ report′ linearization′) (k + 1) (take k schedule) lent)
           (sym (turned .number))
           (record {
+            initial = g .standing .initial;
             shows = turned .buffers;
             next = omega (arith, length-take-le (p .number + 1) schedule (omega arith));
             granted = cut-granted (meaning file .job) (playing-admitted (g .playing)) (p .number + 1);
             room = g .standing .room;
           })
 
-      counts-after : tally′ ≡ tallyOf qs (stateAt file (p′ .number))
+      counts-after : tally′ ≡ tallyOf qs (stateAt origin file (p′ .number))
       counts-after =
           counted ∙ ap (λ t. countedOf t (p′ .done) (p′ .mask)) (g .tallied)
-          ∙ ap₂ (λ d m. countedOf (tallyOf qs (stateAt file (p .number))) d m) (turned .done)
+          ∙ ap₂ (λ d m. countedOf (tallyOf qs (stateAt origin file (p .number))) d m) (turned .done)
           (ap (λ c. c .mask) (turned .buffers) ∙ ap (λ T. maskOf (map (hasWork qs) (T .heads))) stepped)
-          ∙ counted-step qs (stateAt file (p .number)) h ∙ ap (tallyOf qs) (sym stepped)
-          ∙ ap (λ k. tallyOf qs (stateAt file k)) (sym (turned .number))
+          ∙ counted-step qs (stateAt origin file (p .number)) h ∙ ap (tallyOf qs) (sym stepped)
+          ∙ ap (λ k. tallyOf qs (stateAt origin file k)) (sym (turned .number))
 
-      pub going-next : Going file counts lent p′ tally′ table′ report′ linearization′
+      pub going-next : Going origin file counts lent p′ tally′ table′ report′ linearization′
       going-next =
           record {
             playing = g .playing;
@@ -118,5 +121,5 @@ module _ {file : List ℕ} {counts : Checked} {lent : List ℕ} {p : Progress} {
 
   -- ---- the end
 
-  pub going-end : length schedule ≤ p .number → stateAt file (p .number) ≡ runOf (meaning file .job)
-  going-end all = ap (stateAfter (meaning file .job)) (take-all (p .number) schedule all)
+  pub going-end : length schedule ≤ p .number → stateAt origin file (p .number) ≡ runOf origin (meaning file .job)
+  going-end all = ap (stateAfter origin (meaning file .job)) (take-all (p .number) schedule all)

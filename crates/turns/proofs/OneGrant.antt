@@ -7,6 +7,7 @@ use lib.ListN.{getD, take, drop}
 use lib.Seq.{drop-cons}
 use Rattle.reader.specs.declared.Checked.{Checked}
 use Rattle.jobfile.specs.Meaning.{meaning}
+use Rattle.rules.specs.Start.{Start}
 use Rattle.rules.specs.Step.{step}
 use Rattle.rules.specs.Run.{happened}
 use Rattle.stepper.specs.Shown.{Buffers, shown, doneOf, requestsIn, Grantable}
@@ -59,23 +60,24 @@ module _ {file : List ℕ} {counts : Checked} {p : Progress} {table report linea
             playing-admitted
                 (t .playing) .few-heads,
           );
+          origin = t .origin;
           grants = take (p .number) schedule;
           lent = t .lent;
           standing = t .standing;
         }
 
-    pub turn-turned : (p′ : Progress) (b′ : Buffers) (lent : List ℕ) → p′ .number ≡ p .number + 1
+    pub turn-turned : (p′ : Progress) (b′ : Buffers) (origin : Start) (lent : List ℕ) → p′ .number ≡ p .number + 1
         → p′ .cursor ≡ record { next = c .next; head = c .head; left = c .left - 1 }
-        → b′ ≡ shown (requestsIn file) (step (requestsIn file) (stateAt file (p .number)) (c .head)) lent
-        → p′ .done ≡ doneOf (happened (requestsIn file) (stateAt file (p .number)) (c .head)) → Turned file p p′ b′ lent
-    turn-turned p′ b′ lent number cursor buffers done =
+        → b′ ≡ shown (requestsIn file) (step (requestsIn file) (stateAt origin file (p .number)) (c .head)) lent
+        → p′ .done ≡ doneOf (happened (requestsIn file) (stateAt origin file (p .number)) (c .head)) → Turned file p p′ b′ origin lent
+    turn-turned p′ b′ origin lent number cursor buffers done =
         let one : suc (p .number) ≡ p .number + 1 = omega arith in
         record {
           number = number;
           left = ap (remaining (runsOf file)) (cursor ∙ ap (λ k. record { next = k .next; head = k .head; left = k .left - 1 }) is)
               ∙ opened-rest (runsOf file) (runs-some (t .playing)) (p .cursor) head (drop (suc (p .number)) schedule) before-grant
               ∙ ap (λ k. drop k schedule) one;
-          buffers = buffers ∙ ap (λ k. shown (requestsIn file) (step (requestsIn file) (stateAt file (p .number)) k) lent) turn-head
-              ∙ ap (λ T. shown (requestsIn file) T lent) (sym (after-next (meaning file .job) schedule (p .number) (t .more)));
-          done = done ∙ ap (λ k. doneOf (happened (requestsIn file) (stateAt file (p .number)) k)) turn-head;
+          buffers = buffers ∙ ap (λ k. shown (requestsIn file) (step (requestsIn file) (stateAt origin file (p .number)) k) lent) turn-head
+              ∙ ap (λ T. shown (requestsIn file) T lent) (sym (after-next origin (meaning file .job) schedule (p .number) (t .more)));
+          done = done ∙ ap (λ k. doneOf (happened (requestsIn file) (stateAt origin file (p .number)) k)) turn-head;
         }

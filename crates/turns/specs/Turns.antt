@@ -1,20 +1,20 @@
 -- The grants of a file: its cursor, one turn, and the tally.
 --
---   Addable t             a tally that can be added to
---   countedOf t d mask    the tally t after a grant that was d; the fourth number is the mask's count of ones
---   runsOf file           the runs of a file
---   scheduleIn file       the grants of a file
---   stateAt file k        the rules' state of a file's job after its first k grants
---   openedOf rs c         the cursor c at a grant
---   takenOf c             the cursor c after a grant
---   remaining rs c        the grants from the cursor c on
---   buffersOf p t r l     the buffers t, r, l with what the play carries
---   StandingAt            the buffers show the state after the grants so far
---   Turnable, Turned      what a turn asks and what it leaves
---   Turns                 what it leaves of buffers that show the grants so far
---   firstProgress hs m    what a play carries before its first grant
---   firstTally m          the tally before the first grant
---   runOf j               the rules' run of the job j
+--   Addable t              a tally that can be added to
+--   countedOf t d mask     the tally t after a grant that was d; the fourth number is the mask's count of ones
+--   runsOf file            the runs of a file
+--   scheduleIn file        the grants of a file
+--   stateAt origin file k  the rules' state of a file's job after its first k grants, from that start
+--   openedOf rs c          the cursor c at a grant
+--   takenOf c              the cursor c after a grant
+--   remaining rs c         the grants from the cursor c on
+--   buffersOf p t r l      the buffers t, r, l with what the play carries
+--   StandingAt             the buffers show the state after the grants so far
+--   Turnable, Turned       what a turn asks and what it leaves
+--   Turns                  what it leaves of buffers that show the grants so far, from any start
+--   firstProgress hs m     what a play carries before its first grant
+--   firstTally m           the tally before the first grant
+--   runOf origin j         the rules' run of the job j from that start
 use mathlib.Core.Path.{_≡_}
 use mathlib.Core.Bool.{false, cond}
 use mathlib.Core.List.{List, _++_}
@@ -30,6 +30,7 @@ use Rattle.jobfile.specs.declared.Run.{Run}
 use Rattle.jobfile.specs.Meaning.{meaning, granted}
 use Rattle.jobfile.specs.Written.{longestRuns}
 use Rattle.rules.specs.State.{State}
+use Rattle.rules.specs.Start.{Start}
 use Rattle.rules.specs.Step.{plus}
 use Rattle.rules.specs.Run.{happened}
 use Rattle.stepper.specs.declared.Done.{Done}
@@ -59,8 +60,8 @@ runsOf file = longestRuns (meaning file .job .schedule)
 abbrev pub scheduleIn : List ℕ → List ℕ
 scheduleIn file = meaning file .job .schedule
 
-abbrev pub stateAt : List ℕ → ℕ → State
-stateAt file k = stateAfter (meaning file .job) (take k (scheduleIn file))
+abbrev pub stateAt : Start → List ℕ → ℕ → State
+stateAt origin file k = stateAfter origin (meaning file .job) (take k (scheduleIn file))
 
 abbrev pub noRun : Run
 noRun = record { head = 0; count = 0 }
@@ -87,25 +88,26 @@ abbrev pub buffersOf : Progress → List ℕ → List ℕ → List ℕ → Buffe
 buffersOf p table report linearization = buffers (p .heads) table report linearization (p .entries) (p .mask)
 
 -- The buffers show the state after the grants so far.
-abbrev pub StandingAt : List ℕ → Progress → Buffers → List ℕ → Type 0
-StandingAt file p b lent = Standing (meaning file .job) b (p .number + 1) (take (p .number) (scheduleIn file)) lent
+abbrev pub StandingAt : Start → List ℕ → Progress → Buffers → List ℕ → Type 0
+StandingAt origin file p b lent = Standing origin (meaning file .job) b (p .number + 1) (take (p .number) (scheduleIn file)) lent
 
 pub record Turnable (file : List ℕ) (counts : Checked) (p : Progress) (table report linearization : List ℕ) : Type 0 where
   pub playing : Playing file counts
   pub more : p .number < length (scheduleIn file)
   pub left : remaining (runsOf file) (p .cursor) ≡ drop (p .number) (scheduleIn file)
+  pub origin : Start
   pub lent : List ℕ
-  pub standing : StandingAt file p (buffersOf p table report linearization) lent
+  pub standing : StandingAt origin file p (buffersOf p table report linearization) lent
 
 -- The turn makes the rules' step for the schedule's next head: the buffers then show the state after one grant more.
-pub record Turned (file : List ℕ) (p p′ : Progress) (b′ : Buffers) (lent : List ℕ) : Type 0 where
+pub record Turned (file : List ℕ) (p p′ : Progress) (b′ : Buffers) (origin : Start) (lent : List ℕ) : Type 0 where
   pub number : p′ .number ≡ p .number + 1
   pub left : remaining (runsOf file) (p′ .cursor) ≡ drop (p .number + 1) (scheduleIn file)
-  pub buffers : b′ ≡ shown (requestsIn file) (stateAt file (p .number + 1)) lent
-  pub done : p′ .done ≡ doneOf (happened (requestsIn file) (stateAt file (p .number)) (getD (scheduleIn file) (p .number) 0))
+  pub buffers : b′ ≡ shown (requestsIn file) (stateAt origin file (p .number + 1)) lent
+  pub done : p′ .done ≡ doneOf (happened (requestsIn file) (stateAt origin file (p .number)) (getD (scheduleIn file) (p .number) 0))
 
 abbrev pub Turns : List ℕ → Progress → Progress → Buffers → Buffers → Type 0
-Turns file p p′ b b′ = (lent : List ℕ) → StandingAt file p b lent → Turned file p p′ b′ lent
+Turns file p p′ b b′ = (origin : Start) (lent : List ℕ) → StandingAt origin file p b lent → Turned file p p′ b′ origin lent
 
 -- ---- the whole schedule
 
@@ -125,5 +127,5 @@ firstProgress heads mask =
 abbrev pub firstTally : ℕ → Tally
 firstTally mask = record { idle = 0; failed = 0; links = 0; working = ones mask }
 
-abbrev pub runOf : Job → State
-runOf j = stateAfter j (j .schedule)
+abbrev pub runOf : Start → Job → State
+runOf origin j = stateAfter origin j (j .schedule)

@@ -48,11 +48,11 @@ fields-count (h ∷ k ∷ x ∷ []) = omega arith
 fields-count (h ∷ k ∷ x ∷ y ∷ l) = omega (arith, fields-count l)
 
 -- 9: a 513th request.
-pub count-refuses : (l : List ℕ) → 512 < length l / 4 → countRefusal (length (fieldsOf l)) ≡ 9
+pub count-refuses : (l : List ℕ) → mostRequests < length l / 4 → countRefusal (length (fieldsOf l)) ≡ 9
 unfolding countRefusal
 count-refuses l many = rw (fields-count l, lt-ltb mostRequests (length l / 4) many)
 
-pub count-passes : (l : List ℕ) → length l / 4 ≤ 512 → countRefusal (length (fieldsOf l)) ≡ 0
+pub count-passes : (l : List ℕ) → length l / 4 ≤ mostRequests → countRefusal (length (fieldsOf l)) ≡ 0
 unfolding countRefusal
 count-passes l some = rw (fields-count l, le-ltb mostRequests (length l / 4) some)
 

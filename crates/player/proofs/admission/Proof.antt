@@ -8,6 +8,25 @@ use Rattle.player.proofs.Refusals.{admission-short, admission-long}
 use Rattle.player.proofs.admission.Statement.{statement}
 use Rattle.player.proofs.admission.Tie as tie
 
+-- ---- the places that are read, each from a later one
+
+abbrev start : tie.After-check → tie.Start
+start c = c .before .before
+
+-- `check` has returned
+abbrev checked : tie.Else1 → tie.After-check
+checked c = c .before .before
+
+-- the file is accepted
+abbrev accepted : tie.Else2 → tie.Else1
+accepted c = c .before .before
+
+-- the table is long enough
+abbrev tabled : tie.Else3 → tie.Else2
+tabled c = c .before .before
+
+-- ---- the needs
+
 check-requires : tie.Need-check-requires
 check-requires c κs = search needs
 
@@ -16,8 +35,9 @@ refuse-requires c κs = search needs
 
 returns : tie.Need-returns
 returns c =
-    let a = c .before .before .before .before .before .args in
-    let k = c .before .before .before .check .ensures in
+    let known = c .before .before .before in
+    let a = start known .args in
+    let k = known .check .ensures in
     c .refuse .ensures ∙ admission-file (a .file .now) (a .table) (a .report) (a .linearization) _ (ap (λ n. n .number) k)
     (c .before .if1 .taken)
 
@@ -29,10 +49,11 @@ refuse-requires-2 c κs = search needs
 
 returns-2 : tie.Need-returns-2
 returns-2 c =
-    let a = c .before .before .before .before .before .before .before .args in
-    let k = c .before .before .before .before .before .check .ensures in
+    let file = c .before .before .before in
+    let a = start (checked file) .args in
+    let k = checked file .check .ensures in
     c .refuse2 .ensures ∙ admission-short (a .file .now) (a .table) (a .report) (a .linearization)
-    (sym (ap (λ n. n .number) k) ∙ c .before .before .before .if1 .left)
+    (sym (ap (λ n. n .number) k) ∙ file .if1 .left)
     (short-table (meaning (a .file .now) .job) _ _ _ (omega (arith, c .before .if2 .taken, ap (λ n. n .nodes) k)))
 
 cast-if3 : tie.Need-cast-if3
@@ -46,12 +67,13 @@ refuse-requires-3 c κs = search needs
 
 returns-3 : tie.Need-returns-3
 returns-3 c =
-    let a = c .before .before .before .before .before .before .before .before .before .args in
-    let k = c .before .before .before .before .before .before .before .check .ensures in
+    let table = c .before .before .before in
+    let file = accepted table in
+    let a = start (checked file) .args in
+    let k = checked file .check .ensures in
     c .refuse3 .ensures ∙ admission-short (a .file .now) (a .table) (a .report) (a .linearization)
-    (sym (ap (λ n. n .number) k) ∙ c .before .before .before .before .before .if1 .left)
-    (short-report (meaning (a .file .now) .job)
-    _ _ _ (omega (arith, c .before .before .before .if2 .left, ap (λ n. n .nodes) k))
+    (sym (ap (λ n. n .number) k) ∙ file .if1 .left)
+    (short-report (meaning (a .file .now) .job) _ _ _ (omega (arith, table .if2 .left, ap (λ n. n .nodes) k))
     (omega (arith, c .before .if3 .taken, ap (λ n. n .requests) k)))
 
 cast-if4 : tie.Need-cast-if4
@@ -65,32 +87,27 @@ refuse-requires-4 c κs = search needs
 
 returns-4 : tie.Need-returns-4
 returns-4 c =
-    let after-if4 = c .before in
-    let after-if3 = after-if4 .before .before in
-    let after-if2 = after-if3 .before .before in
-    let tested = after-if2 .before .before in
-    let checked = tested .before .before in
-    let start = checked .before .before in
-    let a = start .args in
-    let k = checked .check .ensures in
+    let report = c .before .before .before in
+    let table = tabled report in
+    let file = accepted table in
+    let a = start (checked file) .args in
+    let k = checked file .check .ensures in
     c .refuse4 .ensures ∙ admission-short (a .file .now) (a .table) (a .report) (a .linearization)
-    (sym (ap (λ n. n .number) k) ∙ tested .if1 .left)
-    (short-linearization (meaning (a .file .now) .job) _ _ _ (omega (arith, after-if2 .if2 .left, ap (λ n. n .nodes) k))
-    (omega (arith, after-if3 .if3 .left, ap (λ n. n .requests) k))
-    (omega (arith, after-if4 .if4 .taken, ap (λ n. n .requests) k)))
+    (sym (ap (λ n. n .number) k) ∙ file .if1 .left)
+    (short-linearization (meaning (a .file .now) .job) _ _ _ (omega (arith, table .if2 .left, ap (λ n. n .nodes) k))
+    (omega (arith, report .if3 .left, ap (λ n. n .requests) k))
+    (omega (arith, c .before .if4 .taken, ap (λ n. n .requests) k)))
 
 returns-5 : tie.Need-returns-5
 returns-5 c =
-    let after-if3 = c .before .before in
-    let after-if2 = after-if3 .before .before in
-    let tested = after-if2 .before .before in
-    let checked = tested .before .before in
-    let start = checked .before .before in
-    let a = start .args in
-    let k = checked .check .ensures in
-    k ∙ admission-long (a .file .now) (a .table) (a .report) (a .linearization) (sym (ap (λ n. n .number) k) ∙ tested .if1 .left)
-    (long-enough (meaning (a .file .now) .job) _ _ _ (omega (arith, after-if2 .if2 .left, ap (λ n. n .nodes) k))
-    (omega (arith, after-if3 .if3 .left, ap (λ n. n .requests) k))
+    let report = c .before .before in
+    let table = tabled report in
+    let file = accepted table in
+    let a = start (checked file) .args in
+    let k = checked file .check .ensures in
+    k ∙ admission-long (a .file .now) (a .table) (a .report) (a .linearization) (sym (ap (λ n. n .number) k) ∙ file .if1 .left)
+    (long-enough (meaning (a .file .now) .job) _ _ _ (omega (arith, table .if2 .left, ap (λ n. n .nodes) k))
+    (omega (arith, report .if3 .left, ap (λ n. n .requests) k))
     (omega (arith, c .if4 .left, ap (λ n. n .requests) k)))
 
 pub admission-spec : {M : Type 1} → statement M

@@ -9,6 +9,21 @@ use Rattle.player.proofs.Prepared.{laid-nodes, laid}
 use Rattle.player.proofs.lay_out.Statement.{statement}
 use Rattle.player.proofs.lay_out.Tie as tie
 
+-- ---- the places that are read, each from a later one
+
+abbrev start : tie.After-fresh-table-arg → tie.Start
+start c = c .before .before .before .before .before .before
+
+-- the table is fresh
+abbrev tabled : tie.After-clear-report-arg → tie.After-fresh-table
+tabled c = c .before .before .before
+
+-- the report is clear
+abbrev cleared : tie.After-slice-known4 → tie.After-clear-report
+cleared c = c .before .before
+
+-- ---- the needs
+
 cast-nodes : tie.Need-cast-nodes
 cast-nodes c = search needs
 
@@ -23,12 +38,12 @@ slice-relend-prefix-fresh-table c = search needs
 
 slice-aggregate-fresh-table : tie.Need-slice-aggregate-fresh-table
 slice-aggregate-fresh-table c =
-    let k = c .before .before .before .before .before .before in
+    let k = start c in
     sym (length-take-le (k .args .counts .nodes) (k .args .table .now) (k .pre .1 .0))
 
 fresh-table-requires : tie.Need-fresh-table-requires
 fresh-table-requires c κs =
-    let k = c .before .before .before .before .before .before in
+    let k = start c in
     omega (
       arith,
       laid-nodes (k .pre .0) (k .args .table .now) (k .args .report .now) (k .pre .1 .0) (k .pre .1 .1),
@@ -40,15 +55,14 @@ slice-relend-prefix-clear-report c = search needs
 
 slice-aggregate-clear-report : tie.Need-slice-aggregate-clear-report
 slice-aggregate-clear-report c =
-    let k = c .before .before .before .before .before .before .before .before .before .before in
+    let k = start (tabled c .before) in
     sym (length-take-le (4 * k .args .counts .requests) (k .args .report .now) (k .pre .1 .1))
 
 clear-report-requires : tie.Need-clear-report-requires
 clear-report-requires c κs = search needs
 
 first-requests-requires : tie.Need-first-requests-requires
-first-requests-requires c κs =
-    c .before .before .before .before .before .before .before .before .before .before .before .before .before .pre .0
+first-requests-requires c κs = start (tabled (cleared c .before) .before) .pre .0
 
 resting-heads-requires : tie.Need-resting-heads-requires
 resting-heads-requires c κs = search needs
@@ -70,12 +84,12 @@ returns c =
     let masked = c .before in
     let rested = masked .before in
     let found = rested .before in
-    let cleared = found .before .before .before in
-    let tabled = cleared .before .before .before .before in
-    let k = tabled .before .before .before .before .before .before .before in
+    let zeros = cleared (found .before) in
+    let words = tabled (zeros .before) in
+    let k = start (words .before) in
     laid (k .pre .0) (k .args .table .now) (k .args .report .now) (k .pre .1 .0) (k .pre .1 .1) (found .first-requests .result)
     (rested .resting-heads .result) (masked .first-mask .result) _ _ (c .first-progress .result)
-    (tabled .fresh-table .ensures) (cleared .clear-report .ensures) (found .first-requests .ensures)
+    (words .fresh-table .ensures) (zeros .clear-report .ensures) (found .first-requests .ensures)
     (rested .resting-heads .ensures) (masked .first-mask .ensures) (c .first-progress .ensures)
 
 pub lay-out-spec : {M : Type 1} → statement M

@@ -6,8 +6,10 @@ use Prim.Native.Nat.{ℕ, _-_}
 use native.Mathlib.Omega.{arith}
 use borrow.Author.Needs.{needs}
 use lib.ListN.{length}
+use Rattle.job.specs.declared.Tally.{Tally}
 use Rattle.turns.specs.Turns.{firstTally}
-use Rattle.player.proofs.Along.{entry, Lending, along, lending-start, refused-end}
+use Rattle.player.specs.declared.Plan.{Plan}
+use Rattle.player.proofs.Along.{Entry, entry, Lending, along, lending-start, refused-end}
 use Rattle.player.proofs.Along.{along-turnable, along-addable, along-next, along-end}
 use Rattle.player.proofs.play.Statement.{statement}
 use Rattle.player.proofs.play.Tie as tie
@@ -22,6 +24,57 @@ Inv-loop file table₀ report₀ linearization₀ counts index progress₀ tally
 abbrev μ-loop : tie.MeasureT-loop
 μ-loop file table₀ report₀ linearization₀ counts index progress₀ tally₀ table report linearization progress tally =
     counts .grants - progress .number
+
+-- ---- the places that are read, each from a later one
+
+-- `prepare` has returned
+abbrev prepared : tie.After-struct-known Inv-loop μ-loop → tie.After-prepare Inv-loop μ-loop
+prepared c = c .before .before .before .before .before .before .before .before
+
+-- nothing was refused, and the index is made
+abbrev indexed : tie.At-loop Inv-loop μ-loop → tie.After-successors Inv-loop μ-loop
+indexed c = c .before .before .before
+
+-- the loop is at its test
+abbrev looped : tie.After-struct-known3 Inv-loop μ-loop → tie.At-loop Inv-loop μ-loop
+looped c = c .before .before
+
+-- a turn begins
+abbrev turning : tie.After-turn-on-arg3 Inv-loop μ-loop → tie.Then2 Inv-loop μ-loop
+turning c = c .before .before .before .before
+
+-- `turn_on` has returned
+abbrev turned : tie.After-slice-known9 Inv-loop μ-loop → tie.After-turn-on Inv-loop μ-loop
+turned c = c .before .before .before .before .before .before
+
+-- ---- what holds there
+
+-- the file and the buffers as they were lent
+abbrev lent : tie.After-prepare Inv-loop μ-loop → Entry
+lent c =
+    let a = c .before .before .before .before .before .before .before .before .args in
+    entry (a .file .now) (a .table .now) (a .report .now) (a .linearization .now)
+
+module _ (c : tie.Else1 Inv-loop μ-loop) (tally : Tally) where
+  abbrev made : tie.After-prepare Inv-loop μ-loop
+  made = prepared (c .before)
+
+  abbrev plan : Plan
+  plan = made .prepare .result
+
+  begun : tally ≡ firstTally (plan .progress .mask)
+      → Lending (lent made) (plan .counts) (plan .progress) tally (made .prepare .last .1 .0) (made .prepare .last .1 .1 .0)
+      (made .prepare .last .1 .1 .1 .0)
+  begun is =
+      lending-start (lent made) _ _ _ plan (made .prepare .ensures .1) (made .prepare .ensures .0) (c .if1 .left)
+      (made .prepare .kept .1 .0) (made .prepare .kept .1 .1 .0) (made .prepare .kept .1 .1 .1 .0) tally is
+
+here : (c : tie.At-loop Inv-loop μ-loop)
+    → Lending (lent (prepared (indexed c .before .before))) (prepared (indexed c .before .before) .prepare .result .counts)
+    (c .loop .progress) (c .loop .tally) (c .loop .table) (c .loop .report) (c .loop .linearization)
+here c = c .loop .inv .3 _ _ _ (begun (indexed c .before) (c .before .first-tally .result) (c .before .first-tally .ensures))
+
+-- ---- the needs
 
 prepare-requires : tie.Need-prepare-requires Inv-loop μ-loop
 prepare-requires c κs = search needs
@@ -40,23 +93,14 @@ same-length-3 c = search needs
 
 returns : tie.Need-returns Inv-loop μ-loop
 returns c =
-    let made = c .before .before .before .before .before .before .before .before .before .before in
-    let a = made .before .before .before .before .before .before .before .before .args in
+    let made = prepared (c .before .before) in
     let e =
-    refused-end (entry (a .file .now) (a .table .now) (a .report .now) (a .linearization .now)) _ _ _ (made .prepare .result)
-    (made .prepare .ensures .1) (made .prepare .ensures .0) (c .before .if1 .taken) (c .refused .result) (c .refused .ensures) in
+    refused-end (lent made) _ _ _ (made .prepare .result) (made .prepare .ensures .1) (made .prepare .ensures .0) (c .before .if1 .taken)
+    (c .refused .result) (c .refused .ensures) in
     (e .exact, (e .linearized, e .lawful))
 
 successors-requires : tie.Need-successors-requires Inv-loop μ-loop
-successors-requires c κs =
-    let judged = c in
-    let made = judged .before .before .before .before .before .before .before .before .before in
-    let a = made .before .before .before .before .before .before .before .before .args in
-    let start =
-    lending-start (entry (a .file .now) (a .table .now) (a .report .now) (a .linearization .now)) _ _ _ (made .prepare .result)
-    (made .prepare .ensures .1) (made .prepare .ensures .0) (judged .if1 .left) (made .prepare .kept .1 .0)
-    (made .prepare .kept .1 .1 .0) (made .prepare .kept .1 .1 .1 .0) (firstTally _) refl in
-    start .going .playing
+successors-requires c κs = begun c (firstTally _) refl .going .playing
 
 first-tally-requires : tie.Need-first-tally-requires Inv-loop μ-loop
 first-tally-requires c κs = search needs
@@ -69,99 +113,51 @@ slice-aggregate-turn-on c = search needs
 
 turn-on-requires : tie.Need-turn-on-requires Inv-loop μ-loop
 turn-on-requires c κs =
-    let looped = c .before .before .before .before .before .before .before in
-    let judged = looped .before .before .before .before in
-    let made = judged .before .before .before .before .before .before .before .before .before in
-    let a = made .before .before .before .before .before .before .before .before .args in
-    let here =
-    looped .loop .inv .3 (a .table .now) (a .report .now) (a .linearization .now)
-    (lending-start (entry (a .file .now) (a .table .now) (a .report .now) (a .linearization .now)) _ _ _ (made .prepare .result)
-    (made .prepare .ensures .1) (made .prepare .ensures .0) (judged .if1 .left) (made .prepare .kept .1 .0)
-    (made .prepare .kept .1 .1 .0) (made .prepare .kept .1 .1 .1 .0) (looped .before .first-tally .result)
-    (looped .before .first-tally .ensures)) in
-    let indexed = looped .before .before .before in
-    (along-turnable _ _ (along _ _ here) (c .before .before .before .before .if2 .taken), indexed .successors .ensures)
+    let at = looped (turning c .before) in
+    (along-turnable _ _ (along _ _ (here at)) (turning c .if2 .taken), indexed at .successors .ensures)
 
 counted-requires : tie.Need-counted-requires Inv-loop μ-loop
 counted-requires c κs =
-    let looped = c .before .before .before .before .before .before .before .before .before .before .before .before .before .before in
-    let judged = looped .before .before .before .before in
-    let made = judged .before .before .before .before .before .before .before .before .before in
-    let a = made .before .before .before .before .before .before .before .before .args in
-    let here =
-    looped .loop .inv .3 (a .table .now) (a .report .now) (a .linearization .now)
-    (lending-start (entry (a .file .now) (a .table .now) (a .report .now) (a .linearization .now)) _ _ _ (made .prepare .result)
-    (made .prepare .ensures .1) (made .prepare .ensures .0) (judged .if1 .left) (made .prepare .kept .1 .0)
-    (made .prepare .kept .1 .1 .0) (made .prepare .kept .1 .1 .1 .0) (looped .before .first-tally .result)
-    (looped .before .first-tally .ensures)) in
-    along-addable _ _ (along _ _ here)
-    (c .before .before .before .before .before .before .before .before .before .before .before .if2 .taken)
+    let turn = turning (turned c .before) in
+    along-addable _ _ (along _ _ (here (looped (turn .before)))) (turn .if2 .taken)
 
 loop-less : tie.Need-loop-less Inv-loop μ-loop
 loop-less c =
-    let turned = c .before .before .before .before .before .before .before in
-    let looped = turned .before .before .before .before .before .before .before .before in
-    let judged = looped .before .before .before .before in
-    let made = judged .before .before .before .before .before .before .before .before .before in
-    let a = made .before .before .before .before .before .before .before .before .args in
-    let here =
-    looped .loop .inv .3 (a .table .now) (a .report .now) (a .linearization .now)
-    (lending-start (entry (a .file .now) (a .table .now) (a .report .now) (a .linearization .now)) _ _ _ (made .prepare .result)
-    (made .prepare .ensures .1) (made .prepare .ensures .0) (judged .if1 .left) (made .prepare .kept .1 .0)
-    (made .prepare .kept .1 .1 .0) (made .prepare .kept .1 .1 .1 .0) (looped .before .first-tally .result)
-    (looped .before .first-tally .ensures)) in
-    let turns = turned .turn-on .ensures _ (here .going .standing) in
-    omega (arith, turned .before .before .before .before .before .if2 .taken, turns .turned .number)
+    let turn = turning (turned (c .before) .before) in
+    let one = turned (c .before) .turn-on .ensures _ _ (here (looped (turn .before)) .going .standing) in
+    omega (arith, turn .if2 .taken, one .turned .number)
 
 loop-again : tie.Need-loop-again Inv-loop μ-loop
 loop-again c =
-    let turned = c .before .before .before .before .before .before .before in
-    let tested = turned .before .before .before .before .before in
-    let inv = tested .before .before .before .loop .inv in
-    let same-table = turned .turn-on .kept .1 .1 .1 .1 .0 in
-    let same-report = turned .turn-on .kept .1 .1 .1 .1 .1 .0 in
-    let same-linearization = turned .turn-on .kept .1 .1 .1 .1 .1 .1 .0 in (
+    let made = turned (c .before) .turn-on in
+    let turn = turning (turned (c .before) .before) in
+    let inv = looped (turn .before) .loop .inv in
+    let same-table = made .kept .1 .1 .1 .1 .0 in
+    let same-report = made .kept .1 .1 .1 .1 .1 .0 in
+    let same-linearization = made .kept .1 .1 .1 .1 .1 .1 .0 in (
       same-table ∙ inv .0,
       same-report ∙ inv .1,
       same-linearization ∙ inv .2,
-      λ t r l begun. along-next _ _ (along _ _ (inv .3 t r l begun)) (tested .if2 .taken) (turned .turn-on .result) _ _ _
-          (c .counted .result) same-table same-report same-linearization (turned .turn-on .ensures) (c .counted .ensures) .lending,
+      λ t r l begun. along-next _ _ (along _ _ (inv .3 t r l begun)) (turn .if2 .taken) (made .result) _ _ _ (c .counted .result)
+          same-table same-report same-linearization (made .ensures) (c .counted .ensures) .lending,
     )
 
 closed-requires : tie.Need-closed-requires Inv-loop μ-loop
 closed-requires c κs = search needs
 
 same-length-4 : tie.Need-same-length-4 Inv-loop μ-loop
-same-length-4 c =
-    let looped = c .before .before .before .before in
-    let made = looped .before .before .before .before .before .before .before .before .before .before .before .before .before in
-    looped .loop .inv .0 ∙ made .prepare .kept .1 .0
+same-length-4 c = here (looped (c .before .before)) .table-long
 
 same-length-5 : tie.Need-same-length-5 Inv-loop μ-loop
-same-length-5 c =
-    let looped = c .before .before .before .before in
-    let made = looped .before .before .before .before .before .before .before .before .before .before .before .before .before in
-    looped .loop .inv .1 ∙ made .prepare .kept .1 .1 .0
+same-length-5 c = here (looped (c .before .before)) .report-long
 
 same-length-6 : tie.Need-same-length-6 Inv-loop μ-loop
-same-length-6 c =
-    let looped = c .before .before .before .before in
-    let made = looped .before .before .before .before .before .before .before .before .before .before .before .before .before in
-    looped .loop .inv .2 ∙ made .prepare .kept .1 .1 .1 .0
+same-length-6 c = here (looped (c .before .before)) .linearization-long
 
 returns-2 : tie.Need-returns-2 Inv-loop μ-loop
 returns-2 c =
-    let looped = c .before .before .before .before in
-    let judged = looped .before .before .before .before in
-    let made = judged .before .before .before .before .before .before .before .before .before in
-    let a = made .before .before .before .before .before .before .before .before .args in
-    let here =
-    looped .loop .inv .3 (a .table .now) (a .report .now) (a .linearization .now)
-    (lending-start (entry (a .file .now) (a .table .now) (a .report .now) (a .linearization .now)) _ _ _ (made .prepare .result)
-    (made .prepare .ensures .1) (made .prepare .ensures .0) (judged .if1 .left) (made .prepare .kept .1 .0)
-    (made .prepare .kept .1 .1 .0) (made .prepare .kept .1 .1 .1 .0) (looped .before .first-tally .result)
-    (looped .before .first-tally .ensures)) in
-    let e = along-end _ _ (along _ _ here) (c .before .if2 .left) (c .closed .result) (c .closed .ensures) in
+    let e =
+    along-end _ _ (along _ _ (here (looped (c .before .before)))) (c .before .if2 .left) (c .closed .result) (c .closed .ensures) in
     (e .exact, (e .linearized, e .lawful))
 
 pub play-spec : {M : Type 1} → statement M

@@ -7,6 +7,21 @@ use Rattle.player.proofs.Along.{turned-on}
 use Rattle.player.proofs.turn_on.Statement.{statement}
 use Rattle.player.proofs.turn_on.Tie as tie
 
+-- ---- the places that are read, each from a later one
+
+abbrev start : tie.After-turn-arg → tie.Start
+start c = c .before .before .before .before .before .before .before .before
+
+-- the parts are lent
+abbrev parted : tie.After-turn-arg3 → tie.After-turn-arg
+parted c = c .before .before
+
+-- `turn` has returned
+abbrev turned : tie.After-slice-known6 → tie.After-turn
+turned c = c .before .before .before .before .before .before
+
+-- ---- the needs
+
 cast-nodes : tie.Need-cast-nodes
 cast-nodes c = search needs
 
@@ -21,7 +36,7 @@ slice-relend-prefix-turn c = search needs
 
 slice-aggregate-turn : tie.Need-slice-aggregate-turn
 slice-aggregate-turn c =
-    let k = c .before .before .before .before .before .before .before .before in
+    let k = start c in
     sym (length-take-le (k .args .counts .nodes) (k .args .table .now) (k .pre .0 .nodes))
 
 slice-relend-prefix-turn-2 : tie.Need-slice-relend-prefix-turn-2
@@ -29,13 +44,11 @@ slice-relend-prefix-turn-2 c = search needs
 
 slice-aggregate-turn-2 : tie.Need-slice-aggregate-turn-2
 slice-aggregate-turn-2 c =
-    let k = c .before .before .before .before .before .before .before .before .before in
+    let k = start (c .before) in
     sym (length-take-le (4 * k .args .counts .requests) (k .args .report .now) (k .pre .0 .rows))
 
 turn-requires : tie.Need-turn-requires
-turn-requires c κs =
-    let k = c .before .before .before .before .before .before .before .before .before .before in
-    (k .pre .0 .turnable, k .pre .1)
+turn-requires c κs = let asked = start (parted c) .pre in (asked .0 .turnable, asked .1)
 
 same-length : tie.Need-same-length
 same-length c = search needs
@@ -48,10 +61,10 @@ same-length-3 c = search needs
 
 returns : tie.Need-returns
 returns c =
-    let turned = c .before .before .before .before .before .before in
-    let k = turned .before .before .before .before .before .before .before .before .before .before .before in
-    λ lent standing. turned-on (k .args .table .now) (k .args .report .now) _ _ (k .pre .0)
-    (turned .turn .kept .1 .1 .1 .1 .0) (turned .turn .kept .1 .1 .1 .1 .1 .0) (turned .turn .ensures lent standing)
+    let made = turned c .turn in
+    let k = start (parted (turned c .before)) in
+    λ origin lent standing. turned-on (k .args .table .now) (k .args .report .now) _ _ (k .pre .0)
+    (made .kept .1 .1 .1 .1 .0) (made .kept .1 .1 .1 .1 .1 .0) (made .ensures origin lent standing)
 
 pub turn-on-spec : {M : Type 1} → statement M
 turn-on-spec =

@@ -6,14 +6,25 @@ use borrow.Author.Needs.{needs}
 use Rattle.stepper.proofs.grant.Statement.{statement}
 use Rattle.stepper.proofs.grant.Tie as tie
 
+-- ---- the places that are read, each from a later one
+
+abbrev start : tie.After-slice-known3 → tie.Start
+start c = c .before .before .before .before .before
+
+-- the mask has the head's bit
+abbrev taken : tie.After-serve-arg3 → tie.Then1
+taken c = c .before .before .before
+
+-- ---- the needs
+
 is-set-requires : tie.Need-is-set-requires
-is-set-requires c κs = omega (arith, c .before .before .before .before .before .pre .0 .head)
+is-set-requires c κs = omega (arith, start c .pre .0 .head)
 
 serve-requires : tie.Need-serve-requires
 serve-requires c κs =
-    let tested = c .before .before .before .before in
-    let start = tested .before .before .before .before .before .before in
-    (start .pre .0, (start .pre .1, sym (tested .is-set .ensures) ∙ c .before .before .before .if1 .taken))
+    let tested = taken c .before in
+    let asked = start (tested .before) .pre in
+    (asked .0, (asked .1, sym (tested .is-set .ensures) ∙ taken c .if1 .taken))
 
 same-length : tie.Need-same-length
 same-length c = search needs
@@ -25,13 +36,13 @@ same-length-3 : tie.Need-same-length-3
 same-length-3 c = search needs
 
 returns : tie.Need-returns
-returns c = let served = c .before .before .before .before .before .before in λ gs lent standing. served .serve .ensures gs lent standing
+returns c = c .before .before .before .before .before .before .serve .ensures
 
 returns-2 : tie.Need-returns-2
 returns-2 c =
-    let p = c .before .before .before .before .before .before .before .pre .0 in
+    let p = start (c .before .before) .pre .0 in
     let t = sym (c .before .is-set .ensures) ∙ c .if1 .left in
-    λ gs lent standing.
+    λ origin gs lent standing.
     record { buffers = idle-shown (p .playing) (p .head) standing t; done = idle-done (p .playing) (p .head) standing t }
 
 pub grant-spec : {M : Type 1} → statement M

@@ -6,23 +6,37 @@ use borrow.Author.Needs.{needs}
 use Rattle.turns.proofs.turn.Statement.{statement}
 use Rattle.turns.proofs.turn.Tie as tie
 
+-- ---- the places that are read, each from a later one
+
+abbrev start : tie.After-slice-known3 → tie.Start
+start c = c .before .before .before .before .before
+
+-- the cursor has a grant left
+abbrev opened : tie.After-grant-arg3 → tie.After-open-run
+opened c = c .before .before .before .before .before
+
+-- the grant is made
+abbrev granted : tie.After-done → tie.After-grant
+granted c = c .before .before .before .before .before .before .before .before
+
+-- ---- the needs
+
 open-run-requires : tie.Need-open-run-requires
-open-run-requires c κs = let p = c .before .before .before .before .before .pre .0 in (p .playing, turn-openable p)
+open-run-requires c κs = let t = start c .pre .0 in (t .playing, turn-openable t)
 
 add-number : tie.Need-add-number
-add-number c = omega (arith, turn-number (c .before .before .before .before .before .before .before .pre .0))
+add-number c = omega (arith, turn-number (start (c .before .before) .pre .0))
 
 grant-requires : tie.Need-grant-requires
 grant-requires c κs =
-    let opened = c .before .before .before .before .before in
-    let start = opened .before .before .before .before .before .before in
-    (turn-grantable (start .pre .0) (opened .open-run .result) (opened .open-run .ensures), start .pre .1)
+    let run = opened c .open-run in
+    let asked = start (opened c .before) .pre in
+    (turn-grantable (asked .0) (run .result) (run .ensures), asked .1)
 
 taken-requires : tie.Need-taken-requires
 taken-requires c κs =
-    let opened = c .before .before .before .before .before .before .before .before .before .before .before .before .before .before in
-    let start = opened .before .before .before .before .before .before in
-    turn-left (start .pre .0) (opened .open-run .result) (opened .open-run .ensures)
+    let at = opened (granted c .before) in
+    turn-left (start (at .before) .pre .0) (at .open-run .result) (at .open-run .ensures)
 
 same-length : tie.Need-same-length
 same-length c = search needs
@@ -35,12 +49,11 @@ same-length-3 c = search needs
 
 returns : tie.Need-returns
 returns c =
-    let granted = c .before .before .before .before .before .before .before .before .before in
-    let opened = granted .before .before .before .before .before .before in
-    let start = opened .before .before .before .before .before .before in
-    λ lent standing. let g = granted .grant .ensures _ lent standing in
-    turn-turned (start .pre .0) (opened .open-run .result) (opened .open-run .ensures) _ _ lent refl (c .taken .ensures) (g .buffers)
-    (g .done)
+    let made = granted (c .before) in
+    let at = opened (made .before) in
+    λ origin lent standing. let g = made .grant .ensures origin _ lent standing in
+    turn-turned (start (at .before) .pre .0) (at .open-run .result) (at .open-run .ensures) _ _ origin lent refl (c .taken .ensures)
+    (g .buffers) (g .done)
 
 pub turn-spec : {M : Type 1} → statement M
 turn-spec =
