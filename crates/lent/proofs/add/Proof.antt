@@ -1,4 +1,4 @@
--- `lent::add` meets its contract: a walk of its MIR, by hand. The tally's borrow is first-tally, the tally is copied out,
+-- `lent::add` meets its contract: a walk of its MIR, by hand. The tally's borrow is opened, the tally is copied out,
 -- `counted` is called, and the borrow is closed at what it returns.
 -- All that is known of `counted` is that it meets its contract.
 --
@@ -43,7 +43,8 @@ use denote.Exit.{yes}
 use Rattle.job.specs.declared.Tally.{Tally}
 use Rattle.turns.specs.declared.Progress.{Progress}
 use Rattle.turns.specs.Turns.{Addable, countedOf}
-use Rattle.lent.proofs.Walks.{row, value, IsValue, typed, sees, makes, opens-value, tally-struct, progress-struct}
+use Rattle.walks.proofs.Carried.{row, value, IsValue, typed, sees, makes, opens-value}
+use Rattle.lent.proofs.Structs.{tally-struct, progress-struct}
 use Rattle.turns.proofs.counted as counted
 use Rattle.turns.proofs.counted.Symbol as counted-def
 use Rattle.turns.proofs.counted.Symbol.{name as #turns·counted}

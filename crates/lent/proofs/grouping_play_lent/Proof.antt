@@ -1,5 +1,5 @@
 -- `lent::grouping_play_lent` meets its contract: a walk of its MIR, by hand, with one loop and one branch.
--- The three slices are lent on for each call and come back; the tally's borrow is first-tally to read and to store it, and
+-- The three slices are lent on for each call and come back; the tally's borrow is opened to read and to store it, and
 -- lent on to `add` at each grant.
 -- `Held` has what is owned of the parameters, `Calls` what each call gets and leaves, `Frame` the locals and the exit, `Loop`
 -- the walk from the loop on.
@@ -50,8 +50,9 @@ use Rattle.turns.specs.Turns.{firstTally}
 use Rattle.player.specs.Player.{refusedWith}
 use Rattle.player.proofs.Along.{along, lending-start}
 use Rattle.lent.proofs.Ended.{LentEnded, refused-ended}
-use Rattle.lent.proofs.Walks.{Setting, lent, row, value, IsValue, differs, agrees, told, typed, sees, makes, opens-value}
-use Rattle.lent.proofs.Walks.{tally-struct, checked-struct, progress-struct, plan-struct, played-struct}
+use Rattle.walks.proofs.Setting.{Setting, lent, differs, agrees}
+use Rattle.walks.proofs.Carried.{row, value, IsValue, told, typed, sees, makes, opens-value}
+use Rattle.lent.proofs.Structs.{tally-struct, checked-struct, progress-struct, plan-struct, played-struct}
 use Rattle.player.proofs.prepare.Symbol as prepare-def
 use Rattle.player.proofs.prepare.Symbol.{name as #player·prepare}
 use Rattle.player.proofs.prepare.Met as prepare-thm

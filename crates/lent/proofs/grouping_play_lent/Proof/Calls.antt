@@ -33,8 +33,10 @@ use Rattle.turns.specs.Turns.{countedOf, buffersOf, firstTally, Addable}
 use Rattle.player.specs.Player.{refusedWith}
 use Rattle.player.specs.declared.Plan.{Plan}
 use Rattle.player.specs.Plan.{Prepared, preparedOf, TurnableOn, TurnsOn, closedOf}
-use Rattle.lent.proofs.Walks.{Setting, at-name, row, value, IsValue, makes, Returned, told-value, tally-struct}
-use Rattle.lent.proofs.Walks.{checked-struct, progress-struct, plan-struct, played-struct}
+use Rattle.walks.proofs.Setting.{Setting, at-name, Loan}
+use Rattle.walks.proofs.Carried.{row, value, IsValue, makes, Returned, told-value}
+use Rattle.walks.proofs.Again.{slice-value}
+use Rattle.lent.proofs.Structs.{tally-struct, checked-struct, progress-struct, plan-struct, played-struct}
 use Rattle.player.proofs.prepare as prepare
 use Rattle.player.proofs.prepare.Symbol.{name as #player·prepare}
 use Rattle.player.proofs.refused as refused
@@ -47,7 +49,6 @@ use Rattle.lent.proofs.add as add
 use Rattle.lent.proofs.add.Symbol.{name as #lent·add}
 use Rattle.player.proofs.closed as closed
 use Rattle.player.proofs.closed.Symbol.{name as #player·closed}
-use Rattle.lent.proofs.Again.{Loan, slice-value}
 use Rattle.lent.proofs.grouping_play_lent.Proof.Held.{Parameters, Lists, SameLengths, Loans, lists₀}
 use Rattle.lent.proofs.grouping_play_lent.Proof.Held.{tally-pointer, Passed, Tokens, Lasts, Left, over}
 

@@ -34,10 +34,12 @@ use Rattle.job.specs.declared.Played.{Played}
 use Rattle.reader.specs.declared.Checked.{Checked}
 use Rattle.player.proofs.Along.{Entry, Along}
 use Rattle.lent.proofs.Ended.{LentEnded}
-use Rattle.lent.proofs.Walks.{Setting, Lent, at-name, row, tally-struct, played-struct}
+use Rattle.walks.proofs.Setting.{Setting, Lent, passed}
+use Rattle.walks.proofs.Carried.{row}
+use Rattle.walks.proofs.Again.{slice-value}
+use Rattle.lent.proofs.Structs.{tally-struct, played-struct}
 use Rattle.lent.proofs.grouping_play_lent as f
 use Rattle.lent.proofs.grouping_play_lent.Code.Mir as mir-of
-use Rattle.lent.proofs.Again.{slice-value}
 use Rattle.lent.proofs.grouping_play_lent.Proof.Held.{Parameters, Lists, SameLengths, lists₀, tally-pointer, Buffers}
 use Rattle.lent.proofs.grouping_play_lent.Proof.Calls.{Known}
 
@@ -82,9 +84,6 @@ module _ (P : Parameters) where
 
   abbrev pub shares : Share × (Share × (Share × (Share × (Share × Unit {0}))))
   shares = (P .file .share, (P .table .share, (P .report .share, (P .linearization .share, (P .tally .share, tt)))))
-
-  abbrev pub passed : {X : Type 0} → Lent X → RefT X
-  passed s = at-name s (s .name) (s .entry)
 
   abbrev pub x : RefT (List ℕ) × (RefT (List ℕ) × (RefT (List ℕ) × (RefT (List ℕ) × (RefT Tally × Unit {0}))))
   x = (passed (P .file), (passed (P .table), (passed (P .report), (passed (P .linearization), (passed (P .tally), tt)))))

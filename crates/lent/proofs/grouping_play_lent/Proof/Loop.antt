@@ -41,10 +41,10 @@ use Rattle.turns.specs.Turns.{countedOf, Addable}
 use Rattle.player.specs.Plan.{closedOf}
 use Rattle.player.proofs.Along.{along-turnable, along-addable, along-number, along-next}
 use Rattle.lent.proofs.Ended.{accepted-ended}
-use Rattle.lent.proofs.Walks.{Setting, row, value, IsValue, told, typed, sees, makes, opens-value, tally-struct}
-use Rattle.lent.proofs.Walks.{checked-struct, progress-struct, played-struct}
+use Rattle.walks.proofs.Setting.{Setting, loan}
+use Rattle.walks.proofs.Carried.{row, value, IsValue, told, typed, sees, makes, opens-value}
+use Rattle.lent.proofs.Structs.{tally-struct, checked-struct, progress-struct, played-struct}
 use Rattle.lent.proofs.grouping_play_lent.Code.Mir as mir-of
-use Rattle.lent.proofs.Again.{loan}
 use Rattle.lent.proofs.grouping_play_lent.Proof.Held.{Parameters, Lists, Loans, TallyHeld, Back, Buffers, Owner}
 use Rattle.lent.proofs.grouping_play_lent.Proof.Held.{Passed, Kept, Lending, Over, lends, comes}
 use Rattle.lent.proofs.grouping_play_lent.Proof.Calls.{TurnSearching, Add, Closed, Known, Told, Turns, to-turn}

@@ -1,0 +1,4 @@
+-- The laws of walks by hand, file by file from the bottom.
+pub mod Setting
+pub mod Carried
+pub mod Again
