@@ -82,6 +82,11 @@ module _ (root : ℕ → ℕ) where
   lowest-more : (m : ℕ) → isLowest root m ≡ true → length (lowestPlaces root (suc m)) ≡ length (lowestPlaces root m) + 1
   lowest-more m e = ap length (lowest-in m e) ∙ length-append (lowestPlaces root m) (m ∷ [])
 
+  pub lowest-few : (m : ℕ) → length (lowestPlaces root m) ≤ m
+  lowest-few zero = omega arith
+  lowest-few (suc m) =
+      split (isLowest root m) (λ e. omega (arith, lowest-more m e, lowest-few m)) (λ e. omega (arith, ap length (lowest-out m e), lowest-few m))
+
   -- no place below a lowest one has its root
   pub lowest-first : (i j : ℕ) → isLowest root j ≡ true → i < j → root i ≢ root j
   lowest-first i j e l f = omega (arith, eqb-true (size j root (root j)) 0 e, size-some root j (root j) i l f)

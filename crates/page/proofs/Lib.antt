@@ -1,0 +1,6 @@
+-- The laws of the group page.
+mod Gathering
+mod Rows
+mod Columns
+pub mod Pages
+pub mod Planning
