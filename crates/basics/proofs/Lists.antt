@@ -30,7 +30,8 @@ module _ {A : Type 0} where
   getD-sets-below (v ∷ vs) l i j d h =
       getD-sets-below vs (set l i v) (suc i) j d (omega arith) ∙ getD-set-other l i j v d (λ e. omega arith)
 
-  pub getD-sets-in : (vs l : List A) (i j : ℕ) (d : A) → j < length vs → i + length vs ≤ length l → getD (sets l i vs) (i + j) d ≡ getD vs j d
+  pub getD-sets-in : (vs l : List A) (i j : ℕ) (d : A) → j < length vs → i + length vs ≤ length l
+      → getD (sets l i vs) (i + j) d ≡ getD vs j d
   getD-sets-in [] l i j d h k = absurd (omega arith)
   getD-sets-in (v ∷ vs) l i zero d h k =
       let start : i + 0 ≡ i = omega arith in

@@ -85,7 +85,8 @@ module _ (root : ℕ → ℕ) where
   pub lowest-few : (m : ℕ) → length (lowestPlaces root m) ≤ m
   lowest-few zero = omega arith
   lowest-few (suc m) =
-      split (isLowest root m) (λ e. omega (arith, lowest-more m e, lowest-few m)) (λ e. omega (arith, ap length (lowest-out m e), lowest-few m))
+      split (isLowest root m) (λ e. omega (arith, lowest-more m e, lowest-few m))
+      (λ e. omega (arith, ap length (lowest-out m e), lowest-few m))
 
   -- no place below a lowest one has its root
   pub lowest-first : (i j : ℕ) → isLowest root j ≡ true → i < j → root i ≢ root j

@@ -4,3 +4,6 @@ mod Rows
 mod Columns
 pub mod Pages
 pub mod Planning
+mod Ruling
+pub mod Grouping
+pub mod Paging

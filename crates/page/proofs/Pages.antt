@@ -30,11 +30,12 @@ column-length text l =
 number-length : (n : ℕ) → n < 10 ^ 8 → length (rightAligned (decimal n)) ≡ 8
 number-length n l = column-length (decimal n) (digits-most 7 n l)
 
-columns-length : (text : List ℕ) (texts : List (List ℕ)) → length (columns (text ∷ texts)) ≡ length (rightAligned text) + length (columns texts)
+columns-length : (text : List ℕ) (texts : List (List ℕ))
+    → length (columns (text ∷ texts)) ≡ length (rightAligned text) + length (columns texts)
 columns-length text texts = length-append (rightAligned text) (columns texts)
 
 -- every line has 33 bytes
-row-length : (r : Row) → Fitting r → length (rowLine r) ≡ 33
+pub row-length : (r : Row) → Fitting r → length (rowLine r) ≡ 33
 unfolding rowLine
 row-length r f =
     let last : List (List ℕ) = decimal (r .rank) ∷ [] in
@@ -83,7 +84,8 @@ module _ (rows : List Row) (page : List ℕ) where
   unfolding pageAfter each
   page-start = refl
 
-  pub page-next : (i : ℕ) → AllFitting rows i → sets (pageAfter rows page i) (pageLength i) (rowLines i (getD rows i noRow)) ≡ pageAfter rows page (suc i)
+  pub page-next : (i : ℕ) → AllFitting rows i
+      → sets (pageAfter rows page i) (pageLength i) (rowLines i (getD rows i noRow)) ≡ pageAfter rows page (suc i)
   unfolding pageAfter each
   page-next i f =
       sets-append (linesTo rows i) (rowLines i (getD rows i noRow)) page 0 (pageLength i) (omega (arith, lines-to-length rows i f))
@@ -147,4 +149,6 @@ module _ (numbers : List ℕ) where
   pub rows-done : (found : List Row) → Numbered found (length found) numbers → rowsTo numbers (length found) ≡ found
   rows-done found numbered =
       ext-getD noRow (rowsTo numbers (length found)) found (rows-to-length (length found))
-      (λ k l. let within : k < length found = omega (arith, rows-to-length (length found)) in rows-to-at (length found) k within ∙ numbered k within)
+      (λ k l.
+      let within : k < length found = omega (arith, rows-to-length (length found)) in
+      rows-to-at (length found) k within ∙ numbered k within)

@@ -1,6 +1,7 @@
--- The group page: rows, the page made from them, the call's outcome; what the code gathers, plans and writes on the way.
+-- The group page: rows, the page made from them, the call's outcome, what holds of it; what the code gathers, plans and writes.
 pub mod Rows
 pub mod Page
+pub mod Grouped
 pub mod Gathered
 pub mod Plan
 pub mod Written

@@ -3,7 +3,8 @@
 --   rightAligned text         a text right-aligned in 8 characters
 --   columns texts             texts side by side, each right-aligned
 --   lineOf texts              a line of such columns
---   heading, rowLine r        the line of the columns' names, and of the row r
+--   names                     the names of the columns
+--   heading, rowLine r        the line of the names, and of the row r
 --   rowLines i r              the lines of row number i: its own, and a heading before it where one is due
 --   linesTo rows n, pageOf rows   the lines of the first n rows, and of all of them: the page
 --   Fitting r                 the numbers of the row r fit their columns
@@ -35,16 +36,18 @@ columns (text ∷ texts) = rightAligned text ++ columns texts
 abbrev pub lineOf : List (List ℕ) → List ℕ
 lineOf texts = columns texts ++ (10 ∷ [])
 
--- "group", "size", "root", "rank" in the same columns.
-unfoldable pub heading : List ℕ
-heading =
-    lineOf (
+-- "group", "size", "root", "rank".
+abbrev pub names : List (List ℕ)
+names =
     (103 ∷ 114 ∷ 111 ∷ 117 ∷ 112 ∷ [])
     ∷ (115 ∷ 105 ∷ 122 ∷ 101 ∷ [])
     ∷ (114 ∷ 111 ∷ 111 ∷ 116 ∷ [])
     ∷ (114 ∷ 97 ∷ 110 ∷ 107 ∷ [])
     ∷ []
-    )
+
+-- They stand in the same columns.
+unfoldable pub heading : List ℕ
+heading = lineOf names
 
 unfoldable pub rowLine : Row → List ℕ
 rowLine r = lineOf (map decimal (r .lowest ∷ r .size ∷ r .root ∷ r .rank ∷ []))
