@@ -7,3 +7,4 @@ pub mod Planning
 mod Ruling
 pub mod Grouping
 pub mod Paging
+mod Cases

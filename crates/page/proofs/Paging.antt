@@ -142,6 +142,6 @@ module _ (words : List ℕ) where
         (λ e. absurd (omega (arith, refused-none e)))
 
     pub paged-grouped : plan .answer .number ≡ 0 → Grouped (map decode words) (groupRows (map decode words))
-    paged-grouped zero =
+    paged-grouped accepted-number =
         split (eqb (pageRefusal words (length rows) (length page)) 0) (λ e. grouped (map decode words) (room e .table))
-        (λ e. absurd (eqb-false _ 0 e (sym (ap (λ a. a .number) (refused-told e)) ∙ zero)))
+        (λ e. absurd (eqb-false _ 0 e (sym (ap (λ a. a .number) (refused-told e)) ∙ accepted-number)))
