@@ -19,6 +19,7 @@ use Rattle.word.specs.Word.{decode, mostNodes}
 use Rattle.table.specs.Admitted.{tableRefusal, Admitted}
 use Rattle.table.proofs.Admitted.{passed, table-admitted}
 use Rattle.page.specs.declared.Row.{Row}
+use Rattle.page.specs.declared.Paged.{Paged}
 use Rattle.page.specs.declared.plan.Plan.{Plan}
 use Rattle.page.specs.Rows.{noRow, groupRows, Numbered}
 use Rattle.page.specs.Page.{linesTo, pageOf, pageRefusal, writtenAnswer, refusedAnswer, Outcome, pagedOf}
@@ -145,3 +146,13 @@ module _ (words : List ℕ) where
     paged-grouped accepted-number =
         split (eqb (pageRefusal words (length rows) (length page)) 0) (λ e. grouped (map decode words) (room e .table))
         (λ e. absurd (eqb-false _ 0 e (sym (ap (λ a. a .number) (refused-told e)) ∙ accepted-number)))
+
+    -- the outcome in the words of the call: what it told, and what its two loops left
+    pub paged-told : (answer : Paged) (numbers : List ℕ) (count : ℕ) (rows′ : List Row) (page′ : List ℕ)
+        → answer ≡ plan .answer → numbers ≡ plan .numbers → count ≡ plan .answer .rows
+        → rows′ ≡ rowsAfter numbers rows count → page′ ≡ pageAfter rows′ page count
+        → record { answer = answer; rows = rows′; page = page′ } ≡ pagedOf words rows page
+    paged-told answer numbers count rows′ page′ told listed counted fills writes =
+        let filling : rows′ ≡ filled = fills ∙ (λ i. rowsAfter (listed i) rows (counted i)) in
+        let writing : page′ ≡ pageAfter filled page (plan .answer .rows) = writes ∙ (λ i. pageAfter (filling i) page (counted i)) in
+        (λ i. record { answer = told i; rows = filling i; page = writing i }) ∙ paged
