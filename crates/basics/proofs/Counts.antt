@@ -1,10 +1,13 @@
 -- Laws of counting: how the count of a test changes with the test.
 --
+--   Passing t n           one of the numbers below n that pass
 --   count-in, count-out   one number more: it passes, or it does not
 --   count-next            one number more counts no less
 --   count-le              at most every number passes
 --   count-all             every number passes
+--   count-none            no number passes
 --   count-positive        some number passes
+--   count-some            and the other way round
 --   count-mono            a weaker test counts no less
 --   count-same            tests that agree count the same
 --   count-less            one number ceases to pass
@@ -39,6 +42,10 @@ pub count-all : (t : ℕ → Bool) (n : ℕ) → ((i : ℕ) → i < n → t i �
 count-all t zero h = refl
 count-all t (suc n) h = count-in t n (h n (omega arith)) ∙ ap suc (count-all t n (λ i l. h i (omega arith)))
 
+pub count-none : (t : ℕ → Bool) (n : ℕ) → ((i : ℕ) → i < n → t i ≡ false) → count t n ≡ 0
+count-none t zero h = refl
+count-none t (suc n) h = count-out t n (h n (omega arith)) ∙ count-none t n (λ i l. h i (omega arith))
+
 pub count-positive : (t : ℕ → Bool) (n i : ℕ) → i < n → t i ≡ true → 1 ≤ count t n
 count-positive t zero i l e = absurd (omega arith)
 count-positive t (suc n) i l e =
@@ -46,6 +53,19 @@ count-positive t (suc n) i l e =
     (λ f.
     let other : i ≢ n = λ d. true≢false (sym e ∙ ap t d ∙ f) in
     omega (arith, count-out t n f, count-positive t n i (omega (arith, other)) e))
+
+pub record Passing (t : ℕ → Bool) (n : ℕ) : Type 0 where
+  pub number : ℕ
+  pub inside : number < n
+  pub passes : t number ≡ true
+
+pub count-some : (t : ℕ → Bool) (n : ℕ) → 1 ≤ count t n → Passing t n
+count-some t zero l = absurd (omega arith)
+count-some t (suc n) l =
+    split (t n) (λ e. record { number = n; inside = omega arith; passes = e })
+    (λ e.
+    let below = count-some t n (omega (arith, count-out t n e)) in
+    record { number = below .number; inside = omega (arith, below .inside); passes = below .passes })
 
 pub count-mono : (t u : ℕ → Bool) (n : ℕ) → ((i : ℕ) → i < n → t i ≡ true → u i ≡ true) → count t n ≤ count u n
 count-mono t u zero h = omega arith

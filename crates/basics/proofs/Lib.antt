@@ -2,3 +2,4 @@
 pub mod Conditions
 pub mod Lists
 pub mod Counts
+pub mod Sums

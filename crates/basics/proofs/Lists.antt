@@ -2,15 +2,16 @@
 --
 --   getD-mapped    what stands at a place of the mapped list
 --   set-mapped     a store in the mapped list is the map of a store
+--   getD-sets-in, getD-sets-below   what stands at a place after several stores in a row: among them, or before them
 --   length-three   the length of three pieces
 --   take-next      one element more: what a loop over a list adds in a turn
-use mathlib.Core.Path.{_≡_, refl, ap}
+use mathlib.Core.Path.{_≡_, refl, ap, _∙_}
 use mathlib.Core.List.{List, [], _∷_, _++_, map}
-use Prim.Native.Nat.{ℕ, zero, suc, _+_, _<_}
+use Prim.Native.Nat.{ℕ, zero, suc, _+_, _≤_, _<_}
 use native.Mathlib.Numerals.{add-one}
 use native.Mathlib.Omega.{arith}
-use lib.ListN.{length, getD, set, take, length-append}
-use lib.Seq.{take-suc}
+use lib.ListN.{length, getD, set, take, length-append, length-set}
+use lib.Seq.{sets, take-suc, getD-set-same, getD-set-other}
 
 module _ {A B : Type 0} (f : A → B) where
   pub getD-mapped : (l : List A) (i : ℕ) (d : A) (e : B) → i < length l → getD (map f l) i e ≡ f (getD l i d)
@@ -22,6 +23,22 @@ module _ {A B : Type 0} (f : A → B) where
   set-mapped [] i v = refl
   set-mapped (a ∷ l) zero v = refl
   set-mapped (a ∷ l) (suc i) v = ap {B = List B} (λ r. f a ∷ r) (set-mapped l i v)
+
+module _ {A : Type 0} where
+  pub getD-sets-below : (vs l : List A) (i j : ℕ) (d : A) → j < i → getD (sets l i vs) j d ≡ getD l j d
+  getD-sets-below [] l i j d h = refl
+  getD-sets-below (v ∷ vs) l i j d h =
+      getD-sets-below vs (set l i v) (suc i) j d (omega arith) ∙ getD-set-other l i j v d (λ e. omega arith)
+
+  pub getD-sets-in : (vs l : List A) (i j : ℕ) (d : A) → j < length vs → i + length vs ≤ length l
+      → getD (sets l i vs) (i + j) d ≡ getD vs j d
+  getD-sets-in [] l i j d h k = absurd (omega arith)
+  getD-sets-in (v ∷ vs) l i zero d h k =
+      let start : i + 0 ≡ i = omega arith in
+      rw start (getD-sets-below vs (set l i v) (suc i) i d (omega arith) ∙ getD-set-same l i v d (omega arith))
+  getD-sets-in (v ∷ vs) l i (suc j) d h k =
+      let next : i + suc j ≡ suc i + j = omega arith in
+      rw next (getD-sets-in vs (set l i v) (suc i) j d (omega arith) (simp length-set (omega arith)))
 
 pub length-three : (a b c : List ℕ) → length (a ++ (b ++ c)) ≡ length a + length b + length c
 length-three a b c = omega (arith, length-append a (b ++ c), length-append b c)

@@ -1,2 +1,3 @@
--- The definition of a count.
+-- The definitions of a count and of a sum.
 pub mod Count
+pub mod Sum

@@ -4,7 +4,6 @@
 --   WellFormed n p r   parents are nodes, and a parent other than the node itself comes after it
 --   Labelled n p B     labels agree along parents and tell roots apart
 --   Rooted p x         x leads to some root
---   rankTotal r n      the ranks of the nodes below n, summed
 --
 -- Main law: together-iff-label, two nodes share a set in the table exactly when their labels are equal.
 use mathlib.Core.Path.{_≡_, refl, sym, ap, _∙_}
@@ -12,6 +11,8 @@ use mathlib.Core.Logic.{_≢_, _↔_}
 use Prim.Native.Nat.{ℕ, zero, suc, _+_, _*_, _≤_, _<_}
 use native.Mathlib.Omega.{arith}
 use native.Mathlib.Decide.{ℕ-discrete}
+use Rattle.basics.specs.Sum.{sumTo}
+use Rattle.basics.proofs.Sums.{sumTo-le}
 use Rattle.word.specs.Word.{key, nodeLimit}
 use Rattle.forest.specs.Forest.{Leads, root, up, Together}
 
@@ -47,18 +48,6 @@ leads-unique (up _ _ d way) (up _ _ c other) = leads-unique way other
 
 -- Keys rise along parents and are bounded, so that every way ends.
 
-abbrev rankTotal : (ℕ → ℕ) → ℕ → ℕ
-rankTotal r zero = zero
-rankTotal r (suc n) = rankTotal r n + r n
-
-rank-total : (r : ℕ → ℕ) (n i : ℕ) → i < n → r i ≤ rankTotal r n
-rank-total r zero i l = absurd (omega arith)
-rank-total r (suc n) i l = go (ℕ-discrete i n) (λ k. rank-total r n i k)
-  where
-    go : Dec (i ≡ n) → (i < n → r i ≤ rankTotal r n) → r i ≤ rankTotal r n + r n
-    go (yes e) m = omega (arith, ap r e)
-    go (no e) m = omega (arith, m (omega arith))
-
 module _ {n : ℕ} {p r : ℕ → ℕ} (formed : WellFormed n p r) where
   pub leads-inside : {x z : ℕ} → Leads p x z → x < n → z < n
   leads-inside (root x e) l = l
@@ -68,11 +57,11 @@ module _ {n : ℕ} {p r : ℕ → ℕ} (formed : WellFormed n p r) where
   leads-key (root x e) l = omega arith
   leads-key (up x z d way) l = omega (arith, formed .rising x l d, leads-key way (formed .inside x l))
 
-  leads-within : (fuel x : ℕ) → x < n → suc (rankTotal r n) * nodeLimit ≤ key (r x) x + fuel → Rooted p x
-  leads-within zero x l b = absurd (omega (arith, rank-total r n x l, formed .limit))
+  leads-within : (fuel x : ℕ) → x < n → suc (sumTo r n) * nodeLimit ≤ key (r x) x + fuel → Rooted p x
+  leads-within zero x l b = absurd (omega (arith, sumTo-le r n x l, formed .limit))
   leads-within (suc fuel) x l b = go (ℕ-discrete (p x) x) (λ y k. leads-within fuel y k)
     where
-      go : Dec (p x ≡ x) → ((y : ℕ) → y < n → suc (rankTotal r n) * nodeLimit ≤ key (r y) y + fuel → Rooted p y)
+      go : Dec (p x ≡ x) → ((y : ℕ) → y < n → suc (sumTo r n) * nodeLimit ≤ key (r y) y + fuel → Rooted p y)
           → Rooted p x
       go (yes e) on = record { end = x; path = root x e }
       go (no d) on =
@@ -80,7 +69,7 @@ module _ {n : ℕ} {p r : ℕ → ℕ} (formed : WellFormed n p r) where
           record { end = rest .end; path = up x (rest .end) d (rest .path) }
 
   pub leads-exists : (x : ℕ) → x < n → Rooted p x
-  leads-exists x l = leads-within (suc (rankTotal r n) * nodeLimit) x l (omega arith)
+  leads-exists x l = leads-within (suc (sumTo r n) * nodeLimit) x l (omega arith)
 
   module _ {B : ℕ → ℕ} (labelled : Labelled n p B) where
     pub leads-label : {x z : ℕ} → Leads p x z → x < n → B z ≡ B x

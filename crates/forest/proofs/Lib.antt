@@ -9,3 +9,4 @@ pub mod Linking
 pub mod Raising
 pub mod Later
 pub mod Roots
+pub mod Groups

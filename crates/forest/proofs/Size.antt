@@ -1,7 +1,5 @@
 -- Sizes of sets, counted by label.
 --
---   size n B l   how many of the nodes below n have the label l
---
 -- Laws: size-le, no set is larger than all nodes; size-positive, a node's own set is not empty; size-grows, a set that
 -- goes over into another is no larger; size-sum, two sets that go over into one are together no larger.
 use mathlib.Core.Path.{_≡_, refl, sym, _∙_}
@@ -9,11 +7,8 @@ use mathlib.Core.Logic.{_≢_}
 use Prim.Native.Nat.{ℕ, _+_, _≤_, _<_}
 use lib.Dec.{eqb}
 use borrow.Author.Tests.{eqb-true, eq-eqb, ne-eqb}
-use Rattle.basics.specs.Count.{count}
 use Rattle.basics.proofs.Counts.{count-le, count-mono, count-positive, count-sum}
-
-unfoldable pub size : ℕ → (ℕ → ℕ) → ℕ → ℕ
-size n B l = count (λ i. eqb (B i) l) n
+pub use Rattle.forest.specs.Groups.{size}
 
 pub size-le : (n : ℕ) (B : ℕ → ℕ) (l : ℕ) → size n B l ≤ n
 unfolding size

@@ -2,6 +2,7 @@
 -- why a head's access is inside.
 pub mod Words
 pub mod Admitted
+pub mod Groups
 mod Roots
 mod Accesses
 mod Leads

@@ -36,10 +36,10 @@ decimal-more n h =
     rw (le-ltb n 10 h)
     (ap (λ (ds : List ℕ). ds ++ ((48 + n % 10) ∷ [])) (digits-enough n (suc (n / 10)) (n / 10) (omega arith) (omega arith)))
 
-decimal-more-length : (n : ℕ) → 10 ≤ n → length (decimal n) ≡ length (decimal (n / 10)) + 1
+pub decimal-more-length : (n : ℕ) → 10 ≤ n → length (decimal n) ≡ length (decimal (n / 10)) + 1
 decimal-more-length n h = ap length (decimal-more n h) ∙ length-append (decimal (n / 10)) ((48 + n % 10) ∷ [])
 
-digits-most : (k n : ℕ) → n < 10 ^ suc k → length (decimal n) ≤ suc k
+pub digits-most : (k n : ℕ) → n < 10 ^ suc k → length (decimal n) ≤ suc k
 digits-most zero n h = omega (arith, ap length (decimal-digit n h))
 digits-most (suc k) n h = go (ltb n 10) refl (digits-most k (n / 10) (omega (arith, pow-succ' 10 (suc k))))
   where

@@ -13,7 +13,7 @@ sets-out : (ys l : List ℕ) (i : ℕ) → length l ≤ i → sets l i ys ≡ l
 sets-out [] l i h = refl
 sets-out (y ∷ ys) l i h = ap (λ (m : List ℕ). sets m (suc i) ys) (set-out l i y h) ∙ sets-out ys l (suc i) (omega arith)
 
-sets-append : (xs ys l : List ℕ) (i j : ℕ) → j ≡ i + length xs → sets (sets l i xs) j ys ≡ sets l i (xs ++ ys)
+pub sets-append : (xs ys l : List ℕ) (i j : ℕ) → j ≡ i + length xs → sets (sets l i xs) j ys ≡ sets l i (xs ++ ys)
 sets-append [] ys l i j e = ap (λ (k : ℕ). sets l k ys) (omega arith)
 sets-append (x ∷ xs) ys l i j e = sets-append xs ys _ (suc i) j (omega arith)
 

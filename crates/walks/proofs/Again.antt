@@ -6,6 +6,7 @@
 --   SliceOpen             what is left of it while its borrow is open
 --   SliceKept, -KeptRead  what its holder keeps while it is lent on to be written; to be read
 --   SliceLast             what a call says of it at exit: the last list, as long as the list that was passed
+--   opened, shut          its borrow is opened: its elements are had; it is closed at a list of the same length
 --
 -- Main laws: slice-lends and slice-comes, for a callee that takes it `&mut`; slice-reads and slice-read-back, for one that takes it `&`.
 use mathlib.Core.Path.{_≡_, refl, sym, _∙_, ap, subst}
@@ -78,14 +79,14 @@ module _ (w : Setting) (T : RattleType) (s : Lent (List (T .Denot))) (ys : List 
   Owned zs = sep 𝓤 (sem 𝓤 H A (SliceHeld T s zs)) (A .lft (s .lifetime) (s .share))
 
   -- the slice's borrow is opened, and closed at a list of the same length
-  opened : ent 𝓤 (Owned ys)
+  pub opened : ent 𝓤 (Owned ys)
       (H .⇛ (guard 𝓤 (Room T (length ys)) (sep 𝓤 (sem 𝓤 H A (elements ys)) (sem 𝓤 H A (SliceOpen T s ys)))))
   opened =
       qed W (‵ (SliceHeld T s ys) ∷ token s ∷ []) ∵ updating ! $
       fsplit ! $ pureL ! (at-slice T (at-name s (s .name) ys) (slice-value s ∷ [])) (λ p. fsplit ! $
       opens-slice ! tt T ys (s .block) (s .offset) $ at-once ! $ check ! (p .1) $ done !)
 
-  shut : (zs : List (T .Denot)) → Room T (length (s .entry)) → length zs ≡ length ys
+  pub shut : (zs : List (T .Denot)) → Room T (length (s .entry)) → length zs ≡ length ys
       → ent 𝓤 (sep 𝓤 (sem 𝓤 H A (elements zs)) (sem 𝓤 H A (SliceOpen T s ys))) (H .⇛ (Owned zs))
   shut zs room long =
       qed W (‵ (elements zs) ∷ ‵ (SliceOpen T s ys) ∷ []) ∵ updating ! $
