@@ -2,3 +2,5 @@
 pub mod Setting
 pub mod Carried
 pub mod Again
+pub mod Places
+pub mod Frame
