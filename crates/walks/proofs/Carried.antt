@@ -6,6 +6,7 @@
 --   sees, makes      what is owned of a record shows its machine value, and is had for nothing
 --   opens-value      a lent record's borrow is opened: its cell at its machine value
 --   told-value       what is had of a call by value that returns a struct: what the clause says of it, and what it owns
+--   tells            so in a walk, after the call
 use mathlib.Core.Path.{_≡_}
 use mathlib.Core.List.{List, [], _∷_}
 use Prim.Native.Nat.{ℕ}
@@ -19,7 +20,7 @@ use prog.Wp.{Heap}
 use ghost.Atoms.{Atoms, sem}
 use contract.Monad.{fact}
 use types.Kit.{Given, Item, Goal, Seq, Step, Soaks, ‵, raw, _⊛_, some, later, _$_, _∵_, !, qed, move, drop, use1, split}
-use types.Kit.{pick, check, await, updating, now as at-once, show, done}
+use types.Kit.{given, mean, learn, pick, check, await, updating, now as at-once, show, done}
 use types.SemTy.{Body}
 use denote.RattleType.{RattleType}
 use denote.Laws.{Is, shows}
@@ -85,3 +86,11 @@ module _ (w : Setting) (s : Carried) (φ : s .type .D → Type 0) (v : Val) wher
       qed W (later (some (λ (r : s .type .D). (‵ ftrue ⊛ ‵ (row s .own r (v ∷ []))) ⊛ raw (E r))) ∷ []) ∵ updating ! $
       await ! tt $ pick ! (λ r. split ! $ move ! (1 ∷ []) $
       use1 W (raw (fact 𝓤 (φ r))) (clause r) $ heard ! (φ r) (λ e. split ! $ drop ! $ at-once ! $ show ! Returned r $ check ! e $ done !))
+
+-- a call by value has returned: its result, of which φ is known, has its machine value
+pub tells : (w : Setting) {K : Type 0} {Γ : List (Item (w .𝓤))} {G : Goal (w .𝓤) (w .H)} {i : Item (w .𝓤)} → K → Soaks G
+    → (s : Carried) (φ : s .type .D → Type 0) (v : Val) → ent (w .𝓤) (mean (w .𝓤) (w .H) (w .A) i) (w .H .⇛ (ex (w .𝓤) (Returned w s φ v)))
+    → ((r : s .type .D) → φ r → Is (row s) r (v ∷ []) → Seq K (w .W) (‵ (row s .own r (v ∷ [])) ∷ Γ) G) → Seq K (w .W) (i ∷ Γ) G
+tells w t soaks s φ v law k =
+    use1 (w .W) (later (some (λ (r : s .type .D). given (φ r) (‵ (row s .own r (v ∷ [])))))) law $ await t soaks $
+    pick t (λ r. learn t (λ e. sees t s r (v ∷ []) (λ is. k r e is)))

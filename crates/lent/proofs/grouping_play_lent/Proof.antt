@@ -23,9 +23,8 @@ use prog.Wp.{WpFn}
 use contract.Running.{givenOf, tables, tablesOf}
 use types.Kit.{‵, raw, given, atRet, Sq, ⋆, _⊛_, some as such, later, _$_, _∵_, !, qed, cut, move, keep, drop, use1, split, pick, learn}
 use types.Kit.{fsplit, fsplit3, fjoin3, feqI, await}
-use types.Run.{store-raw, lit, addr, bin, of-opd, and-then, no-more, assigns, first, skips, branches, returns-within, exec, enter}
-use types.Run.{params1, pass1, pass0}
-use types.Part.{agg}
+use types.Run.{store-raw, lit, addr, bin, of-opd, no-more, assigns, first, skips, branches, returns-within, exec, enter}
+use types.Run.{params1, pass0}
 use sound.WpLaws.{FmC, fmOf, WpFn-mono}
 use denote.RattleType.{owns}
 use denote.Laws.{Is}
@@ -51,10 +50,11 @@ use Rattle.player.specs.Player.{refusedWith}
 use Rattle.player.proofs.Along.{along, lending-start}
 use Rattle.lent.proofs.Ended.{LentEnded, refused-ended}
 use Rattle.walks.proofs.Setting.{Setting, lent, differs, agrees}
-use Rattle.walks.proofs.Carried.{row, value, IsValue, told, typed, sees, makes, opens-value}
-use Rattle.walks.proofs.Frame.{swap, allocates}
-use Rattle.walks.proofs.Places.{copied, copied-field, behind, behind-slice, assigned, landed, landed-as}
-use Rattle.walks.proofs.Places.{look-local, init-local, forget-local, forget-slice}
+use Rattle.walks.proofs.Carried.{row, value, IsValue, told, typed, sees, makes, opens-value, tells}
+use Rattle.walks.proofs.Again.{slice-typed}
+use Rattle.walks.proofs.Frame.{swap, flip, becomes, becomes-some, becomes-such, allocates}
+use Rattle.walks.proofs.Places.{head, copied, copied-field, behind, behind-slice, slice-of, and-local, assigned, landed, answered, argument}
+use Rattle.walks.proofs.Places.{forgets}
 use Rattle.lent.proofs.Structs.{tally-struct, checked-struct, progress-struct, plan-struct, played-struct}
 use Rattle.player.proofs.prepare.Symbol as prepare-def
 use Rattle.player.proofs.prepare.Symbol.{name as #player·prepare}
@@ -79,7 +79,7 @@ use Rattle.lent.proofs.grouping_play_lent as f
 use Rattle.lent.proofs.grouping_play_lent.Statement as stated
 use Rattle.lent.proofs.grouping_play_lent.Code as code
 use Rattle.lent.proofs.grouping_play_lent.Code.Mir as mir-of
-use Held.{Parameters, Loans, lists₀, tally-pointer, Back, Buffers, Owner, Passed, Kept, Lending, Over, lends, comes}
+use Held.{Parameters, SameLengths, lists₀, tally-pointer, Buffers, Owner, Passed, Lending, Returning, lends, comes}
 use Calls.{Prepare, Refused, FirstTally, TurnSearching, Add, Closed, Known, Told, Prepares, to-prepare, goes-prepare}
 use Calls.{Prepared-with, told-prepare}
 use Calls.{to-refused, goes-refused, told-refused, to-first-tally, goes-first-tally, told-first-tally}
@@ -113,25 +113,22 @@ module _ (w : Setting) (P : Parameters) where
           ++ Locals w L P (some (value plan-struct (z .result))) (some (value checked-struct counts)) none)
           (Runs w P known L mir-of.t-11)
       opening accepted =
-          assigned ! (of-opd ! (copied-field ! refl refl refl)) refl (typed W progress-struct progress is-progress) $
+          assigned ! (of-opd ! (copied-field ! refl refl refl)) refl refl (typed W progress-struct progress is-progress) $
           makes ! progress-struct progress _ is-progress $
           use1 W (raw (FirstTally w .pre (to-first-tally w P progress))) (goes-first-tally w P progress) $
-          calls-at ! fm (FirstTally w) (known .first-tally) (to-first-tally w P progress)
-          (and-then ! (copied ! refl) (no-more !)) (λ v.
-          use1 W (later (such (λ (h : Tally). given (h ≡ firstTally (progress .mask)) (‵ (row tally-struct .own h (v ∷ []))))))
-          (told-first-tally w P progress v) $ await ! tt $ pick ! (λ h. learn ! (λ e.
-          sees ! tally-struct h (v ∷ []) (λ is. landed ! refl (typed W tally-struct h is) $
+          calls-at ! fm (FirstTally w) (known .first-tally) (to-first-tally w P progress) (and-local ! refl (no-more !)) (λ v.
+          tells w ! tt tally-struct (λ h. h ≡ firstTally (progress .mask)) v (told-first-tally w P progress v) (λ h e is.
+          landed ! refl refl (typed W tally-struct h is) $
           -- [what the new tally owns; the file and the slices; the tally and its token; the locals]
-          swap (‵ (row tally-struct .own h (v ∷ [])) ∷ Buffers w P (z .left)) (Owner w P (P .tally .entry)) _ $ fsplit3 ! $ drop ! $
-          opens-value ! tt tally-struct (P .tally .entry) (P .tally .block) (P .tally .offset) (λ was. move ! (1 ∷ []) $ drop ! $
-          -- [the tally's cell; the open borrow; obs; auth; what the new tally owns; the file and the slices; the locals]
-          assigns ! (of-opd ! (copied ! refl)) (behind ! refl)
-          (store-raw ! 0 refl (typed W tally-struct h is)) $
-          move ! (0 ∷ 4 ∷ []) $ closes ! tt (row tally-struct) h (v ∷ []) (P .tally .block) (P .tally .offset) $
+          drop ! $ swap (Buffers w P (z .left)) (Owner w P (P .tally .entry)) _ $ fsplit3 ! $ drop ! $
+          opens-value ! tt tally-struct (P .tally .entry) (P .tally .block) (P .tally .offset) (λ was.
+          -- [the tally's cell; what it owns; the open borrow; obs; auth; the file and the slices; the locals]
+          assigns ! (of-opd ! (copied ! refl)) (behind ! refl) (store-raw ! head refl (typed W tally-struct h is)) $
+          flip ! $ drop ! $ makes ! tally-struct h _ is $ flip ! $
+          closes ! tt (row tally-struct) h (v ∷ []) (P .tally .block) (P .tally .offset) $
           feqI ! (List Val) (tally-pointer P ∷ []) (tally-pointer P ∷ []) refl $ fjoin3 ! $
-          -- [the tally; its token; the file and the slices; the locals]
-          forget-local ! place.tally-value refl $ forget-local ! place.plan refl $ swap (Owner w P h) (Buffers w P (z .left)) _ $
-          looped w P known L counts is-counts (start h e, is-progress))))))
+          forgets ! (En w L) place.tally-value (_ ∷ []) refl $ forgets ! (En w L) place.plan (_ ∷ []) refl $
+          swap (Owner w P h) (Buffers w P (z .left)) _ $ looped w P known L counts is-counts (start h e, is-progress))))
         where
           start : (h : Tally) → h ≡ firstTally (progress .mask) → Here P counts
           start h e =
@@ -144,25 +141,21 @@ module _ (w : Setting) (P : Parameters) where
           Sq W (Buffers w P (z .left) ++ Owner w P (P .tally .entry)
           ++ Locals w L P (some (value plan-struct (z .result))) none none) (Runs w P known L mir-of.t-8)
       choosing =
-          assigned ! (of-opd ! (copied-field ! refl refl refl)) refl (typed W checked-struct counts is-counts) $
-          assigned ! (bin ! (copied-field ! refl refl refl) (lit ! tt) tt) refl (tt, tt) $
+          assigned ! (of-opd ! (copied-field ! refl refl refl)) refl refl (typed W checked-struct counts is-counts) $
+          assigned ! (bin ! (copied-field ! refl refl refl) (lit ! tt) tt) refl refl (tt, tt) $
           first ! $ branches ! (copied ! refl)
           (λ t. makes ! checked-struct counts _ is-counts $
           use1 W (raw (Refused w .pre (to-refused w P counts))) (goes-refused w P counts) $
-          calls-at ! fm (Refused w) (known .refused) (to-refused w P counts)
-          (and-then ! (copied ! refl) (no-more !)) (λ v.
-          use1 W (later (such (λ (r : Played). given (r ≡ refusedWith (counts .number)) (‵ (row played-struct .own r (v ∷ []))))))
-          (told-refused w P counts v) $ await ! tt $ pick ! (λ r. learn ! (λ e.
-          sees ! played-struct r (v ∷ []) (λ is. landed ! refl (typed W played-struct r is) $
+          calls-at ! fm (Refused w) (known .refused) (to-refused w P counts) (and-local ! refl (no-more !)) (λ v.
+          tells w ! tt played-struct (λ r. r ≡ refusedWith (counts .number)) v (told-refused w P counts v) (λ r e is.
+          landed ! refl refl (typed W played-struct r is) $
           -- [what the answer owns; the file and the slices; the tally and its token; the locals]
-          swap (‵ (row played-struct .own r (v ∷ [])) ∷ Buffers w P (z .left)) (Owner w P (P .tally .entry)) _ $ fsplit3 ! $ drop ! $
-          move ! (3 ∷ []) $ returns-within ! (Post w P) refl (look-local ! place.answer refl) $
-          forget-local ! place.answer refl $ forget-local ! place.file refl $ forget-local ! place.table refl $
-          forget-local ! place.report refl $ forget-local ! place.linearization refl $ forget-local ! place.tally refl $
-          forget-local ! place.plan refl $ forget-local ! place.counts refl $ forget-local ! place.is-refused refl $
-          ends w P (z .left) (P .tally .entry) (prepared .same) r v (refused-here (differs (counts .number) 0 t) r e) L)))))
+          drop ! $ swap (Buffers w P (z .left)) (Owner w P (P .tally .entry)) _ $ fsplit3 ! $ drop ! $
+          makes ! played-struct r _ is $ returns-within ! (Post w P) refl (answered ! refl) $
+          forgets ! (En w L) place.answer (_ ∷ _ ∷ _ ∷ _ ∷ _ ∷ _ ∷ _ ∷ _ ∷ []) refl $ forgets ! (En w L) place.is-refused (_ ∷ []) refl $
+          ends w P (z .left) (P .tally .entry) (prepared .same) r v (refused-here (differs (counts .number) 0 t) r e) L)))
           (λ t. skips ! $ exec ! (known .tables .C) (known .tables .Λ) (En w L) mir-of.t-11 (atRet (En w L) (Post w P)) $
-          forget-local ! place.is-refused refl $ opening (agrees (counts .number) 0 t))
+          forgets ! (En w L) place.is-refused (_ ∷ []) refl $ opening (agrees (counts .number) 0 t))
         where
           refused-here : counts .number ≢ 0 → (r : Played) → r ≡ refusedWith (counts .number)
               → LentEnded (entry P) (P .tally .entry) (P .tally .entry) (z .left .table) (z .left .report) (z .left .linearization) r
@@ -173,40 +166,26 @@ module _ (w : Setting) (P : Parameters) where
     -- the slices are lent on to `prepare`, and come back
     preparing : Sq W (Buffers w P (lists₀ P) ++ Owner w P (P .tally .entry) ++ Locals w L P none none none) (Runs w P known L mir-of.t-1)
     preparing =
-        assigned ! (addr ! (behind-slice ! refl refl refl)) refl (tt, tt) $
-        assigned ! (agg ! (and-then ! (copied ! refl)
-        (and-then ! (copied-field ! refl refl refl) (no-more !)))) refl (tt, (tt, (record { fits = P .table-room .0 }, tt))) $
-        assigned ! (addr ! (behind-slice ! refl refl refl)) refl (tt, tt) $
-        assigned ! (agg ! (and-then ! (copied ! refl)
-        (and-then ! (copied-field ! refl refl refl) (no-more !)))) refl (tt, (tt, (record { fits = P .report-room .0 }, tt))) $
-        assigned ! (addr ! (behind-slice ! refl refl refl)) refl (tt, tt) $
-        assigned ! (agg ! (and-then ! (copied ! refl)
-        (and-then ! (copied-field ! refl refl refl) (no-more !)))) refl (tt, (tt, (record { fits = P .linearization-room .0 }, tt))) $
-        cut (Buffers w P (lists₀ P)) (later (such (λ (n : Loans). raw (⋆ 𝓤 H A (Lending w P n (lists₀ P))))) ∷ [])
-        _ (lends w P (lists₀ P) (record { table = refl; report = refl; linearization = refl })) $ await ! tt $ pick ! (λ n.
-        cut (raw (⋆ 𝓤 H A (Lending w P n (lists₀ P))) ∷ []) (Lending w P n (lists₀ P)) _ (id⊢ 𝓤 _) $
+        assigned ! (addr ! (behind-slice ! refl refl refl)) refl refl (tt, tt) $
+        assigned ! (slice-of ! refl refl refl refl) refl refl (slice-typed (P .table-room .0)) $
+        assigned ! (addr ! (behind-slice ! refl refl refl)) refl refl (tt, tt) $
+        assigned ! (slice-of ! refl refl refl refl) refl refl (slice-typed (P .report-room .0)) $
+        assigned ! (addr ! (behind-slice ! refl refl refl)) refl refl (tt, tt) $
+        assigned ! (slice-of ! refl refl refl refl) refl refl (slice-typed (P .linearization-room .0)) $
+        becomes-some ! tt (Buffers w P (lists₀ P)) (λ n. Lending w P n (lists₀ P)) _ (lends w P (lists₀ P) same₀) (λ n.
         cut (Passed w P n (lists₀ P)) (raw (Prepare w .pre (to-prepare w P n)) ∷ []) _ (goes-prepare w P n) $
         calls-at ! fm (Prepare w) (known .prepare) (to-prepare w P n)
-        (and-then ! (copied ! refl)
-        (and-then ! (copied ! refl)
-        (and-then ! (copied ! refl)
-        (and-then ! (copied ! refl) (no-more !))))) (λ v.
-        use1 W (later (such (λ (z : Told Plan). given (Prepares P z) (raw (⋆ 𝓤 H A (Prepared-with w P n v z))))))
-        (told-prepare w P n v) $ await ! tt $ pick ! (λ z. learn ! (λ prepared.
-        cut (raw (⋆ 𝓤 H A (Prepared-with w P n v z)) ∷ []) (Prepared-with w P n v z) _ (id⊢ 𝓤 _) $
-        sees ! plan-struct (z .result) (v ∷ []) (λ is. landed-as ! (ap only (told plan-struct (z .result) is)) refl
-        (typed W plan-struct (z .result) is) $
-        drop ! $ move ! (1 ∷ 2 ∷ 3 ∷ 4 ∷ 5 ∷ 6 ∷ 8 ∷ 9 ∷ 10 ∷ []) $
-        cut (Over w P n (z .left) ++ Kept w P n (lists₀ P))
-        (later (raw (⋆ 𝓤 H A (Back w P (z .left)))) ∷ [])
-        _ (comes w P n (lists₀ P) (z .left) (record { table = refl; report = refl; linearization = refl }) (prepared .same)) $
-        await ! tt $
-        cut (raw (⋆ 𝓤 H A (Back w P (z .left))) ∷ []) (Back w P (z .left)) _ (id⊢ 𝓤 _) $
-        -- [the slices and their tokens; the file's token; the file; the tally and its token; the locals]
-        forget-slice ! place.table-to-prepare refl refl $ forget-slice ! place.report-to-prepare refl refl $
-        forget-slice ! place.linearization-to-prepare refl refl $
-        move ! (7 ∷ 6 ∷ []) $
-        choosing z prepared (subst (Is (row plan-struct) (z .result)) (told plan-struct (z .result) is) is))))))
+        (and-local ! refl (and-local ! refl (and-local ! refl (and-local ! refl (no-more !))))) (λ v.
+        becomes-such ! tt (raw (Prepare w .post (to-prepare w P n) v) ∷ []) (Prepares P) (Prepared-with w P n v) _ (told-prepare w P n v)
+        (λ z prepared. sees ! plan-struct (z .result) (v ∷ []) (λ is.
+        landed ! (ap only (told plan-struct (z .result) is)) refl (typed W plan-struct (z .result) is) $ drop ! $
+        becomes ! tt (Returning w P n (lists₀ P) (z .left)) (Buffers w P (z .left)) _ (comes w P n (lists₀ P) (z .left) same₀ (prepared .same)) $
+        -- [the file and the slices; the tally and its token; the locals]
+        forgets ! (En w L) place.to-prepare (_ ∷ _ ∷ _ ∷ _ ∷ _ ∷ _ ∷ []) refl $
+        choosing z prepared (subst (Is (row plan-struct) (z .result)) (told plan-struct (z .result) is) is)))))
+      where
+        same₀ : SameLengths (lists₀ P) (lists₀ P)
+        same₀ = record { table = refl; report = refl; linearization = refl }
 
   walk : (known : Known w) → ent 𝓤 (onEntry 𝓤 H A f.signature (lifetimes P) (shares P) (x P) (at P))
       (WpFn 𝓤 H (known .tables .C) (known .tables .Λ) code.function (values P) (Post w P))
@@ -223,11 +202,9 @@ module _ (w : Setting) (P : Parameters) where
       keep ! (5 ∷ 11 ∷ 4 ∷ 10 ∷ 3 ∷ 9 ∷ 2 ∷ 8 ∷ 0 ∷ 6 ∷ []) $
       enter ! (known .tables .C) (known .tables .Λ) code.function (values P) _ $
       allocates ! (λ L. params1 ! $
-      pass1 ! (init-local ! place.file refl (tt, (tt, (record { fits = P .file-room .0 }, tt)))) $
-      pass1 ! (init-local ! place.table refl (tt, (tt, (record { fits = P .table-room .0 }, tt)))) $
-      pass1 ! (init-local ! place.report refl (tt, (tt, (record { fits = P .report-room .0 }, tt)))) $
-      pass1 ! (init-local ! place.linearization refl (tt, (tt, (record { fits = P .linearization-room .0 }, tt)))) $
-      pass1 ! (init-local ! place.tally refl (tt, tt)) $ pass0 ! $ preparing known L)
+      argument ! refl (slice-typed (P .file-room .0)) $ argument ! refl (slice-typed (P .table-room .0)) $
+      argument ! refl (slice-typed (P .report-room .0)) $ argument ! refl (slice-typed (P .linearization-room .0)) $
+      argument ! refl (tt, tt) $ pass0 ! $ preparing known L)
 
 module _ (w : Setting) (known : Known w) where
   open Setting w using (𝓤, H, A, W, at-mem, run)

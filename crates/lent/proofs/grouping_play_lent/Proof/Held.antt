@@ -6,8 +6,8 @@
 --   FileHeld, TallyHeld            what is owned of the file; of the tally
 --   Back, Buffers, Owner           the slices with their tokens; the file too; the tally with its token
 --   Passed, Kept, Lending          what a callee gets of the file and the slices lent on; what is kept meanwhile; both
---   Lasts, Over, Left              what a call says of the slices lent on; what is had of them when it is over; with its
--- result and the file's token
+--   Lasts, Over, Left, Returning   what a call says of the slices lent on; what is had of them when it is over; with its
+-- result and the file's token; with what is kept
 --
 -- Main laws: lends, the slices are lent on; over, a call is over; comes, the slices come back.
 use mathlib.Core.Path.{_≡_}
@@ -27,6 +27,7 @@ use denote.Slice.{ShrSlice, Room, finally, shr-slice-copy}
 use Rattle.job.specs.declared.Tally.{Tally}
 use Rattle.walks.proofs.Setting.{Loan, loan, Setting, Lent, at-name, token, loan-token}
 use Rattle.walks.proofs.Carried.{row}
+use Rattle.walks.proofs.Frame.{swap}
 use Rattle.walks.proofs.Again.{slice-value, SliceHeld, SliceLent, SliceKept, SliceLast, slice-lends, slice-comes}
 use Rattle.lent.proofs.Structs.{tally-struct}
 
@@ -138,21 +139,26 @@ module _ (w : Setting) (P : Parameters) where
       (record { table = loan ν₁ δ₁; report = loan ν₂ δ₂; linearization = loan ν₃ δ₃ }) $
       move ! (9 ∷ 11 ∷ 8 ∷ 5 ∷ 2 ∷ 6 ∷ 3 ∷ 0 ∷ 10 ∷ 7 ∷ 4 ∷ 1 ∷ []) $ done !))))))
 
-  pub comes : (n : Loans) (b b′ : Lists) → SameLengths b (lists₀ P) → SameLengths b′ b → ent 𝓤 (⋆ 𝓤 H A (Over n b′ ++ Kept n b))
-      (H .⇛ (⋆ 𝓤 H A (Back b′)))
+  -- what is had when a call is over and its result is stored
+  abbrev pub Returning : Loans → Lists → Lists → List (Item 𝓤)
+  Returning n b b′ = token (P .file) ∷ Over n b′ ++ ‵ (FileHeld P) ∷ Kept n b
+
+  pub comes : (n : Loans) (b b′ : Lists) → SameLengths b (lists₀ P) → SameLengths b′ b
+      → ent 𝓤 (⋆ 𝓤 H A (Returning n b b′)) (H .⇛ (⋆ 𝓤 H A (Buffers b′)))
   comes n b b′ e e′ =
-      qed W (Over n b′ ++ Kept n b) ∵ updating ! $ lft-end ! tt $ move ! (0 ∷ 6 ∷ 3 ∷ []) $
+      qed W (Returning n b b′) ∵ updating ! $ swap (token (P .file) ∷ []) (Over n b′) _ $ lft-end ! tt $ move ! (0 ∷ 8 ∷ 3 ∷ []) $
       use3 W (later (‵ (SliceHeld u32 (P .table) (b′ .table)) ⊛ token (P .table)))
       (slice-comes w u32 (P .table) (b .table) (e .table) (n .table) (P .table-room) (b′ .table) (e′ .table)) $ await ! tt $ split ! $
-      move ! (2 ∷ []) $ lft-end ! tt $ move ! (0 ∷ 6 ∷ 4 ∷ []) $
+      move ! (2 ∷ []) $ lft-end ! tt $ move ! (0 ∷ 8 ∷ 4 ∷ []) $
       use3 W (later (‵ (SliceHeld u32 (P .report) (b′ .report)) ⊛ token (P .report)))
       (slice-comes w u32 (P .report) (b .report) (e .report) (n .report) (P .report-room) (b′ .report) (e′ .report)) $
       await ! tt $ split ! $
-      move ! (4 ∷ []) $ lft-end ! tt $ move ! (0 ∷ 6 ∷ 5 ∷ []) $
+      move ! (4 ∷ []) $ lft-end ! tt $ move ! (0 ∷ 8 ∷ 5 ∷ []) $
       use3 W (later (‵ (SliceHeld u32 (P .linearization) (b′ .linearization)) ⊛ token (P .linearization)))
-      (slice-comes w u32 (P .linearization) (b .linearization) (e .linearization) (n .linearization)
-      (P .linearization-room) (b′ .linearization) (e′ .linearization)) $ await ! tt $ split ! $
-      at-once ! $ move ! (4 ∷ 5 ∷ 2 ∷ 3 ∷ 0 ∷ 1 ∷ []) $ done !
+      (slice-comes w u32 (P .linearization) (b .linearization) (e .linearization) (n .linearization) (P .linearization-room)
+      (b′ .linearization) (e′ .linearization)) $ await ! tt $ split ! $
+      -- [the slices and their tokens, from the last; the file's token; the file]
+      at-once ! $ move ! (7 ∷ 6 ∷ 4 ∷ 5 ∷ 2 ∷ 3 ∷ 0 ∷ 1 ∷ []) $ done !
 
   pub over : (own : Fml) (n : Loans) (b b′ : Lists) → ent 𝓤 (⋆ 𝓤 H A ((Tokens n ⊛ ‵ own) ∷ ‵ (Lasts n b b′) ∷ []))
       (guard 𝓤 (SameLengths b′ b) (⋆ 𝓤 H A (Left own n b′)))
