@@ -2,6 +2,7 @@
 --
 --   Carried          a struct that owns nothing but facts, with the kit's laws of it
 --   value, IsValue   the machine value of a record; that the one stands for the other
+--   by-value         what is owned of a record that is passed by value
 --   typed            a record's machine value is of its MIR type
 --   sees, makes      what is owned of a record shows its machine value, and is had for nothing
 --   opens-value      a lent record's borrow is opened: its cell at its machine value
@@ -51,6 +52,9 @@ module _ (s : Carried) where
   -- whatever a record's own relates to it is its machine value
   pub told : (x : s .type .D) {v : Val} → Is row x (v ∷ []) → (v ∷ []) ≡ (value x ∷ [])
   told x {v} is = LL.tells (s .type) (s .laws) x (v ∷ []) is
+
+abbrev pub by-value : {M : Type 1} {𝓤 : URA M} (s : Carried) → s .type .D → Item 𝓤
+by-value s x = ‵ (row s .own x (value s x ∷ []))
 
 module _ {M : Type 1} {𝓤 : URA M} {H : Heap 𝓤} {A : Atoms 𝓤} (W : Given 𝓤 H A) (s : Carried) where
   pub typed : (x : s .type .D) {v : Val} → Is (row s) x (v ∷ []) → Holds (hasTy (layout (declared.shape (s .type))) v) × WT v

@@ -17,20 +17,16 @@ use Prim.Native.Nat.{ℕ}
 use mathlib.Core.Option.{some, none}
 use mir.Syntax.{named}
 use mir.Val.{Val}
-use base.Logic.{ent, emp, via, fst∗, id⊢}
-use base.Fml.{ftrue, flft}
+use base.Logic.{ent, emp, via, fst∗}
 use prog.Wp.{WpFn}
 use contract.Running.{givenOf, tables, tablesOf}
-use types.Kit.{‵, raw, given, atRet, Sq, ⋆, _⊛_, some as such, later, _$_, _∵_, !, qed, cut, move, keep, drop, use1, split, pick, learn}
-use types.Kit.{fsplit, fsplit3, fjoin3, feqI, await}
-use types.Run.{store-raw, lit, addr, bin, of-opd, no-more, assigns, first, skips, branches, returns-within, exec, enter}
-use types.Run.{params1, pass0}
+use types.Kit.{raw, atRet, Sq, ⋆, _$_, _∵_, !, qed, cut, move, drop, use1, fsplit3, fjoin3, feqI}
+use types.Run.{store-raw, lit, addr, bin, of-opd, no-more, assigns, first, skips, branches, returns-within, exec, enter, params1, pass0}
 use sound.WpLaws.{FmC, fmOf, WpFn-mono}
-use denote.RattleType.{owns}
 use denote.Laws.{Is}
 use denote.Builtin.{u8, u32}
-use denote.Ref.{MutRef, ptr-vals, mut-tells}
-use denote.Slice.{MutSlice, ShrSlice, slice-vals, mut-slice-tells, shr-slice-tells}
+use denote.Ref.{ptr-vals, mut-tells}
+use denote.Slice.{slice-vals, mut-slice-tells, shr-slice-tells}
 use denote.Signature.{plain}
 use denote.Steps.{only, closes}
 use denote.Struct.Laws as LL
@@ -52,7 +48,7 @@ use Rattle.lent.proofs.Ended.{LentEnded, refused-ended}
 use Rattle.walks.proofs.Setting.{Setting, lent, differs, agrees}
 use Rattle.walks.proofs.Carried.{row, value, IsValue, told, typed, sees, makes, opens-value, tells}
 use Rattle.walks.proofs.Again.{slice-typed}
-use Rattle.walks.proofs.Frame.{swap, flip, becomes, becomes-some, becomes-such, allocates}
+use Rattle.walks.proofs.Frame.{swap, flip, becomes, becomes-some, becomes-such, paired, signed, allocates}
 use Rattle.walks.proofs.Places.{head, copied, copied-field, behind, behind-slice, slice-of, and-local, assigned, landed, answered, argument}
 use Rattle.walks.proofs.Places.{forgets}
 use Rattle.lent.proofs.Structs.{tally-struct, checked-struct, progress-struct, plan-struct, played-struct}
@@ -80,11 +76,10 @@ use Rattle.lent.proofs.grouping_play_lent.Statement as stated
 use Rattle.lent.proofs.grouping_play_lent.Code as code
 use Rattle.lent.proofs.grouping_play_lent.Code.Mir as mir-of
 use Held.{Parameters, SameLengths, lists₀, tally-pointer, Buffers, Owner, Passed, Lending, Returning, lends, comes}
-use Calls.{Prepare, Refused, FirstTally, TurnSearching, Add, Closed, Known, Told, Prepares, to-prepare, goes-prepare}
-use Calls.{Prepared-with, told-prepare}
-use Calls.{to-refused, goes-refused, told-refused, to-first-tally, goes-first-tally, told-first-tally}
+use Calls.{Prepare, Refused, FirstTally, TurnSearching, Add, Closed, Known, Told, Prepares, to-prepare, goes-prepare, Prepared-with}
+use Calls.{told-prepare, to-refused, goes-refused, told-refused, to-first-tally, goes-first-tally, told-first-tally}
 use Places as place
-use Frame.{entry, stayed, Here, lifetimes, shares, x, at, values, En, Locals, Post, ends, Runs}
+use Frame.{entry, stayed, Here, lifetimes, shares, x, at, values, En, Locals, AllTokens, Owned, Post, ends, Runs}
 use Loop.{looped}
 
 module _ (w : Setting) (P : Parameters) where
@@ -190,21 +185,14 @@ module _ (w : Setting) (P : Parameters) where
   walk : (known : Known w) → ent 𝓤 (onEntry 𝓤 H A f.signature (lifetimes P) (shares P) (x P) (at P))
       (WpFn 𝓤 H (known .tables .C) (known .tables .Λ) code.function (values P) (Post w P))
   walk known =
-      qed W ((‵ (flft (P .file .lifetime) (P .file .share)) ⊛ ‵ (flft (P .table .lifetime) (P .table .share))
-      ⊛ ‵ (flft (P .report .lifetime) (P .report .share)) ⊛ ‵ (flft (P .linearization .lifetime) (P .linearization .share))
-      ⊛ ‵ (flft (P .tally .lifetime) (P .tally .share)) ⊛ ‵ ftrue)
-      ∷ ‵ (owns (ShrSlice (named 0) (P .file .lifetime) u8 ∷ MutSlice (named 1) (P .table .lifetime) u32 ∷ MutSlice (named 2)
-      (P .report .lifetime) u32 ∷ MutSlice (named 3) (P .linearization .lifetime) u32 ∷ MutRef (named 4) (P .tally .lifetime)
-      (row tally-struct) ∷ []) (x P) (at P)) ∷ []) ∵
-      split ! $ move ! (1 ∷ []) $ split ! $ move ! (1 ∷ []) $ split ! $ move ! (1 ∷ []) $ split ! $ move ! (1 ∷ []) $ split ! $
-      move ! (6 ∷ []) $ fsplit ! $ move ! (1 ∷ []) $ fsplit ! $ move ! (1 ∷ []) $ fsplit ! $ move ! (1 ∷ []) $ fsplit ! $
-      move ! (1 ∷ []) $ fsplit ! $
-      keep ! (5 ∷ 11 ∷ 4 ∷ 10 ∷ 3 ∷ 9 ∷ 2 ∷ 8 ∷ 0 ∷ 6 ∷ []) $
+      via 𝓤 (⋆ 𝓤 H A (AllTokens w P ++ Owned w P (lists₀ P) (P .tally .entry)))
+      (signed w (AllTokens w P) (Owned w P (lists₀ P) (P .tally .entry))) (qed W (AllTokens w P ++ Owned w P (lists₀ P) (P .tally .entry)) ∵
+      move ! (paired place.parameters) $
       enter ! (known .tables .C) (known .tables .Λ) code.function (values P) _ $
       allocates ! (λ L. params1 ! $
       argument ! refl (slice-typed (P .file-room .0)) $ argument ! refl (slice-typed (P .table-room .0)) $
       argument ! refl (slice-typed (P .report-room .0)) $ argument ! refl (slice-typed (P .linearization-room .0)) $
-      argument ! refl (tt, tt) $ pass0 ! $ preparing known L)
+      argument ! refl (tt, tt) $ pass0 ! $ preparing known L))
 
 module _ (w : Setting) (known : Known w) where
   open Setting w using (𝓤, H, A, W, at-mem, run)

@@ -14,17 +14,16 @@ use mathlib.Core.Option.{Option, some, none}
 use mir.Syntax.{Body}
 use mir.Val.{Val}
 use base.Logic.{SProp, ent, emp}
-use base.Fml.{Lft, Share, flft, fobs, fbor}
+use base.Fml.{Lft, Share, fobs, fbor}
 use prog.Wp.{Env}
 use contract.Monad.{fact, factI}
-use types.Kit.{Goal, Item, Sq, ‵, raw, prop, runs, frees, atRet, ⋆, _$_, _∵_, !, qed, by, move, use0, join, fjoin, fjoin3, feqI, suffices}
+use types.Kit.{Goal, Item, Sq, ‵, raw, prop, runs, frees, atRet, ⋆, _$_, _∵_, !, qed, by, cut, move, use0, join, fjoin3, feqI, suffices}
 use types.Kit.{frame, done}
 use types.SemTy.{Body as Holding}
 use denote.Memory.{mem}
 use denote.Builtin.{u8, u32}
 use denote.Ref.{RefT}
 use denote.Signature.{plain}
-use denote.Steps.{nothing}
 use denote.Triple.Walked.{Stays, stay-ref, stay-slice, stay-none-slice, walkOf, ends-at}
 use denote.Exit.{yes}
 use Rattle.job.specs.declared.Tally.{Tally}
@@ -32,14 +31,16 @@ use Rattle.job.specs.declared.Played.{Played}
 use Rattle.reader.specs.declared.Checked.{Checked}
 use Rattle.player.proofs.Along.{Entry, Along}
 use Rattle.lent.proofs.Ended.{LentEnded}
-use Rattle.walks.proofs.Setting.{Setting, Lent, passed}
+use Rattle.walks.proofs.Setting.{Setting, passed, token}
 use Rattle.walks.proofs.Carried.{row}
-use Rattle.walks.proofs.Again.{slice-value}
-use Rattle.walks.proofs.Frame.{locals-at, Frame, frees-all}
+use Rattle.walks.proofs.Again.{slice-value, SliceHeld}
+use Rattle.walks.proofs.Frame.{swap, flip, chain, as-signed, unpaired, locals-at, Frame, frees-all}
 use Rattle.lent.proofs.Structs.{tally-struct, played-struct}
 use Rattle.lent.proofs.grouping_play_lent as f
 use Rattle.lent.proofs.grouping_play_lent.Code.Mir as mir-of
-use Rattle.lent.proofs.grouping_play_lent.Proof.Held.{Parameters, Lists, SameLengths, lists₀, tally-pointer, Buffers}
+use Rattle.lent.proofs.grouping_play_lent.Proof.Held.{Parameters, Lists, SameLengths, lists₀, tally-pointer, FileHeld}
+use Rattle.lent.proofs.grouping_play_lent.Proof.Held.{TallyHeld, Buffers, Owner}
+use Rattle.lent.proofs.grouping_play_lent.Proof.Places.{parameters}
 use Rattle.lent.proofs.grouping_play_lent.Proof.Calls.{Known}
 
 abbrev pub stayed : Stays (f.ended .signature .params) (f.ended .kept)
@@ -109,7 +110,7 @@ module _ (w : Setting) (L : ℕ → ℕ) where
   abbrev pub Rooms : List (Item 𝓤)
   Rooms = Frame 𝓤 H En [] []
 
--- ---- the exit
+-- ---- the entry and the exit
 
 module _ (w : Setting) (P : Parameters) where
   open Setting w using (𝓤, H, A, W, at-mem, run)
@@ -117,11 +118,23 @@ module _ (w : Setting) (P : Parameters) where
   abbrev pub Post : Val → SProp 𝓤
   Post = walkOf 𝓤 H A f.ended stayed (f.clauses 𝓤 H A at-mem run) .post ((lifetimes P, shares P, tt, x P, at P), tt)
 
-  abbrev pub AtExit : Lists → Tally → Played → Val → List (Item 𝓤)
-  AtExit b h r v =
-      ‵ (row played-struct .own r (v ∷ [])) ∷ ‵ (fobs (P .tally .name) (row tally-struct .coded .code h))
+  abbrev pub AllTokens : List (Item 𝓤)
+  AllTokens = token (P .file) ∷ token (P .table) ∷ token (P .report) ∷ token (P .linearization) ∷ token (P .tally) ∷ []
+
+  abbrev pub Owned : Lists → Tally → List (Item 𝓤)
+  Owned b h =
+      ‵ (FileHeld P) ∷ ‵ (SliceHeld u32 (P .table) (b .table)) ∷ ‵ (SliceHeld u32 (P .report) (b .report))
+      ∷ ‵ (SliceHeld u32 (P .linearization) (b .linearization)) ∷ ‵ (TallyHeld P h) ∷ []
+
+  -- the tally's borrow while nothing is taken out of it, and its token
+  abbrev Opened : Tally → List (Item 𝓤)
+  Opened h =
+      ‵ (fobs (P .tally .name) (row tally-struct .coded .code h))
       ∷ ‵ (fbor (P .tally .lifetime) (Holding (mem (row tally-struct)) (P .tally .block) (P .tally .offset) (P .tally .name)))
-      ∷ ‵ (flft (P .tally .lifetime) (P .tally .share)) ∷ Buffers w P b
+      ∷ token (P .tally) ∷ []
+
+  abbrev pub AtExit : Lists → Tally → Played → Val → List (Item 𝓤)
+  AtExit b h r v = ‵ (row played-struct .own r (v ∷ [])) ∷ Opened h ++ Buffers w P b
 
   module _ (b : Lists) (h : Tally) (same : SameLengths b (lists₀ P)) (r : Played) (v : Val)
       (e : LentEnded (entry P) (P .tally .entry) h (b .table) (b .report) (b .linearization) r) where
@@ -130,14 +143,12 @@ module _ (w : Setting) (P : Parameters) where
         qed W (AtExit b h r v) ∵
         suffices ! _ (ends-at 𝓤 H A f.ended stayed (f.clauses 𝓤 H A at-mem run) W ((lifetimes P, shares P, tt, x P, at P), tt) v r
         (tt, (b .table, (b .report, (b .linearization, (h, tt))))) (tt, (same .table, (same .report, (same .linearization, (tt, tt)))))) $
-        nothing ! $ move ! (4 ∷ 0 ∷ []) $ join ! $ move ! (11 ∷ 0 ∷ []) $ join ! $ move ! (9 ∷ 0 ∷ []) $ join ! $
-        move ! (7 ∷ 0 ∷ []) $ join ! $ move ! (5 ∷ 0 ∷ []) $ join ! $
-        -- [the tokens; the answer; obs; the borrow; the file; the slices]
-        move ! (2 ∷ 3 ∷ []) $ feqI ! (List Val) (tally-pointer P ∷ []) (tally-pointer P ∷ []) refl $ fjoin3 ! $
-        nothing ! $ move ! (1 ∷ 0 ∷ []) $ fjoin ! $ move ! (6 ∷ 0 ∷ []) $ fjoin ! $ move ! (5 ∷ 0 ∷ []) $ fjoin ! $
-        move ! (4 ∷ 0 ∷ []) $ fjoin ! $ move ! (3 ∷ 0 ∷ []) $ fjoin ! $
-        -- [what is had of the parameters; the tokens; the answer]
-        move ! (0 ∷ 2 ∷ []) $ join ! $ move ! (1 ∷ 0 ∷ []) $ join ! $ frame ! $
+        swap (‵ (row played-struct .own r (v ∷ [])) ∷ []) (Opened h) _ $
+        feqI ! (List Val) (tally-pointer P ∷ []) (tally-pointer P ∷ []) refl $ fjoin3 ! $
+        swap (Owner w P h ++ ‵ (row played-struct .own r (v ∷ [])) ∷ []) (Buffers w P b) [] $ move ! (unpaired parameters) $
+        -- [the tokens; what is owned of the parameters; the answer]
+        cut (AllTokens ++ Owned b h) (chain AllTokens ∷ chain (Owned b h) ∷ []) _ (as-signed w AllTokens (Owned b h)) $
+        swap (chain AllTokens ∷ []) (chain (Owned b h) ∷ ‵ (row played-struct .own r (v ∷ [])) ∷ []) [] $ join ! $ flip ! $ join ! $ frame ! $
         use0 W (raw (fact 𝓤 _)) (factI 𝓤 _ (emp 𝓤) (e .played .lawful)) $ use0 W (raw (fact 𝓤 _))
         (factI 𝓤 _ (emp 𝓤) (e .played .linearized)) $
         use0 W (raw (fact 𝓤 _)) (factI 𝓤 _ (emp 𝓤) (e .counted)) $ use0 W (raw (fact 𝓤 _)) (factI 𝓤 _ (emp 𝓤) (e .played .exact)) $ done !

@@ -5,6 +5,7 @@
 --   Loans                          what each of the three is lent on for
 --   FileHeld, TallyHeld            what is owned of the file; of the tally
 --   Back, Buffers, Owner           the slices with their tokens; the file too; the tally with its token
+--   Tokens, Slices                 of these lent on: the tokens; the slices
 --   Passed, Kept, Lending          what a callee gets of the file and the slices lent on; what is kept meanwhile; both
 --   Lasts, Over, Left, Returning   what a call says of the slices lent on; what is had of them when it is over; with its
 -- result and the file's token; with what is kept
@@ -27,7 +28,7 @@ use denote.Slice.{ShrSlice, Room, finally, shr-slice-copy}
 use Rattle.job.specs.declared.Tally.{Tally}
 use Rattle.walks.proofs.Setting.{Loan, loan, Setting, Lent, at-name, token, loan-token}
 use Rattle.walks.proofs.Carried.{row}
-use Rattle.walks.proofs.Frame.{swap}
+use Rattle.walks.proofs.Frame.{swap, chain}
 use Rattle.walks.proofs.Again.{slice-value, SliceHeld, SliceLent, SliceKept, SliceLast, slice-lends, slice-comes}
 use Rattle.lent.proofs.Structs.{tally-struct}
 
@@ -92,11 +93,17 @@ module _ (w : Setting) (P : Parameters) where
   abbrev pub Owner : Tally → List (Item 𝓤)
   Owner h = ‵ (TallyHeld P h) ∷ token (P .tally) ∷ []
 
-  abbrev pub Passed : Loans → Lists → List (Item 𝓤)
-  Passed n b =
-      ‵ (FileHeld P) ∷ token (P .file) ∷ loan-token (n .table) ∷ loan-token (n .report) ∷ loan-token (n .linearization)
-      ∷ ‵ (SliceLent u32 (P .table) (n .table) (b .table)) ∷ ‵ (SliceLent u32 (P .report) (n .report) (b .report))
+  -- the tokens of the file and of the slices lent on, as a call takes them and gives them back
+  abbrev pub Tokens : Loans → List (Item 𝓤)
+  Tokens n = token (P .file) ∷ loan-token (n .table) ∷ loan-token (n .report) ∷ loan-token (n .linearization) ∷ []
+
+  abbrev pub Slices : Loans → Lists → List (Item 𝓤)
+  Slices n b =
+      ‵ (SliceLent u32 (P .table) (n .table) (b .table)) ∷ ‵ (SliceLent u32 (P .report) (n .report) (b .report))
       ∷ ‵ (SliceLent u32 (P .linearization) (n .linearization) (b .linearization)) ∷ []
+
+  abbrev pub Passed : Loans → Lists → List (Item 𝓤)
+  Passed n b = Tokens n ++ ‵ (FileHeld P) ∷ Slices n b
 
   abbrev pub Kept : Loans → Lists → List (Item 𝓤)
   Kept n b =
@@ -111,10 +118,6 @@ module _ (w : Setting) (P : Parameters) where
       loan-token (n .table) ∷ loan-token (n .report) ∷ loan-token (n .linearization)
       ∷ ‵ (finally u32 (n .table .name) (b .table)) ∷ ‵ (finally u32 (n .report .name) (b .report))
       ∷ ‵ (finally u32 (n .linearization .name) (b .linearization)) ∷ []
-
-  -- the tokens of the file and of the slices lent on, as a call takes them and gives them back
-  abbrev pub Tokens : Loans → Item 𝓤
-  Tokens n = token (P .file) ⊛ loan-token (n .table) ⊛ loan-token (n .report) ⊛ loan-token (n .linearization) ⊛ ‵ ftrue
 
   abbrev pub Left : Fml → Loans → Lists → List (Item 𝓤)
   Left own n b = ‵ own ∷ token (P .file) ∷ Over n b
@@ -137,7 +140,7 @@ module _ (w : Setting) (P : Parameters) where
       -- [the slices lent on and what is kept, from the last; the file twice; its token]
       at-once ! $ show ! (λ (n : Loans). ⋆ 𝓤 H A (Lending n b))
       (record { table = loan ν₁ δ₁; report = loan ν₂ δ₂; linearization = loan ν₃ δ₃ }) $
-      move ! (9 ∷ 11 ∷ 8 ∷ 5 ∷ 2 ∷ 6 ∷ 3 ∷ 0 ∷ 10 ∷ 7 ∷ 4 ∷ 1 ∷ []) $ done !))))))
+      move ! (11 ∷ 8 ∷ 5 ∷ 2 ∷ 9 ∷ 6 ∷ 3 ∷ 0 ∷ 10 ∷ 7 ∷ 4 ∷ 1 ∷ []) $ done !))))))
 
   -- what is had when a call is over and its result is stored
   abbrev pub Returning : Loans → Lists → Lists → List (Item 𝓤)
@@ -160,10 +163,10 @@ module _ (w : Setting) (P : Parameters) where
       -- [the slices and their tokens, from the last; the file's token; the file]
       at-once ! $ move ! (7 ∷ 6 ∷ 4 ∷ 5 ∷ 2 ∷ 3 ∷ 0 ∷ 1 ∷ []) $ done !
 
-  pub over : (own : Fml) (n : Loans) (b b′ : Lists) → ent 𝓤 (⋆ 𝓤 H A ((Tokens n ⊛ ‵ own) ∷ ‵ (Lasts n b b′) ∷ []))
+  pub over : (own : Fml) (n : Loans) (b b′ : Lists) → ent 𝓤 (⋆ 𝓤 H A ((chain (Tokens n) ⊛ ‵ own) ∷ ‵ (Lasts n b b′) ∷ []))
       (guard 𝓤 (SameLengths b′ b) (⋆ 𝓤 H A (Left own n b′)))
   over own n b b′ =
-      qed W ((Tokens n ⊛ ‵ own) ∷ ‵ (Lasts n b b′) ∷ []) ∵ move ! (1 ∷ []) $
+      qed W ((chain (Tokens n) ⊛ ‵ own) ∷ ‵ (Lasts n b b′) ∷ []) ∵ move ! (1 ∷ []) $
       fsplit ! $ fsplit ! $ move ! (1 ∷ []) $ feqL ! (λ table. move ! (1 ∷ []) $ fsplit ! $ fsplit ! $ move ! (1 ∷ []) $
       feqL ! (λ report. move ! (1 ∷ []) $ fsplit ! $ fsplit ! $ move ! (1 ∷ []) $ feqL ! (λ linearization.
       -- [true and the last lists, from the last; the tokens and the result]

@@ -1,6 +1,7 @@
 -- The locals of `grouping_play_lent` that its walk names, by their numbers in the MIR. Where a statement reads or stores a local, the
 -- statement itself says which; so these are only where a run of locals starts that are not needed any more.
 --
+--   parameters       how many there are, each a reference with its lifetime
 --   answer           the answer, the parameters, the plan and the counts
 --   to-prepare       an address and a slice for each of the three slices lent on to `prepare`
 --   tally-value      the first tally; after the loop, the tally copied out
@@ -8,6 +9,9 @@
 --   added            what `add` returns, and the tally lent on to it
 --   turn-statements  how many statements of a turn stand before those for `add`
 use Prim.Native.Nat.{ℕ}
+
+abbrev pub parameters : ℕ
+parameters = 5
 
 abbrev pub answer : ℕ
 answer = 0
