@@ -18,8 +18,8 @@ use mir.Val.{Val, Fits}
 use base.Logic.{SProp, ent, sep, ex, guard, via}
 use base.Fml.{GName, Fml, fsep, feq, fdead, fobs, fauth, flent, fobor}
 use ghost.Atoms.{sem}
-use types.Kit.{‵, _⊛_, given, some, later, _$_, _∵_, !, qed, by, move, use1, use2, use3, drop, split, pick, learn, check, rewrite, fsplit, fjoin}
-use types.Kit.{feqI, await, updating, now as at-once, show, done}
+use types.Kit.{‵, _⊛_, given, some, later, _$_, _∵_, !, qed, by, move, use1, use2, use3, drop, split, pick, learn, check, rewrite, fsplit}
+use types.Kit.{fjoin, feqI, await, updating, now as at-once, show, done}
 use types.Tokens.{lent-back}
 use types.Share.{arr-parts}
 use types.SemTy.{cells, Arr}
@@ -92,7 +92,8 @@ module _ (w : Setting) (T : RattleType) (s : Lent (List (T .Denot))) (ys : List 
       move ! (1 ∷ []) $ fsplit ! $ move ! (1 ∷ []) $ fsplit ! $ move ! (3 ∷ 2 ∷ 0 ∷ 1 ∷ []) $
       closes-slice ! tt T ys zs long (s .block) (s .offset) $ at-once ! $
       fjoin ! $ pureI ! (at-slice T (at-name s (s .name) zs) (slice-value s ∷ [])) (tt, (tt, tt))
-      (ap (λ (c : ℕ). sliceVal (s .block, s .offset) c ∷ []) (sym (long ∙ same)), subst (Room T) (sym (long ∙ same)) room) $ fjoin ! $ done !
+      (ap (λ (c : ℕ). sliceVal (s .block, s .offset) c ∷ []) (sym (long ∙ same)), subst (Room T) (sym (long ∙ same)) room) $
+      fjoin ! $ done !
 
   -- lent on for the lifetime ν, as the kit lends the elements: what the callee gets at their count, and what the lender gets
   module _ (ν : ℕ) (own : GName → ℕ → Fml) (lender : GName → Fml) where

@@ -2,5 +2,6 @@
 pub mod Setting
 pub mod Carried
 pub mod Again
-pub mod Places
+pub mod Context
 pub mod Frame
+pub mod Places

@@ -1,7 +1,16 @@
 -- Places in the context of a walk by hand. The locals stand last, the last local first, each its cell and that it dies: so a local is
 -- found from the end, whatever stands before the locals and however many they are.
 --
---   local-at             the place of local k
+--   local-at, head                  the place of local k; of the first entry
+--   there, with                     what stands in the place of local i; the context with another entry there
+--   full, room, fields, Typed       the cell of local i as the code finds it: with a value, empty, of a struct; a value of its type
+--   copied, copied-field, also      an operand: a local, a field of one; one operand more, a local
+--   behind, behind-slice, slice-of  what a reference in a local points at, or a slice; a slice lent on
+--   assigned, landed, replaced, landed-last   a statement or a call stores in a local
+--   argument, answered              an argument is stored in its parameter; the answer is read
+--   forgets                         the locals from k on, which hold vs, are not needed any more
+--
+-- The code says which local a statement reads or stores: each rule but the last finds it there.
 use mathlib.Core.Path.{_≡_, sym, ap, subst}
 use mathlib.Core.Option.{some}
 use mathlib.Core.List.{List, [], _∷_}
@@ -18,19 +27,19 @@ use prog.Memory.{fieldOf, fieldAt}
 use prog.Wp.{Heap, Env, Calls, Loops, spotOf, next}
 use ghost.Atoms.{Atoms}
 use types.Kit.{Given, Item, Goal, Post, Step, step, _$_, ‵, post, prop, runs, lands, settles, passes, nth, put}
-use types.Run.{Reads, Finds, Opd, Opds, Rv, look, init, store, forget, load, from, stop, hop, fld, and-then, no-more, assigns, land, land-last, pass1}
+use types.Run.{Reads, Finds, Opd, Opds, Rv, look, init, store, forget, load, from, stop, hop, fld, and-then, no-more, assigns}
+use types.Run.{land, land-last, pass1}
 use types.Part.{Part, agg, whole, sub, look-in}
 
 abbrev size : {M : Type 1} {𝓤 : URA M} → List (Item 𝓤) → ℕ
 size [] = zero
 size (i ∷ Γ) = suc (size Γ)
 
--- the first entry of a context
-abbrev pub head : ℕ
-head = zero
-
 abbrev pub local-at : {M : Type 1} {𝓤 : URA M} → List (Item 𝓤) → ℕ → ℕ
 local-at Γ k = size Γ - 2 * suc k
+
+abbrev pub head : ℕ
+head = zero
 
 -- a local as the code finds it, full or empty, and what stands in its place
 module _ {M : Type 1} (𝓤 : URA M) (H : Heap 𝓤) (E : Env 𝓤 H) (i : ℕ) where
@@ -82,15 +91,16 @@ module _ {M : Type 1} {𝓤 : URA M} {H : Heap 𝓤} {A : Atoms 𝓤} {K : Type 
   behind-slice t {i} e at of = from t (fld t of (hop t (field-read t E i zero e at) (stop t)))
 
   -- a slice lent on: from its address, in local i, and the count of the slice in local k
-  pub slice-of : K → {i k : ℕ} {q p : Share} {v : Val} {ν : Sym} {τs : Tys} {vs : Vals} {σ : Ty} {d : ℕ} → there 𝓤 H A Γ i ≡ full 𝓤 H E i q v
-      → there 𝓤 H A Γ k ≡ fields 𝓤 H E k p ν τs vs → fieldAt zero τs 1 ≡ some (σ, d) → fieldOf (spotOf 𝓤 H E k .0) 1 ≡ some (σ, d)
+  pub slice-of : K → {i k : ℕ} {q p : Share} {v : Val} {ν : Sym} {τs : Tys} {vs : Vals} {σ : Ty} {d : ℕ}
+      → there 𝓤 H A Γ i ≡ full 𝓤 H E i q v → there 𝓤 H A Γ k ≡ fields 𝓤 H E k p ν τs vs
+      → fieldAt zero τs 1 ≡ some (σ, d) → fieldOf (spotOf 𝓤 H E k .0) 1 ≡ some (σ, d)
       → Rv K W Γ E (aggregate (copy (place i []) ∷ copy (place k (field 1 ∷ [])) ∷ [])) (vstruct (ofList (v ∷ getV vs 1 ∷ [])))
   slice-of t e e′ at of = agg t (and-then t (copied t e) (and-then t (copied-field t e′ at of) (no-more t)))
 
   -- a call's operands, when they are whole locals
-  pub and-local : K → {i : ℕ} {xs : List Operand} {q : Share} {v : Val} {vs : List Val} → there 𝓤 H A Γ i ≡ full 𝓤 H E i q v
+  pub also : K → {i : ℕ} {xs : List Operand} {q : Share} {v : Val} {vs : List Val} → there 𝓤 H A Γ i ≡ full 𝓤 H E i q v
       → Opds K W Γ E xs vs → Opds K W Γ E (copy (place i []) ∷ xs) (v ∷ vs)
-  and-local t e os = and-then t (copied t e) os
+  also t e os = and-then t (copied t e) os
 
   -- a value v is stored, and told as u: in an empty local, or in place of what a local holds
   module _ {C : Calls 𝓤 H} {Λ : Loops 𝓤 H} {q : Post 𝓤 H} {i : ℕ} {rest : Body} {v u : Val} where

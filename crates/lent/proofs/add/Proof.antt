@@ -41,8 +41,9 @@ use Rattle.turns.specs.declared.Progress.{Progress}
 use Rattle.turns.specs.Turns.{Addable, countedOf}
 use Rattle.walks.proofs.Setting.{Setting, Lent, lent, passed, token}
 use Rattle.walks.proofs.Carried.{row, value, IsValue, typed, makes, opens-value, Returned, told-value, tells}
-use Rattle.walks.proofs.Frame.{flip, locals-at, allocates, frees-all}
-use Rattle.walks.proofs.Places.{head, copied, behind, and-local, assigned, landed, answered, argument, forgets}
+use Rattle.walks.proofs.Context.{flip}
+use Rattle.walks.proofs.Frame.{locals-at, allocates, frees-all}
+use Rattle.walks.proofs.Places.{head, copied, behind, also, assigned, landed, answered, argument, forgets}
 use Rattle.lent.proofs.Structs.{tally-struct, progress-struct}
 use Rattle.turns.proofs.counted as counted
 use Rattle.turns.proofs.counted.Symbol as counted-def
@@ -65,7 +66,8 @@ stayed = (stay-ref (0 ∷ []) tt (plain (λ _. row tally-struct)), (stay-none (�
 abbrev Counted : (w : Setting) → Contract (w .𝓤)
 Counted w = tripleOf (w .𝓤) (w .H) (w .A) counted.signature (counted.spec (w .𝓤) (w .H) (w .A) (w .at-mem) (w .run))
 
-module _ (w : Setting) (s : Lent Tally) (progress : Progress) (roomy : Addable (s .entry)) (is-progress : IsValue progress-struct progress) where
+module _ (w : Setting) (s : Lent Tally) (progress : Progress) (roomy : Addable (s .entry))
+    (is-progress : IsValue progress-struct progress) where
   open Setting w using (𝓤, H, A, W, at-mem, run)
 
   abbrev x : RefT Tally × (Progress × Unit {0})
@@ -131,7 +133,7 @@ module _ (w : Setting) (s : Lent Tally) (progress : Progress) (roomy : Addable (
       assigned ! (of-opd ! (load ! (behind ! refl) (look-raw ! head refl))) refl refl (typed W tally-struct (s .entry) was) $
       flip ! $ makes ! progress-struct progress _ is-progress $
       use2 W (raw (Counted w .pre to-counted)) goes-counted $
-      calls-at ! (fmOf 𝓤 H (W .laws) 𝓣) (Counted w) known to-counted (and-local ! refl (and-local ! refl (no-more !))) (λ v.
+      calls-at ! (fmOf 𝓤 H (W .laws) 𝓣) (Counted w) known to-counted (also ! refl (also ! refl (no-more !))) (λ v.
       tells w ! tt tally-struct (λ r. r ≡ tally⁺) v (told-counted v) (λ r e is. landed ! refl refl (typed W tally-struct r is) $
       -- [what the new tally owns; the tally's cell; the open borrow; obs; auth; the locals]
       flip ! $ assigns ! (of-opd ! (copied ! refl)) (behind ! refl) (store-raw ! head refl (typed W tally-struct r is)) $

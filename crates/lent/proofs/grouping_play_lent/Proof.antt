@@ -48,8 +48,9 @@ use Rattle.lent.proofs.Ended.{LentEnded, refused-ended}
 use Rattle.walks.proofs.Setting.{Setting, lent, differs, agrees}
 use Rattle.walks.proofs.Carried.{row, value, IsValue, told, typed, sees, makes, opens-value, tells}
 use Rattle.walks.proofs.Again.{slice-typed}
-use Rattle.walks.proofs.Frame.{swap, flip, becomes, becomes-some, becomes-such, paired, signed, allocates}
-use Rattle.walks.proofs.Places.{head, copied, copied-field, behind, behind-slice, slice-of, and-local, assigned, landed, answered, argument}
+use Rattle.walks.proofs.Context.{swap, flip, becomes, becomes-some, becomes-such, paired, signed}
+use Rattle.walks.proofs.Frame.{allocates}
+use Rattle.walks.proofs.Places.{head, copied, copied-field, behind, behind-slice, slice-of, also, assigned, landed, answered, argument}
 use Rattle.walks.proofs.Places.{forgets}
 use Rattle.lent.proofs.Structs.{tally-struct, checked-struct, progress-struct, plan-struct, played-struct}
 use Rattle.player.proofs.prepare.Symbol as prepare-def
@@ -111,7 +112,7 @@ module _ (w : Setting) (P : Parameters) where
           assigned ! (of-opd ! (copied-field ! refl refl refl)) refl refl (typed W progress-struct progress is-progress) $
           makes ! progress-struct progress _ is-progress $
           use1 W (raw (FirstTally w .pre (to-first-tally w P progress))) (goes-first-tally w P progress) $
-          calls-at ! fm (FirstTally w) (known .first-tally) (to-first-tally w P progress) (and-local ! refl (no-more !)) (λ v.
+          calls-at ! fm (FirstTally w) (known .first-tally) (to-first-tally w P progress) (also ! refl (no-more !)) (λ v.
           tells w ! tt tally-struct (λ h. h ≡ firstTally (progress .mask)) v (told-first-tally w P progress v) (λ h e is.
           landed ! refl refl (typed W tally-struct h is) $
           -- [what the new tally owns; the file and the slices; the tally and its token; the locals]
@@ -141,7 +142,7 @@ module _ (w : Setting) (P : Parameters) where
           first ! $ branches ! (copied ! refl)
           (λ t. makes ! checked-struct counts _ is-counts $
           use1 W (raw (Refused w .pre (to-refused w P counts))) (goes-refused w P counts) $
-          calls-at ! fm (Refused w) (known .refused) (to-refused w P counts) (and-local ! refl (no-more !)) (λ v.
+          calls-at ! fm (Refused w) (known .refused) (to-refused w P counts) (also ! refl (no-more !)) (λ v.
           tells w ! tt played-struct (λ r. r ≡ refusedWith (counts .number)) v (told-refused w P counts v) (λ r e is.
           landed ! refl refl (typed W played-struct r is) $
           -- [what the answer owns; the file and the slices; the tally and its token; the locals]
@@ -170,11 +171,12 @@ module _ (w : Setting) (P : Parameters) where
         becomes-some ! tt (Buffers w P (lists₀ P)) (λ n. Lending w P n (lists₀ P)) _ (lends w P (lists₀ P) same₀) (λ n.
         cut (Passed w P n (lists₀ P)) (raw (Prepare w .pre (to-prepare w P n)) ∷ []) _ (goes-prepare w P n) $
         calls-at ! fm (Prepare w) (known .prepare) (to-prepare w P n)
-        (and-local ! refl (and-local ! refl (and-local ! refl (and-local ! refl (no-more !))))) (λ v.
+        (also ! refl (also ! refl (also ! refl (also ! refl (no-more !))))) (λ v.
         becomes-such ! tt (raw (Prepare w .post (to-prepare w P n) v) ∷ []) (Prepares P) (Prepared-with w P n v) _ (told-prepare w P n v)
         (λ z prepared. sees ! plan-struct (z .result) (v ∷ []) (λ is.
         landed ! (ap only (told plan-struct (z .result) is)) refl (typed W plan-struct (z .result) is) $ drop ! $
-        becomes ! tt (Returning w P n (lists₀ P) (z .left)) (Buffers w P (z .left)) _ (comes w P n (lists₀ P) (z .left) same₀ (prepared .same)) $
+        becomes ! tt (Returning w P n (lists₀ P) (z .left)) (Buffers w P (z .left)) _
+        (comes w P n (lists₀ P) (z .left) same₀ (prepared .same)) $
         -- [the file and the slices; the tally and its token; the locals]
         forgets ! (En w L) place.to-prepare (_ ∷ _ ∷ _ ∷ _ ∷ _ ∷ _ ∷ []) refl $
         choosing z prepared (subst (Is (row plan-struct) (z .result)) (told plan-struct (z .result) is) is)))))
@@ -201,35 +203,38 @@ module _ (w : Setting) (known : Known w) where
   walks = walked 𝓤 H A f.ended stayed (f.clauses 𝓤 H A at-mem run) (WpFn 𝓤 H (known .tables .C) (known .tables .Λ) code.function)
       (λ κs. (slice-vals, (slice-vals, (slice-vals, (slice-vals, (ptr-vals, tt))))))
       (λ κs. (
-        shr-slice-tells (named 0) (κs .0) u8,
+        shr-slice-tells (named 0) (place.file-of κs) u8,
         (
-          mut-slice-tells (named 1) (κs .1 .0) u32,
+          mut-slice-tells (named 1) (place.table-of κs) u32,
           (
-            mut-slice-tells (named 2) (κs .1 .1 .0) u32,
-            (mut-slice-tells (named 3) (κs .1 .1 .1 .0) u32, (mut-tells (named 4) (κs .1 .1 .1 .1 .0) (row tally-struct), tt)),
+            mut-slice-tells (named 2) (place.report-of κs) u32,
+            (mut-slice-tells (named 3) (place.linearization-of κs) u32, (mut-tells (named 4) (place.tally-of κs) (row tally-struct), tt)),
           ),
         ),
       ))
       (λ κs qs bounds a g are. via 𝓤 _ (fst∗ 𝓤 _ (emp 𝓤)) (walk w (record {
-        file = lent (κs .0) (qs .0) (a .0);
-        table = lent (κs .1 .0) (qs .1 .0) (a .1 .0);
-        report = lent (κs .1 .1 .0) (qs .1 .1 .0) (a .1 .1 .0);
-        linearization = lent (κs .1 .1 .1 .0) (qs .1 .1 .1 .0) (a .1 .1 .1 .0);
-        tally = lent (κs .1 .1 .1 .1 .0) (qs .1 .1 .1 .1 .0) (a .1 .1 .1 .1 .0);
-        file-room = are .0 .0 .1;
-        table-room = are .1 .0 .0 .1;
-        report-room = are .1 .1 .0 .0 .1;
-        linearization-room = are .1 .1 .1 .0 .0 .1;
+        file = lent (place.file-of κs) (place.file-of qs) (place.file-of a);
+        table = lent (place.table-of κs) (place.table-of qs) (place.table-of a);
+        report = lent (place.report-of κs) (place.report-of qs) (place.report-of a);
+        linearization = lent (place.linearization-of κs) (place.linearization-of qs) (place.linearization-of a);
+        tally = lent (place.tally-of κs) (place.tally-of qs) (place.tally-of a);
+        file-room = place.file-of are .0 .1;
+        table-room = place.table-of are .0 .1;
+        report-room = place.report-of are .0 .1;
+        linearization-room = place.linearization-of are .0 .1;
       }) known))
 
-  goes : AllGo 𝓤 H A W 5 (f.signature .params) (f.ended .kept) stayed
+  goes : AllGo 𝓤 H A W place.parameters (f.signature .params) (f.ended .kept) stayed
   goes = (
-    goes-none-slice 𝓤 H A W 5 (0 ∷ []) tt (plain (λ _. u8)) yes,
+    goes-none-slice 𝓤 H A W place.parameters (0 ∷ []) tt (plain (λ _. u8)) yes,
     (
-      goes-slice 𝓤 H A W 5 1 tt (plain (λ _. u32)),
+      goes-slice 𝓤 H A W place.parameters 1 tt (plain (λ _. u32)),
       (
-        goes-slice 𝓤 H A W 5 2 tt (plain (λ _. u32)),
-        (goes-slice 𝓤 H A W 5 3 tt (plain (λ _. u32)), (goes-ref 𝓤 H A W 5 4 tt (plain (λ _. row tally-struct)), tt)),
+        goes-slice 𝓤 H A W place.parameters 2 tt (plain (λ _. u32)),
+        (
+          goes-slice 𝓤 H A W place.parameters 3 tt (plain (λ _. u32)),
+          (goes-ref 𝓤 H A W place.parameters 4 tt (plain (λ _. row tally-struct)), tt),
+        ),
       ),
     ),
   )

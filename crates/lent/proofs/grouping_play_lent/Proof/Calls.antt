@@ -36,7 +36,7 @@ use Rattle.player.specs.Plan.{Prepared, preparedOf, TurnableOn, TurnsOn, closed
 use Rattle.walks.proofs.Setting.{Setting, at-name, Loan, loan-token}
 use Rattle.walks.proofs.Carried.{row, value, IsValue, by-value, makes, Returned, told-value}
 use Rattle.walks.proofs.Again.{slice-value}
-use Rattle.walks.proofs.Frame.{swap, flip, chain, as-signed, as-asked}
+use Rattle.walks.proofs.Context.{swap, flip, chain, as-signed, as-asked}
 use Rattle.lent.proofs.Structs.{tally-struct, checked-struct, progress-struct, plan-struct, played-struct}
 use Rattle.player.proofs.prepare as prepare
 use Rattle.player.proofs.prepare.Symbol.{name as #player·prepare}
@@ -97,6 +97,10 @@ ThreeLists = List ℕ × (List ℕ × (List ℕ × Unit {0}))
 
 abbrev told : {R : Type 0} → R → ThreeLists → Told R
 told r zs = record { result = r; left = record { table = zs .0; report = zs .1 .0; linearization = zs .1 .1 .0 } }
+
+-- they stand behind the file and what is passed to `turn_searching` by value
+abbrev behind-values : Unit {0} × (Unit {0} × (Unit {0} × ThreeLists)) → ThreeLists
+behind-values zs = zs .1 .1 .1
 
 module _ (P : Parameters) where
   abbrev pub file-passed : RefT (List ℕ)
@@ -246,16 +250,16 @@ module _ (w : Setting) (P : Parameters) where
         ⊛ raw (ensured 𝓤 H A turn-searching.ended (turn-searching.clauses 𝓤 H A at-mem run) (lifetimes P n)
         (turn-arguments n) tt r)))) (id⊢ 𝓤 _) $ await ! tt $ pick ! (λ r. split ! $ move ! (1 ∷ []) $
         use1 W (some (λ (zs : Unit {0} × (Unit {0} × (Unit {0} × ThreeLists))). ‵ (lasts turn-searching.ended (lifetimes P n)
-        (turn-arguments n) zs) ⊛ raw (fact 𝓤 (Does-turn P counts p b (told r (zs .1 .1 .1)))))) (id⊢ 𝓤 _) $
+        (turn-arguments n) zs) ⊛ raw (fact 𝓤 (Does-turn P counts p b (told r (behind-values zs)))))) (id⊢ 𝓤 _) $
         pick ! (λ zs. split ! $ move ! (1 ∷ []) $
-        heard ! (Does-turn P counts p b (told r (zs .1 .1 .1)))
+        heard ! (Does-turn P counts p b (told r (behind-values zs)))
         (λ e. fsplit ! $ drop ! $ fsplit ! $ drop ! $ fsplit ! $ drop ! $ flip ! $
         -- [the tokens and the result; the last lists]
-        cut ((chain (Tokens w P n) ⊛ ‵ (row progress-struct .own r (v ∷ []))) ∷ ‵ (Lasts n b (told r (zs .1 .1 .1) .left)) ∷ [])
-        (given (SameLengths (told r (zs .1 .1 .1) .left) b) (raw (⋆ 𝓤 H A (Turned-with n v (told r (zs .1 .1 .1))))) ∷ [])
-        _ (over w P (row progress-struct .own r (v ∷ [])) n b (told r (zs .1 .1 .1) .left)) $ learn ! (λ same.
+        cut ((chain (Tokens w P n) ⊛ ‵ (row progress-struct .own r (v ∷ []))) ∷ ‵ (Lasts n b (told r (behind-values zs) .left)) ∷ [])
+        (given (SameLengths (told r (behind-values zs) .left) b) (raw (⋆ 𝓤 H A (Turned-with n v (told r (behind-values zs))))) ∷ [])
+        _ (over w P (row progress-struct .own r (v ∷ [])) n b (told r (behind-values zs) .left)) $ learn ! (λ same.
         at-once ! $ show ! (λ (z : Told Progress). guard 𝓤 (Turns P counts p b z) (⋆ 𝓤 H A (Turned-with n v z)))
-        (told r (zs .1 .1 .1)) $ check ! (record { does = e; same = same }) $ done !))))
+        (told r (behind-values zs)) $ check ! (record { does = e; same = same }) $ done !))))
 
   -- ---- `add`, on the tally lent on
 

@@ -34,7 +34,8 @@ use Rattle.lent.proofs.Ended.{LentEnded}
 use Rattle.walks.proofs.Setting.{Setting, passed, token}
 use Rattle.walks.proofs.Carried.{row}
 use Rattle.walks.proofs.Again.{slice-value, SliceHeld}
-use Rattle.walks.proofs.Frame.{swap, flip, chain, as-signed, unpaired, locals-at, Frame, frees-all}
+use Rattle.walks.proofs.Context.{swap, flip, chain, as-signed, unpaired}
+use Rattle.walks.proofs.Frame.{locals-at, Frame, frees-all}
 use Rattle.lent.proofs.Structs.{tally-struct, played-struct}
 use Rattle.lent.proofs.grouping_play_lent as f
 use Rattle.lent.proofs.grouping_play_lent.Code.Mir as mir-of
@@ -148,7 +149,8 @@ module _ (w : Setting) (P : Parameters) where
         swap (Owner w P h ++ ‵ (row played-struct .own r (v ∷ [])) ∷ []) (Buffers w P b) [] $ move ! (unpaired parameters) $
         -- [the tokens; what is owned of the parameters; the answer]
         cut (AllTokens ++ Owned b h) (chain AllTokens ∷ chain (Owned b h) ∷ []) _ (as-signed w AllTokens (Owned b h)) $
-        swap (chain AllTokens ∷ []) (chain (Owned b h) ∷ ‵ (row played-struct .own r (v ∷ [])) ∷ []) [] $ join ! $ flip ! $ join ! $ frame ! $
+        swap (chain AllTokens ∷ []) (chain (Owned b h) ∷ ‵ (row played-struct .own r (v ∷ [])) ∷ []) [] $
+        join ! $ flip ! $ join ! $ frame ! $
         use0 W (raw (fact 𝓤 _)) (factI 𝓤 _ (emp 𝓤) (e .played .lawful)) $ use0 W (raw (fact 𝓤 _))
         (factI 𝓤 _ (emp 𝓤) (e .played .linearized)) $
         use0 W (raw (fact 𝓤 _)) (factI 𝓤 _ (emp 𝓤) (e .counted)) $ use0 W (raw (fact 𝓤 _)) (factI 𝓤 _ (emp 𝓤) (e .played .exact)) $ done !

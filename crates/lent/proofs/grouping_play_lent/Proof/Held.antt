@@ -28,7 +28,7 @@ use denote.Slice.{ShrSlice, Room, finally, shr-slice-copy}
 use Rattle.job.specs.declared.Tally.{Tally}
 use Rattle.walks.proofs.Setting.{Loan, loan, Setting, Lent, at-name, token, loan-token}
 use Rattle.walks.proofs.Carried.{row}
-use Rattle.walks.proofs.Frame.{swap, chain}
+use Rattle.walks.proofs.Context.{swap, chain}
 use Rattle.walks.proofs.Again.{slice-value, SliceHeld, SliceLent, SliceKept, SliceLast, slice-lends, slice-comes}
 use Rattle.lent.proofs.Structs.{tally-struct}
 

@@ -41,8 +41,9 @@ use Rattle.lent.proofs.Ended.{accepted-ended}
 use Rattle.walks.proofs.Setting.{Setting, loan}
 use Rattle.walks.proofs.Carried.{row, value, IsValue, told, typed, sees, makes, opens-value, tells}
 use Rattle.walks.proofs.Again.{slice-typed}
-use Rattle.walks.proofs.Frame.{swap, becomes, becomes-some, becomes-such, after}
-use Rattle.walks.proofs.Places.{head, copied, copied-field, behind, behind-slice, slice-of, and-local, assigned, landed, landed-last}
+use Rattle.walks.proofs.Context.{swap, becomes, becomes-some, becomes-such}
+use Rattle.walks.proofs.Frame.{after}
+use Rattle.walks.proofs.Places.{head, copied, copied-field, behind, behind-slice, slice-of, also, assigned, landed, landed-last}
 use Rattle.walks.proofs.Places.{replaced, answered, forgets}
 use Rattle.lent.proofs.Structs.{tally-struct, checked-struct, progress-struct, played-struct}
 use Rattle.lent.proofs.grouping_play_lent.Code.Mir as mir-of
@@ -110,7 +111,7 @@ module _ (w : Setting) (P : Parameters) (known : Known w) (L : ℕ → ℕ) (cou
         makes ! tally-struct (a .tally) _ was $ makes ! progress-struct (a .progress) _ (s .1) $ makes ! checked-struct counts _ is-counts $
         use3 W (raw (Closed w .pre (to-closed w P counts (a .progress) (a .tally)))) (goes-closed w P counts (a .progress) (a .tally)) $
         calls-at ! fm (Closed w) (known .closed) (to-closed w P counts (a .progress) (a .tally))
-        (and-local ! refl (and-local ! refl (and-local ! refl (no-more !)))) (λ v.
+        (also ! refl (also ! refl (also ! refl (no-more !)))) (λ v.
         tells w ! tt played-struct (λ r. r ≡ closedOf counts (a .progress) (a .tally)) v (told-closed w P counts (a .progress) (a .tally) v)
         (λ r e is. landed ! refl refl (typed W played-struct r is) $ returns ! (answered ! refl) $
         -- [what the answer owns; obs; the borrow; the token; the file and the slices; the locals]
@@ -136,7 +137,7 @@ module _ (w : Setting) (P : Parameters) (known : Known w) (L : ℕ → ℕ) (cou
           makes ! progress-struct (z .result) _ is-p $ move ! (3 ∷ 1 ∷ 0 ∷ []) $
           use3 W (raw (Add w .pre (to-add w P (a .tally) (z .result) (loan ν δ)))) (goes-add w P (a .tally) (z .result) (loan ν δ) roomy) $
           calls-at-last ! fm (Add w) (known .add) (to-add w P (a .tally) (z .result) (loan ν δ))
-          (and-local ! refl (and-local ! refl (no-more !))) (λ v.
+          (also ! refl (also ! refl (no-more !))) (λ v.
           use1 W (later (given (v ≡ vunit) (‵ (flft (ν ∷ []) fullShare) ⊛ ‵ (fres δ (row tally-struct .coded .code h′)))))
           (told-add w P (a .tally) (z .result) (loan ν δ) v) $ await ! tt $ learn ! (λ e. split ! $
           lft-end ! tt $ move ! (0 ∷ 2 ∷ 1 ∷ []) $
@@ -181,7 +182,7 @@ module _ (w : Setting) (P : Parameters) (known : Known w) (L : ℕ → ℕ) (cou
           cut (Passed w P n b) (raw (TurnSearching w .pre (to-turn w P counts (a .progress) b n)) ∷ [])
           _ (goes-turn w P counts (a .progress) b is-counts (s .1) (along-turnable (entry P) counts a more) n) $
           calls-at ! fm (TurnSearching w) (known .turn-searching) (to-turn w P counts (a .progress) b n)
-          (and-local ! refl (and-local ! refl (and-local ! refl (and-local ! refl (and-local ! refl (and-local ! refl (no-more !))))))) (λ v.
+          (also ! refl (also ! refl (also ! refl (also ! refl (also ! refl (also ! refl (no-more !))))))) (λ v.
           becomes-such ! tt (raw (TurnSearching w .post (to-turn w P counts (a .progress) b n) v) ∷ []) (Turns P counts (a .progress) b)
           (Turned-with w P counts (a .progress) b n v) _ (told-turn w P counts (a .progress) b n v) (λ z turned.
           sees ! progress-struct (z .result) (v ∷ []) (λ is.

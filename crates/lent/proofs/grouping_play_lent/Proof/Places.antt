@@ -39,3 +39,20 @@ added = 24
 
 abbrev pub turn-statements : ℕ
 turn-statements = 9
+
+-- ---- of a tuple with one component a parameter
+
+abbrev pub file-of : {A B : Type 0} → A × B → A
+file-of t = t .0
+
+abbrev pub table-of : {A B C : Type 0} → A × (B × C) → B
+table-of t = file-of (t .1)
+
+abbrev pub report-of : {A B C D : Type 0} → A × (B × (C × D)) → C
+report-of t = table-of (t .1)
+
+abbrev pub linearization-of : {A B C D E : Type 0} → A × (B × (C × (D × E))) → D
+linearization-of t = report-of (t .1)
+
+abbrev pub tally-of : {A B C D E F : Type 0} → A × (B × (C × (D × (E × F)))) → E
+tally-of t = linearization-of (t .1)
