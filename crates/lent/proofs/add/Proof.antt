@@ -10,7 +10,7 @@ use mathlib.Core.Path.{_≡_, refl}
 use mathlib.Core.List.{[], _∷_, List}
 use Prim.Native.Nat.{ℕ}
 use mir.Syntax.{named}
-use mir.Val.{Val, vunit, vptr}
+use mir.Val.{Val, vunit}
 use base.Logic.{SProp, ent, sep, ex, exE, snd∗}
 use base.Fml.{ftrue, fobs, fbor}
 use prog.Wp.{WpFn, Tables}
@@ -39,7 +39,7 @@ use denote.Exit.{yes}
 use Rattle.job.specs.declared.Tally.{Tally}
 use Rattle.turns.specs.declared.Progress.{Progress}
 use Rattle.turns.specs.Turns.{Addable, countedOf}
-use Rattle.walks.proofs.Setting.{Setting, Lent, lent, passed, token}
+use Rattle.walks.proofs.Setting.{Setting, Lent, lent, passed, pointer, token}
 use Rattle.walks.proofs.Carried.{row, value, IsValue, typed, makes, opens-value, Returned, told-value, tells}
 use Rattle.walks.proofs.Context.{flip}
 use Rattle.walks.proofs.Frame.{locals-at, allocates, frees-all}
@@ -73,9 +73,6 @@ module _ (w : Setting) (s : Lent Tally) (progress : Progress) (roomy : Addable (
   abbrev x : RefT Tally × (Progress × Unit {0})
   x = (passed s, (progress, tt))
 
-  abbrev pointer : Val
-  pointer = vptr (s .block) (s .offset)
-
   abbrev progress-value : Val
   progress-value = value progress-struct progress
 
@@ -83,7 +80,7 @@ module _ (w : Setting) (s : Lent Tally) (progress : Progress) (roomy : Addable (
   tally-value = value tally-struct (s .entry)
 
   abbrev at : List Val × (List Val × Unit {0})
-  at = (pointer ∷ [], (progress-value ∷ [], tt))
+  at = (pointer s ∷ [], (progress-value ∷ [], tt))
 
   abbrev tally⁺ : Tally
   tally⁺ = countedOf (s .entry) (progress .done) (progress .mask)
@@ -100,7 +97,7 @@ module _ (w : Setting) (s : Lent Tally) (progress : Progress) (roomy : Addable (
       qed W (Held r) ∵
       suffices ! _ (ends-at 𝓤 H A f.ended stayed (f.clauses 𝓤 H A at-mem run) W (((s .lifetime, tt), (s .share, tt), tt, x, at), tt)
       vunit tt (r, (tt, tt)) (tt, (tt, tt))) $ says ! e $ nothing ! $ move ! (3 ∷ 0 ∷ []) $ join ! $
-      frame ! $ feqI ! (List Val) (pointer ∷ []) (pointer ∷ []) refl $ fjoin3 ! $ nothing ! $
+      frame ! $ feqI ! (List Val) (pointer s ∷ []) (pointer s ∷ []) refl $ fjoin3 ! $ nothing ! $
       makes ! progress-struct progress _ is-progress $ fjoin ! $ flip ! $ fjoin ! $
       feqI ! (List Val) (vunit ∷ []) (vunit ∷ []) refl $ flip ! $ done !
 
@@ -122,11 +119,11 @@ module _ (w : Setting) (s : Lent Tally) (progress : Progress) (roomy : Addable (
 
   walk : (𝓣 : Tables 𝓤 H) → Triple 𝓤 (𝓣 .C #turns·counted) (Counted w)
       → ent 𝓤 (onEntry 𝓤 H A f.signature (s .lifetime, tt) (s .share, tt) x at)
-      (WpFn 𝓤 H (𝓣 .C) (𝓣 .Λ) code.function (pointer ∷ progress-value ∷ []) Post)
+      (WpFn 𝓤 H (𝓣 .C) (𝓣 .Λ) code.function (pointer s ∷ progress-value ∷ []) Post)
   walk 𝓣 known =
       qed W ((token s ⊛ ‵ ftrue) ∷ ‵ (owns (MutRef (named 0) (s .lifetime) (row tally-struct) ∷ row progress-struct ∷ []) x at) ∷ []) ∵
       flip ! $ fsplit ! $ fsplit3 ! $ drop ! $ move ! (3 ∷ []) $ split ! $ keep ! (2 ∷ 3 ∷ 0 ∷ []) $
-      enter ! (𝓣 .C) (𝓣 .Λ) code.function (pointer ∷ progress-value ∷ []) _ $
+      enter ! (𝓣 .C) (𝓣 .Λ) code.function (pointer s ∷ progress-value ∷ []) _ $
       allocates ! (λ L. params1 ! $ argument ! refl (tt, tt) $ argument ! refl (typed W progress-struct progress is-progress) $ pass0 ! $
       opens-value ! tt tally-struct (s .entry) (s .block) (s .offset) (λ was.
       -- [the tally's cell; what it owns; the open borrow; obs; auth; the locals]

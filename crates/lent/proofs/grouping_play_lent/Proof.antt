@@ -45,7 +45,7 @@ use Rattle.turns.specs.Turns.{firstTally}
 use Rattle.player.specs.Player.{refusedWith}
 use Rattle.player.proofs.Along.{along, lending-start}
 use Rattle.lent.proofs.Ended.{LentEnded, refused-ended}
-use Rattle.walks.proofs.Setting.{Setting, lent, differs, agrees}
+use Rattle.walks.proofs.Setting.{Setting, lent, differs, agrees, pointer}
 use Rattle.walks.proofs.Carried.{row, value, IsValue, told, typed, sees, makes, opens-value, tells}
 use Rattle.walks.proofs.Again.{slice-typed}
 use Rattle.walks.proofs.Context.{swap, flip, becomes, becomes-some, becomes-such, paired, signed}
@@ -76,11 +76,11 @@ use Rattle.lent.proofs.grouping_play_lent as f
 use Rattle.lent.proofs.grouping_play_lent.Statement as stated
 use Rattle.lent.proofs.grouping_play_lent.Code as code
 use Rattle.lent.proofs.grouping_play_lent.Code.Mir as mir-of
-use Held.{Parameters, SameLengths, lists₀, tally-pointer, Buffers, Owner, Passed, Lending, Returning, lends, comes}
+use Held.{Parameters, SameLengths, lists₀, Buffers, Owner, Passed, Lending, Returning, lends, comes}
 use Calls.{Prepare, Refused, FirstTally, TurnSearching, Add, Closed, Known, Told, Prepares, to-prepare, goes-prepare, Prepared-with}
 use Calls.{told-prepare, to-refused, goes-refused, told-refused, to-first-tally, goes-first-tally, told-first-tally}
 use Places as place
-use Frame.{entry, stayed, Here, lifetimes, shares, x, at, values, En, Locals, AllTokens, Owned, Post, ends, Runs}
+use Frame.{entry, stayed, Here, lifetimes, shares, x, at, values, lent-on, En, Locals, AllTokens, Owned, Post, ends, Runs}
 use Loop.{looped}
 
 module _ (w : Setting) (P : Parameters) where
@@ -122,7 +122,7 @@ module _ (w : Setting) (P : Parameters) where
           assigns ! (of-opd ! (copied ! refl)) (behind ! refl) (store-raw ! head refl (typed W tally-struct h is)) $
           flip ! $ drop ! $ makes ! tally-struct h _ is $ flip ! $
           closes ! tt (row tally-struct) h (v ∷ []) (P .tally .block) (P .tally .offset) $
-          feqI ! (List Val) (tally-pointer P ∷ []) (tally-pointer P ∷ []) refl $ fjoin3 ! $
+          feqI ! (List Val) (pointer (P .tally) ∷ []) (pointer (P .tally) ∷ []) refl $ fjoin3 ! $
           forgets ! (En w L) place.tally-value (_ ∷ []) refl $ forgets ! (En w L) place.plan (_ ∷ []) refl $
           swap (Owner w P h) (Buffers w P (z .left)) _ $ looped w P known L counts is-counts (start h e, is-progress))))
         where
@@ -148,7 +148,7 @@ module _ (w : Setting) (P : Parameters) where
           -- [what the answer owns; the file and the slices; the tally and its token; the locals]
           drop ! $ swap (Buffers w P (z .left)) (Owner w P (P .tally .entry)) _ $ fsplit3 ! $ drop ! $
           makes ! played-struct r _ is $ returns-within ! (Post w P) refl (answered ! refl) $
-          forgets ! (En w L) place.answer (_ ∷ _ ∷ _ ∷ _ ∷ _ ∷ _ ∷ _ ∷ _ ∷ []) refl $ forgets ! (En w L) place.is-refused (_ ∷ []) refl $
+          forgets ! (En w L) place.answer (_ ∷ values P ++ _ ∷ _ ∷ []) refl $ forgets ! (En w L) place.is-refused (_ ∷ []) refl $
           ends w P (z .left) (P .tally .entry) (prepared .same) r v (refused-here (differs (counts .number) 0 t) r e) L)))
           (λ t. skips ! $ exec ! (known .tables .C) (known .tables .Λ) (En w L) mir-of.t-11 (atRet (En w L) (Post w P)) $
           forgets ! (En w L) place.is-refused (_ ∷ []) refl $ opening (agrees (counts .number) 0 t))
@@ -178,7 +178,7 @@ module _ (w : Setting) (P : Parameters) where
         becomes ! tt (Returning w P n (lists₀ P) (z .left)) (Buffers w P (z .left)) _
         (comes w P n (lists₀ P) (z .left) same₀ (prepared .same)) $
         -- [the file and the slices; the tally and its token; the locals]
-        forgets ! (En w L) place.to-prepare (_ ∷ _ ∷ _ ∷ _ ∷ _ ∷ _ ∷ []) refl $
+        forgets ! (En w L) place.to-prepare (lent-on P) refl $
         choosing z prepared (subst (Is (row plan-struct) (z .result)) (told plan-struct (z .result) is) is)))))
       where
         same₀ : SameLengths (lists₀ P) (lists₀ P)

@@ -33,7 +33,7 @@ use Rattle.turns.specs.Turns.{countedOf, buffersOf, firstTally, Addable}
 use Rattle.player.specs.Player.{refusedWith}
 use Rattle.player.specs.declared.Plan.{Plan}
 use Rattle.player.specs.Plan.{Prepared, preparedOf, TurnableOn, TurnsOn, closedOf}
-use Rattle.walks.proofs.Setting.{Setting, at-name, Loan, loan-token}
+use Rattle.walks.proofs.Setting.{Setting, at-name, Loan, loan-token, pointer}
 use Rattle.walks.proofs.Carried.{row, value, IsValue, by-value, makes, Returned, told-value}
 use Rattle.walks.proofs.Again.{slice-value}
 use Rattle.walks.proofs.Context.{swap, flip, chain, as-signed, as-asked}
@@ -50,7 +50,7 @@ use Rattle.lent.proofs.add as add
 use Rattle.lent.proofs.add.Symbol.{name as #lent·add}
 use Rattle.player.proofs.closed as closed
 use Rattle.player.proofs.closed.Symbol.{name as #player·closed}
-use Rattle.lent.proofs.grouping_play_lent.Proof.Held.{Parameters, Lists, SameLengths, Loans, lists₀, tally-pointer, FileHeld, Passed}
+use Rattle.lent.proofs.grouping_play_lent.Proof.Held.{Parameters, Lists, SameLengths, Loans, lists₀, FileHeld, Passed}
 use Rattle.lent.proofs.grouping_play_lent.Proof.Held.{Tokens, Slices, Lasts, Left, over}
 
 -- ---- the contracts
@@ -265,7 +265,7 @@ module _ (w : Setting) (P : Parameters) where
 
   module _ (h : Tally) (p : Progress) (n : Loan) where
     abbrev pub TallyLent : Fml
-    TallyLent = MutRef (named 0) (n .lifetime ∷ []) (row tally-struct) .own (at-name (P .tally) (n .name) h) (tally-pointer P ∷ [])
+    TallyLent = MutRef (named 0) (n .lifetime ∷ []) (row tally-struct) .own (at-name (P .tally) (n .name) h) (pointer (P .tally) ∷ [])
 
     abbrev pub tally⁺ : Tally
     tally⁺ = countedOf h (p .done) (p .mask)
@@ -277,7 +277,7 @@ module _ (w : Setting) (P : Parameters) where
         (fullShare, tt),
         tt,
         (at-name (P .tally) (n .name) h, (p, tt)),
-        (tally-pointer P ∷ [], (value progress-struct p ∷ [], tt)),
+        (pointer (P .tally) ∷ [], (value progress-struct p ∷ [], tt)),
       ),
       tt,
     )

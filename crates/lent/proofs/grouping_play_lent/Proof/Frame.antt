@@ -31,7 +31,7 @@ use Rattle.job.specs.declared.Played.{Played}
 use Rattle.reader.specs.declared.Checked.{Checked}
 use Rattle.player.proofs.Along.{Entry, Along}
 use Rattle.lent.proofs.Ended.{LentEnded}
-use Rattle.walks.proofs.Setting.{Setting, passed, token}
+use Rattle.walks.proofs.Setting.{Setting, passed, token, pointer}
 use Rattle.walks.proofs.Carried.{row}
 use Rattle.walks.proofs.Again.{slice-value, SliceHeld}
 use Rattle.walks.proofs.Context.{swap, flip, chain, as-signed, unpaired}
@@ -39,7 +39,7 @@ use Rattle.walks.proofs.Frame.{locals-at, Frame, frees-all}
 use Rattle.lent.proofs.Structs.{tally-struct, played-struct}
 use Rattle.lent.proofs.grouping_play_lent as f
 use Rattle.lent.proofs.grouping_play_lent.Code.Mir as mir-of
-use Rattle.lent.proofs.grouping_play_lent.Proof.Held.{Parameters, Lists, SameLengths, lists₀, tally-pointer, FileHeld}
+use Rattle.lent.proofs.grouping_play_lent.Proof.Held.{Parameters, Lists, SameLengths, lists₀, FileHeld}
 use Rattle.lent.proofs.grouping_play_lent.Proof.Held.{TallyHeld, Buffers, Owner}
 use Rattle.lent.proofs.grouping_play_lent.Proof.Places.{parameters}
 use Rattle.lent.proofs.grouping_play_lent.Proof.Calls.{Known}
@@ -87,12 +87,18 @@ module _ (P : Parameters) where
     slice-value (P .file) ∷ [],
     (
       slice-value (P .table) ∷ [],
-      (slice-value (P .report) ∷ [], (slice-value (P .linearization) ∷ [], (tally-pointer P ∷ [], tt))),
+      (slice-value (P .report) ∷ [], (slice-value (P .linearization) ∷ [], (pointer (P .tally) ∷ [], tt))),
     ),
   )
 
   abbrev pub values : List Val
-  values = slice-value (P .file) ∷ slice-value (P .table) ∷ slice-value (P .report) ∷ slice-value (P .linearization) ∷ tally-pointer P ∷ []
+  values = slice-value (P .file) ∷ slice-value (P .table) ∷ slice-value (P .report) ∷ slice-value (P .linearization) ∷ pointer (P .tally) ∷ []
+
+  -- a slice lent on has two locals, one for its address
+  abbrev pub lent-on : List Val
+  lent-on =
+      pointer (P .table) ∷ slice-value (P .table) ∷ pointer (P .report) ∷ slice-value (P .report)
+      ∷ pointer (P .linearization) ∷ slice-value (P .linearization) ∷ []
 
 -- ---- the locals
 
@@ -105,7 +111,7 @@ module _ (w : Setting) (L : ℕ → ℕ) where
   abbrev pub Locals : Parameters → Option Val → Option Val → Option Val → List (Item 𝓤)
   Locals P plan counts progress =
       Frame 𝓤 H En (none ∷ some (slice-value (P .file)) ∷ some (slice-value (P .table)) ∷ some (slice-value (P .report))
-      ∷ some (slice-value (P .linearization)) ∷ some (tally-pointer P) ∷ plan ∷ counts ∷ progress ∷ []) []
+      ∷ some (slice-value (P .linearization)) ∷ some (pointer (P .tally)) ∷ plan ∷ counts ∷ progress ∷ []) []
 
   -- every local, empty
   abbrev pub Rooms : List (Item 𝓤)
@@ -145,7 +151,7 @@ module _ (w : Setting) (P : Parameters) where
         suffices ! _ (ends-at 𝓤 H A f.ended stayed (f.clauses 𝓤 H A at-mem run) W ((lifetimes P, shares P, tt, x P, at P), tt) v r
         (tt, (b .table, (b .report, (b .linearization, (h, tt))))) (tt, (same .table, (same .report, (same .linearization, (tt, tt)))))) $
         swap (‵ (row played-struct .own r (v ∷ [])) ∷ []) (Opened h) _ $
-        feqI ! (List Val) (tally-pointer P ∷ []) (tally-pointer P ∷ []) refl $ fjoin3 ! $
+        feqI ! (List Val) (pointer (P .tally) ∷ []) (pointer (P .tally) ∷ []) refl $ fjoin3 ! $
         swap (Owner w P h ++ ‵ (row played-struct .own r (v ∷ [])) ∷ []) (Buffers w P b) [] $ move ! (unpaired parameters) $
         -- [the tokens; what is owned of the parameters; the answer]
         cut (AllTokens ++ Owned b h) (chain AllTokens ∷ chain (Owned b h) ∷ []) _ (as-signed w AllTokens (Owned b h)) $

@@ -16,7 +16,6 @@ use mathlib.Core.List.{[], _∷_, _++_, List}
 use Prim.Native.Nat.{ℕ}
 use lib.ListN.{length}
 use mir.Syntax.{named}
-use mir.Val.{Val, vptr}
 use base.Logic.{ent, ex, guard}
 use base.Fml.{Fml, GName, ftrue, fsep}
 use types.Kit.{Item, ‵, ⋆, _⊛_, some, later, _$_, _∵_, !, qed, move, keep, use1, use2, use3, split, pick, check, fsplit}
@@ -26,7 +25,7 @@ use denote.Builtin.{u8, u32}
 use denote.Ref.{MutRef}
 use denote.Slice.{ShrSlice, Room, finally, shr-slice-copy}
 use Rattle.job.specs.declared.Tally.{Tally}
-use Rattle.walks.proofs.Setting.{Loan, loan, Setting, Lent, at-name, token, loan-token}
+use Rattle.walks.proofs.Setting.{Loan, loan, Setting, Lent, at-name, token, loan-token, pointer}
 use Rattle.walks.proofs.Carried.{row}
 use Rattle.walks.proofs.Context.{swap, chain}
 use Rattle.walks.proofs.Again.{slice-value, SliceHeld, SliceLent, SliceKept, SliceLast, slice-lends, slice-comes}
@@ -69,15 +68,12 @@ Lasts n b b′ =
 abbrev pub lists₀ : Parameters → Lists
 lists₀ P = record { table = P .table .entry; report = P .report .entry; linearization = P .linearization .entry }
 
-abbrev pub tally-pointer : Parameters → Val
-tally-pointer P = vptr (P .tally .block) (P .tally .offset)
-
 abbrev pub FileHeld : Parameters → Fml
 FileHeld P =
     ShrSlice (named 0) (P .file .lifetime) u8 .own (at-name (P .file) (P .file .name) (P .file .entry)) (slice-value (P .file) ∷ [])
 
 abbrev pub TallyHeld : Parameters → Tally → Fml
-TallyHeld P h = MutRef (named 4) (P .tally .lifetime) (row tally-struct) .own (at-name (P .tally) (P .tally .name) h) (tally-pointer P ∷ [])
+TallyHeld P h = MutRef (named 4) (P .tally .lifetime) (row tally-struct) .own (at-name (P .tally) (P .tally .name) h) (pointer (P .tally) ∷ [])
 
 module _ (w : Setting) (P : Parameters) where
   open Setting w using (𝓤, H, A, W)

@@ -53,7 +53,7 @@ use Rattle.lent.proofs.grouping_play_lent.Proof.Calls.{TurnSearching, A
 use Rattle.lent.proofs.grouping_play_lent.Proof.Calls.{Turned-with, told-turn, TallyLent, to-add, goes-add, told-add, to-closed}
 use Rattle.lent.proofs.grouping_play_lent.Proof.Calls.{goes-closed, told-closed}
 use Rattle.lent.proofs.grouping_play_lent.Proof.Places as place
-use Rattle.lent.proofs.grouping_play_lent.Proof.Frame.{entry, Here, listsOf, long, En, Locals, Post, ends, Runs}
+use Rattle.lent.proofs.grouping_play_lent.Proof.Frame.{entry, Here, listsOf, long, values, lent-on, En, Locals, Post, ends, Runs}
 
 -- a turn's last two statements: the tally is lent on, and `add` is called
 abbrev adds : Body
@@ -115,7 +115,7 @@ module _ (w : Setting) (P : Parameters) (known : Known w) (L : ℕ → ℕ) (cou
         tells w ! tt played-struct (λ r. r ≡ closedOf counts (a .progress) (a .tally)) v (told-closed w P counts (a .progress) (a .tally) v)
         (λ r e is. landed ! refl refl (typed W played-struct r is) $ returns ! (answered ! refl) $
         -- [what the answer owns; obs; the borrow; the token; the file and the slices; the locals]
-        forgets ! (En w L) place.answer (_ ∷ _ ∷ _ ∷ _ ∷ _ ∷ _ ∷ []) refl $ forgets ! (En w L) place.counts (_ ∷ _ ∷ []) refl $
+        forgets ! (En w L) place.answer (_ ∷ values P) refl $ forgets ! (En w L) place.counts (_ ∷ _ ∷ []) refl $
         forgets ! (En w L) place.tally-value (_ ∷ []) refl $
         ends w P b (a .tally) (long P counts a) r v (accepted-ended (entry P) (P .tally .entry) counts a over r e) L)))
 
@@ -189,7 +189,7 @@ module _ (w : Setting) (P : Parameters) (known : Known w) (L : ℕ → ℕ) (cou
           replaced ! (ap only (told progress-struct (z .result) is)) refl (typed W progress-struct (z .result) is) $ drop ! $
           becomes ! tt (Returning w P n b (z .left)) (Buffers w P (z .left)) _ (comes w P n b (z .left) (long P counts a) (turned .same)) $
           -- [the file and the slices; the tally and its token; the locals]
-          forgets ! (En w L) place.goes-on (_ ∷ _ ∷ _ ∷ _ ∷ _ ∷ _ ∷ _ ∷ []) refl $
+          forgets ! (En w L) place.goes-on (_ ∷ lent-on P) refl $
           adding z (subst (Is (row progress-struct) (z .result)) (told progress-struct (z .result) is) is) turned))))
 
     leaving : ltb (a .progress .number) (counts .grants) ≡ false → Sq W (At s) (runs C Λ (En w L) mir-of.turn-1 (anyQ (Turned s)))

@@ -1,46 +1,51 @@
--- The locals of `grouping_play_lent` that its walk names, by their numbers in the MIR. Where a statement reads or stores a local, the
--- statement itself says which; so these are only where a run of locals starts that are not needed any more.
+-- The locals of `grouping_play_lent` that its walk names, by their numbers in the MIR, each counted from the one before. Where a
+-- statement reads or stores a local, the statement itself says which; so these are only where locals start that are not needed any more.
 --
---   parameters       how many there are, each a reference with its lifetime
---   answer           the answer, the parameters, the plan and the counts
---   to-prepare       an address and a slice for each of the three slices lent on to `prepare`
+--   parameters       how many there are, each a reference with its lifetime; slices: how many of them are lent on
+--   answer           the answer, and then the parameters
+--   to-prepare       an address and a slice for each of the slices lent on to `prepare`
 --   tally-value      the first tally; after the loop, the tally copied out
---   goes-on          the loop's test, and an address and a slice for each of the three slices lent on to `turn_searching`
+--   goes-on          the loop's test, and an address and a slice for each of the slices lent on to `turn_searching`
 --   added            what `add` returns, and the tally lent on to it
 --   turn-statements  how many statements of a turn stand before those for `add`
-use Prim.Native.Nat.{ℕ}
+--   X-of             the component for the parameter X, of a tuple with one for each parameter
+use Prim.Native.Nat.{ℕ, suc, _+_, _*_}
 
 abbrev pub parameters : ℕ
 parameters = 5
+
+abbrev slices : ℕ
+slices = 3
 
 abbrev pub answer : ℕ
 answer = 0
 
 abbrev pub plan : ℕ
-plan = 6
+plan = suc parameters
 
 abbrev pub counts : ℕ
-counts = 7
+counts = suc plan
+
+abbrev progress : ℕ
+progress = suc counts
 
 abbrev pub to-prepare : ℕ
-to-prepare = 9
+to-prepare = suc progress
 
 abbrev pub is-refused : ℕ
-is-refused = 15
+is-refused = to-prepare + 2 * slices
 
 abbrev pub tally-value : ℕ
-tally-value = 16
+tally-value = suc is-refused
 
 abbrev pub goes-on : ℕ
-goes-on = 17
+goes-on = suc tally-value
 
 abbrev pub added : ℕ
-added = 24
+added = suc goes-on + 2 * slices
 
 abbrev pub turn-statements : ℕ
-turn-statements = 9
-
--- ---- of a tuple with one component a parameter
+turn-statements = 3 + 2 * slices
 
 abbrev pub file-of : {A B : Type 0} → A × B → A
 file-of t = t .0
