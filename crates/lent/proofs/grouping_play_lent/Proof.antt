@@ -75,7 +75,6 @@ use Rattle.lent.proofs.grouping_play_lent.Key.{name as #lent·grouping-
 use Rattle.lent.proofs.grouping_play_lent as f
 use Rattle.lent.proofs.grouping_play_lent.Statement as stated
 use Rattle.lent.proofs.grouping_play_lent.Code as code
-use Rattle.lent.proofs.grouping_play_lent.Code.Mir as mir-of
 use Held.{Parameters, SameLengths, lists₀, Buffers, Owner, Passed, Lending, Returning, lends, comes}
 use Calls.{Prepare, Refused, FirstTally, TurnSearching, Add, Closed, Known, Told, Prepares, to-prepare, goes-prepare, Prepared-with}
 use Calls.{told-prepare, to-refused, goes-refused, told-refused, to-first-tally, goes-first-tally, told-first-tally}
@@ -107,7 +106,7 @@ module _ (w : Setting) (P : Parameters) where
       opening : counts .number ≡ 0
           → Sq W (Buffers w P (z .left) ++ Owner w P (P .tally .entry)
           ++ Locals w L P (some (value plan-struct (z .result))) (some (value checked-struct counts)) none)
-          (Runs w P known L mir-of.t-11)
+          (Runs w P known L place.from-opening)
       opening accepted =
           assigned ! (of-opd ! (copied-field ! refl refl refl)) refl refl (typed W progress-struct progress is-progress) $
           makes ! progress-struct progress _ is-progress $
@@ -135,7 +134,7 @@ module _ (w : Setting) (P : Parameters) where
       -- the counts are taken from the plan; refused, `refused` answers and the function returns
       choosing :
           Sq W (Buffers w P (z .left) ++ Owner w P (P .tally .entry)
-          ++ Locals w L P (some (value plan-struct (z .result))) none none) (Runs w P known L mir-of.t-8)
+          ++ Locals w L P (some (value plan-struct (z .result))) none none) (Runs w P known L place.from-choice)
       choosing =
           assigned ! (of-opd ! (copied-field ! refl refl refl)) refl refl (typed W checked-struct counts is-counts) $
           assigned ! (bin ! (copied-field ! refl refl refl) (lit ! tt) tt) refl refl (tt, tt) $
@@ -150,7 +149,7 @@ module _ (w : Setting) (P : Parameters) where
           makes ! played-struct r _ is $ returns-within ! (Post w P) refl (answered ! refl) $
           forgets ! (En w L) place.answer (_ ∷ values P ++ _ ∷ _ ∷ []) refl $ forgets ! (En w L) place.is-refused (_ ∷ []) refl $
           ends w P (z .left) (P .tally .entry) (prepared .same) r v (refused-here (differs (counts .number) 0 t) r e) L)))
-          (λ t. skips ! $ exec ! (known .tables .C) (known .tables .Λ) (En w L) mir-of.t-11 (atRet (En w L) (Post w P)) $
+          (λ t. skips ! $ exec ! (known .tables .C) (known .tables .Λ) (En w L) place.from-opening (atRet (En w L) (Post w P)) $
           forgets ! (En w L) place.is-refused (_ ∷ []) refl $ opening (agrees (counts .number) 0 t))
         where
           refused-here : counts .number ≢ 0 → (r : Played) → r ≡ refusedWith (counts .number)
@@ -160,7 +159,7 @@ module _ (w : Setting) (P : Parameters) where
               (prepared .bytes) (prepared .exact) d r e
 
     -- the slices are lent on to `prepare`, and come back
-    preparing : Sq W (Buffers w P (lists₀ P) ++ Owner w P (P .tally .entry) ++ Locals w L P none none none) (Runs w P known L mir-of.t-1)
+    preparing : Sq W (Buffers w P (lists₀ P) ++ Owner w P (P .tally .entry) ++ Locals w L P none none none) (Runs w P known L place.from-prepare)
     preparing =
         assigned ! (addr ! (behind-slice ! refl refl refl)) refl refl (tt, tt) $
         assigned ! (slice-of ! refl refl refl refl) refl refl (slice-typed (P .table-room .0)) $

@@ -7,9 +7,12 @@
 --   tally-value      the first tally; after the loop, the tally copied out
 --   goes-on          the loop's test, and an address and a slice for each of the slices lent on to `turn_searching`
 --   added            what `add` returns, and the tally lent on to it
---   turn-statements  how many statements of a turn stand before those for `add`
+--   from-X, adds     the code from where a part of the walk starts; of a turn, from where the tally is lent on to `add`
 --   X-of             the component for the parameter X, of a tuple with one for each parameter
 use Prim.Native.Nat.{ℕ, suc, _+_, _*_}
+use mir.Syntax.{Body}
+use Rattle.walks.proofs.Frame.{after}
+use Rattle.lent.proofs.grouping_play_lent.Code.Mir as mir-of
 
 abbrev pub parameters : ℕ
 parameters = 5
@@ -44,8 +47,24 @@ goes-on = suc tally-value
 abbrev pub added : ℕ
 added = suc goes-on + 2 * slices
 
-abbrev pub turn-statements : ℕ
-turn-statements = 3 + 2 * slices
+abbrev pub from-prepare : Body
+from-prepare = mir-of.t-1
+
+abbrev pub from-choice : Body
+from-choice = mir-of.t-8
+
+abbrev pub from-opening : Body
+from-opening = mir-of.t-11
+
+abbrev pub from-loop : Body
+from-loop = mir-of.t-14
+
+abbrev pub from-closing : Body
+from-closing = mir-of.t-15
+
+-- the test and its branch, two statements for each slice, and the call of `turn_searching` stand before
+abbrev pub adds : Body
+adds = after (3 + 2 * slices) mir-of.turn-1
 
 abbrev pub file-of : {A B : Type 0} → A × B → A
 file-of t = t .0
