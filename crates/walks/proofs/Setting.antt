@@ -6,7 +6,7 @@
 --   at-name, passed  the reference at a place, under a name, at a value; under its own name, at entry
 --   pointer          the machine value of a reference
 --   Loan, loan       what a reference is lent on for: a lifetime and a name
---   token, ..        the token of a reference; of a loan
+--   token, loan-token   the token of a reference; of a loan
 --   differs, agrees  what the outcome of a test `!=` says
 use mathlib.Core.Path.{_≡_, refl, subst}
 use mathlib.Core.Logic.{_≢_}

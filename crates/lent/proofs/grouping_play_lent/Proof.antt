@@ -1,8 +1,8 @@
 -- `lent::grouping_play_lent` meets its contract: a walk of its MIR, by hand, with one loop and one branch.
 -- The three slices are lent on for each call and come back; the tally's borrow is opened to read and to store it, and
 -- lent on to `add` at each grant.
--- `Held` has what is owned of the parameters, `Calls` what each call gets and leaves, `Frame` the locals and the exit, `Loop`
--- the walk from the loop on.
+-- `Held` has what is owned of the parameters, `Calls` what each call gets and leaves, `Places` the locals and the parts of the code
+-- that the walk names, `Frame` the locals and the exit, `Loop` the walk from the loop on.
 --
 --   preparing, choosing, opening   the walk to the loop, cut at the calls and at the branch
 mod Held
@@ -159,7 +159,8 @@ module _ (w : Setting) (P : Parameters) where
               (prepared .bytes) (prepared .exact) d r e
 
     -- the slices are lent on to `prepare`, and come back
-    preparing : Sq W (Buffers w P (lists₀ P) ++ Owner w P (P .tally .entry) ++ Locals w L P none none none) (Runs w P known L place.from-prepare)
+    preparing : Sq W (Buffers w P (lists₀ P) ++ Owner w P (P .tally .entry) ++ Locals w L P none none none)
+        (Runs w P known L place.from-prepare)
     preparing =
         assigned ! (addr ! (behind-slice ! refl refl refl)) refl refl (tt, tt) $
         assigned ! (slice-of ! refl refl refl refl) refl refl (slice-typed (P .table-room .0)) $

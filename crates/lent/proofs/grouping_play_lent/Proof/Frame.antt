@@ -92,7 +92,8 @@ module _ (P : Parameters) where
   )
 
   abbrev pub values : List Val
-  values = slice-value (P .file) ∷ slice-value (P .table) ∷ slice-value (P .report) ∷ slice-value (P .linearization) ∷ pointer (P .tally) ∷ []
+  values =
+      slice-value (P .file) ∷ slice-value (P .table) ∷ slice-value (P .report) ∷ slice-value (P .linearization) ∷ pointer (P .tally) ∷ []
 
   -- a slice lent on has two locals, one for its address
   abbrev pub lent-on : List Val

@@ -5,10 +5,10 @@
 --   Loans                          what each of the three is lent on for
 --   FileHeld, TallyHeld            what is owned of the file; of the tally
 --   Back, Buffers, Owner           the slices with their tokens; the file too; the tally with its token
---   Tokens, Slices                 of these lent on: the tokens; the slices
+--   Tokens, Slices                 the tokens that a callee gets; the slices
 --   Passed, Kept, Lending          what a callee gets of the file and the slices lent on; what is kept meanwhile; both
---   Lasts, Over, Left, Returning   what a call says of the slices lent on; what is had of them when it is over; with its
--- result and the file's token; with what is kept
+--   Lasts                          what a call says of the slices lent on
+--   Over, Left, Returning          what is had of them when it is over; with its result and the file's token; with what is kept
 --
 -- Main laws: lends, the slices are lent on; over, a call is over; comes, the slices come back.
 use mathlib.Core.Path.{_≡_}
@@ -73,7 +73,8 @@ FileHeld P =
     ShrSlice (named 0) (P .file .lifetime) u8 .own (at-name (P .file) (P .file .name) (P .file .entry)) (slice-value (P .file) ∷ [])
 
 abbrev pub TallyHeld : Parameters → Tally → Fml
-TallyHeld P h = MutRef (named 4) (P .tally .lifetime) (row tally-struct) .own (at-name (P .tally) (P .tally .name) h) (pointer (P .tally) ∷ [])
+TallyHeld P h =
+    MutRef (named 4) (P .tally .lifetime) (row tally-struct) .own (at-name (P .tally) (P .tally .name) h) (pointer (P .tally) ∷ [])
 
 module _ (w : Setting) (P : Parameters) where
   open Setting w using (𝓤, H, A, W)
