@@ -27,7 +27,7 @@ use denote.Slice.{ShrSlice, Room, finally, shr-slice-copy}
 use Rattle.job.specs.declared.Tally.{Tally}
 use Rattle.walks.proofs.Setting.{Loan, loan, Setting, Lent, at-name, token, loan-token, pointer}
 use Rattle.walks.proofs.Carried.{row}
-use Rattle.walks.proofs.Context.{swap, chain}
+use Rattle.walks.proofs.Context.{swap, flip, chain}
 use Rattle.walks.proofs.Again.{slice-value, SliceHeld, SliceLent, SliceKept, SliceLast, slice-lends, slice-comes}
 use Rattle.lent.proofs.Structs.{tally-struct}
 
@@ -163,10 +163,10 @@ module _ (w : Setting) (P : Parameters) where
   pub over : (own : Fml) (n : Loans) (b b′ : Lists) → ent 𝓤 (⋆ 𝓤 H A ((chain (Tokens n) ⊛ ‵ own) ∷ ‵ (Lasts n b b′) ∷ []))
       (guard 𝓤 (SameLengths b′ b) (⋆ 𝓤 H A (Left own n b′)))
   over own n b b′ =
-      qed W ((chain (Tokens n) ⊛ ‵ own) ∷ ‵ (Lasts n b b′) ∷ []) ∵ move ! (1 ∷ []) $
-      fsplit ! $ fsplit ! $ move ! (1 ∷ []) $ feqL ! (λ table. move ! (1 ∷ []) $ fsplit ! $ fsplit ! $ move ! (1 ∷ []) $
-      feqL ! (λ report. move ! (1 ∷ []) $ fsplit ! $ fsplit ! $ move ! (1 ∷ []) $ feqL ! (λ linearization.
+      qed W ((chain (Tokens n) ⊛ ‵ own) ∷ ‵ (Lasts n b b′) ∷ []) ∵ flip ! $
+      fsplit ! $ fsplit ! $ flip ! $ feqL ! (λ table. flip ! $ fsplit ! $ fsplit ! $ flip ! $
+      feqL ! (λ report. flip ! $ fsplit ! $ fsplit ! $ flip ! $ feqL ! (λ linearization.
       -- [true and the last lists, from the last; the tokens and the result]
-      move ! (4 ∷ []) $ split ! $ split ! $ move ! (1 ∷ []) $ split ! $ move ! (1 ∷ []) $ split ! $ move ! (1 ∷ []) $ split ! $
+      move ! (4 ∷ []) $ split ! $ split ! $ flip ! $ split ! $ flip ! $ split ! $ flip ! $ split ! $
       check ! (record { table = table; report = report; linearization = linearization }) $
       keep ! (5 ∷ 4 ∷ 3 ∷ 2 ∷ 0 ∷ 9 ∷ 8 ∷ 6 ∷ []) $ done !)))
