@@ -5,3 +5,4 @@ pub mod Again
 pub mod Context
 pub mod Frame
 pub mod Places
+pub mod Slices

@@ -173,7 +173,7 @@ module _ (w : Setting) (P : Parameters) where
       (id⊢ 𝓤 _) $ pick ! (λ zs. split ! $ flip ! $
       heard ! (Exact P (told r (zs .1)) × Bytes (P .file .entry)) (λ e. fsplit ! $ drop ! $ flip ! $
       -- [the tokens and the result; the last lists]
-      cut ((chain (Tokens w P n) ⊛ ‵ (row plan-struct .own r (v ∷ []))) ∷ ‵ (Lasts n (lists₀ P) (told r (zs .1) .left)) ∷ [])
+      cut ((chain (Tokens w P n) ⊛ ‵ (row plan-struct .own r (v ∷ []))) ∷ ‵ (Lasts P n (lists₀ P) (told r (zs .1) .left)) ∷ [])
       (given (SameLengths (told r (zs .1) .left) (lists₀ P)) (raw (⋆ 𝓤 H A (Prepared-with n v (told r (zs .1))))) ∷ [])
       _ (over w P (row plan-struct .own r (v ∷ [])) n (lists₀ P) (told r (zs .1) .left)) $ learn ! (λ same.
       at-once ! $ show ! (λ (z : Told Plan). guard 𝓤 (Prepares P z) (⋆ 𝓤 H A (Prepared-with n v z))) (told r (zs .1)) $
@@ -256,7 +256,7 @@ module _ (w : Setting) (P : Parameters) where
         heard ! (Does-turn P counts p b (told r (behind-values zs)))
         (λ e. fsplit ! $ drop ! $ fsplit ! $ drop ! $ fsplit ! $ drop ! $ flip ! $
         -- [the tokens and the result; the last lists]
-        cut ((chain (Tokens w P n) ⊛ ‵ (row progress-struct .own r (v ∷ []))) ∷ ‵ (Lasts n b (told r (behind-values zs) .left)) ∷ [])
+        cut ((chain (Tokens w P n) ⊛ ‵ (row progress-struct .own r (v ∷ []))) ∷ ‵ (Lasts P n b (told r (behind-values zs) .left)) ∷ [])
         (given (SameLengths (told r (behind-values zs) .left) b) (raw (⋆ 𝓤 H A (Turned-with n v (told r (behind-values zs))))) ∷ [])
         _ (over w P (row progress-struct .own r (v ∷ [])) n b (told r (behind-values zs) .left)) $ learn ! (λ same.
         at-once ! $ show ! (λ (z : Told Progress). guard 𝓤 (Turns P counts p b z) (⋆ 𝓤 H A (Turned-with n v z)))
@@ -300,7 +300,8 @@ module _ (w : Setting) (P : Parameters) where
         use1 W (some (λ (zs : Tally × (Unit {0} × Unit {0})). ‵ (lasts add.ended (n .lifetime ∷ [], tt)
         (at-name (P .tally) (n .name) h, (p, tt)) zs) ⊛ raw (fact 𝓤 (zs .0 ≡ tally⁺)))) (id⊢ 𝓤 _) $
         pick ! (λ zs. split ! $ flip ! $
-        heard ! (zs .0 ≡ tally⁺) (λ e. fsplit ! $ rewrite ! head (λ (u : Tally). ‵ (fres (n .name) (row tally-struct .coded .code u))) e refl $
+        heard ! (zs .0 ≡ tally⁺) (λ e. fsplit ! $
+        rewrite ! head (λ (u : Tally). ‵ (fres (n .name) (row tally-struct .coded .code u))) e refl $
         -- [the last value; true; the token and the result]
         move ! (2 ∷ []) $ split ! $ flip ! $
         feqL ! (λ u. at-once ! $ check ! (ap only u) $ split ! $ keep ! (0 ∷ 2 ∷ []) $ done !))))
