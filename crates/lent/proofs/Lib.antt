@@ -1,4 +1,3 @@
--- What the play ends with, and what the walks by hand share.
+-- What the play ends with, and the structs that the walks by hand carry.
 pub mod Ended
-pub mod Again
-pub mod Walks
+pub mod Structs
