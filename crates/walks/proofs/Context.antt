@@ -2,7 +2,8 @@
 --
 --   swap, flip         the context's first two parts, or entries, change places
 --   becomes            its first part becomes another; -some: for some x; -such: for some x of which φ is known
---   chain              entries as one, nested to the right
+--   chain, chains, un- entries as one, nested to the right; from a part to its chain; and back
+--   parted, unparted   from a context to the chains of its parts; and back
 --   signed, as-signed  tokens and owned parameters, from how a signature says them to entries of a context; and back
 --   as-asked           so for a contract without `requires`
 --   paired, unpaired   the order of these entries in which each parameter stands before its token; and back
@@ -66,13 +67,32 @@ chain (i ∷ Δ) = i ⊛ chain Δ
 module _ (w : Setting) where
   open Setting w using (𝓤, H, A)
 
-  chains : (Δ : List (Item 𝓤)) → ent 𝓤 (⋆ 𝓤 H A Δ) (mean 𝓤 H A (chain Δ))
+  pub chains : (Δ : List (Item 𝓤)) → ent 𝓤 (⋆ 𝓤 H A Δ) (mean 𝓤 H A (chain Δ))
   chains [] = id⊢ 𝓤 (emp 𝓤)
   chains (i ∷ Δ) = via 𝓤 (sep 𝓤 (mean 𝓤 H A i) (⋆ 𝓤 H A Δ)) (pop 𝓤 H A i Δ) (monoR 𝓤 (mean 𝓤 H A i) (chains Δ))
 
-  unchains : (Δ : List (Item 𝓤)) → ent 𝓤 (mean 𝓤 H A (chain Δ)) (⋆ 𝓤 H A Δ)
+  pub unchains : (Δ : List (Item 𝓤)) → ent 𝓤 (mean 𝓤 H A (chain Δ)) (⋆ 𝓤 H A Δ)
   unchains [] = id⊢ 𝓤 (emp 𝓤)
   unchains (i ∷ Δ) = via 𝓤 (sep 𝓤 (mean 𝓤 H A i) (⋆ 𝓤 H A Δ)) (monoR 𝓤 (mean 𝓤 H A i) (unchains Δ)) (push 𝓤 H A i Δ)
+
+  -- parts, each as one entry; and their entries
+  abbrev pub parts : List (List (Item 𝓤)) → List (Item 𝓤)
+  parts [] = []
+  parts (Δ ∷ Δs) = chain Δ ∷ parts Δs
+
+  abbrev pub whole : List (List (Item 𝓤)) → List (Item 𝓤)
+  whole [] = []
+  whole (Δ ∷ Δs) = Δ ++ whole Δs
+
+  pub parted : (Δs : List (List (Item 𝓤))) → ent 𝓤 (⋆ 𝓤 H A (whole Δs)) (⋆ 𝓤 H A (parts Δs))
+  parted [] = id⊢ 𝓤 (emp 𝓤)
+  parted (Δ ∷ Δs) = via 𝓤 (sep 𝓤 (⋆ 𝓤 H A Δ) (⋆ 𝓤 H A (whole Δs))) (⊢++ 𝓤 H A Δ (whole Δs))
+      (via 𝓤 (sep 𝓤 (mean 𝓤 H A (chain Δ)) (⋆ 𝓤 H A (parts Δs))) (mono∗ 𝓤 (chains Δ) (parted Δs)) (push 𝓤 H A (chain Δ) (parts Δs)))
+
+  pub unparted : (Δs : List (List (Item 𝓤))) → ent 𝓤 (⋆ 𝓤 H A (parts Δs)) (⋆ 𝓤 H A (whole Δs))
+  unparted [] = id⊢ 𝓤 (emp 𝓤)
+  unparted (Δ ∷ Δs) = via 𝓤 (sep 𝓤 (mean 𝓤 H A (chain Δ)) (⋆ 𝓤 H A (parts Δs))) (pop 𝓤 H A (chain Δ) (parts Δs))
+      (via 𝓤 (sep 𝓤 (⋆ 𝓤 H A Δ) (⋆ 𝓤 H A (whole Δs))) (mono∗ 𝓤 (unchains Δ) (unparted Δs)) (++⊢ 𝓤 H A Δ (whole Δs)))
 
   -- the tokens Δ and what is owned, Θ
   pub as-signed : (Δ Θ : List (Item 𝓤)) → ent 𝓤 (⋆ 𝓤 H A (Δ ++ Θ)) (sep 𝓤 (mean 𝓤 H A (chain Δ)) (mean 𝓤 H A (chain Θ)))

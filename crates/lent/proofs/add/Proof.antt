@@ -11,18 +11,16 @@ use mathlib.Core.List.{[], _∷_, List}
 use Prim.Native.Nat.{ℕ}
 use mir.Syntax.{named}
 use mir.Val.{Val, vunit}
-use base.Logic.{SProp, ent, sep, ex, exE, snd∗}
-use base.Fml.{ftrue, fobs, fbor}
+use base.Logic.{SProp, ent, ex, via, exE, snd∗}
+use base.Fml.{fobs, fbor}
 use prog.Wp.{WpFn, Tables}
 use ghost.Atoms.{sem}
 use contract.Monad.{fact}
 use contract.Running.{givenOf, tables, tablesOf}
-use types.Kit.{Item, ‵, raw, prop, ⋆, _⊛_, _$_, _∵_, !, qed, by, move, keep, drop, use2, split, join, fsplit, fsplit3, fjoin, fjoin3, feqI}
-use types.Kit.{suffices, frame, done}
+use types.Kit.{Item, ‵, raw, prop, ⋆, _$_, _∵_, !, qed, by, move, drop, use2, join, fsplit3, fjoin, fjoin3, feqI, suffices, frame, done}
 use types.Run.{look-raw, store-raw, load, unit-lit, of-opd, no-more, assigns, returns, enter, params1, pass0}
 use types.SemTy.{Body}
 use sound.WpLaws.{fmOf, WpFn-mono}
-use denote.RattleType.{owns}
 use denote.Memory.{mem}
 use denote.Ref.{RefT, MutRef, ptr-vals, mut-tells}
 use denote.Signature.{plain}
@@ -40,8 +38,8 @@ use Rattle.job.specs.declared.Tally.{Tally}
 use Rattle.turns.specs.declared.Progress.{Progress}
 use Rattle.turns.specs.Turns.{Addable, countedOf}
 use Rattle.walks.proofs.Setting.{Setting, Lent, lent, passed, pointer, token}
-use Rattle.walks.proofs.Carried.{row, value, IsValue, typed, makes, opens-value, Returned, told-value, tells}
-use Rattle.walks.proofs.Context.{flip}
+use Rattle.walks.proofs.Carried.{row, value, IsValue, by-value, typed, makes, opens-value, Returned, told-value, tells}
+use Rattle.walks.proofs.Context.{swap, flip, signed, as-signed}
 use Rattle.walks.proofs.Frame.{locals-at, allocates, frees-all}
 use Rattle.walks.proofs.Places.{head, copied, behind, also, assigned, landed, answered, argument, forgets}
 use Rattle.lent.proofs.Structs.{tally-struct, progress-struct}
@@ -105,11 +103,10 @@ module _ (w : Setting) (s : Lent Tally) (progress : Progress) (roomy : Addable (
   abbrev to-counted : Counted w .Ghost
   to-counted = ((tt, tt, tt, (s .entry, (progress, tt)), (tally-value ∷ [], (progress-value ∷ [], tt))), tt)
 
-  goes-counted : ent 𝓤 (sep 𝓤 (sem 𝓤 H A (row progress-struct .own progress (progress-value ∷ [])))
-      (sem 𝓤 H A (row tally-struct .own (s .entry) (tally-value ∷ [])))) (Counted w .pre to-counted)
+  goes-counted : ent 𝓤 (⋆ 𝓤 H A (by-value tally-struct (s .entry) ∷ by-value progress-struct progress ∷ [])) (Counted w .pre to-counted)
   goes-counted =
-      qed W (‵ (row progress-struct .own progress (progress-value ∷ [])) ∷ ‵ (row tally-struct .own (s .entry) (tally-value ∷ [])) ∷ []) ∵
-      says ! roomy $ nothing ! $ frame ! $ nothing ! $ flip ! $ fjoin ! $ flip ! $ fjoin ! $ done !
+      qed W (by-value tally-struct (s .entry) ∷ by-value progress-struct progress ∷ []) ∵ says ! roomy $
+      by ! (as-signed w [] (by-value tally-struct (s .entry) ∷ by-value progress-struct progress ∷ []))
 
   told-counted : (v : Val) → ent 𝓤 (Counted w .post to-counted v) (H .⇛ (ex 𝓤 (Returned w tally-struct (λ r. r ≡ tally⁺) v)))
   told-counted v =
@@ -117,18 +114,25 @@ module _ (w : Setting) (s : Lent Tally) (progress : Progress) (roomy : Addable (
       (ensured 𝓤 H A counted.ended (counted.clauses 𝓤 H A at-mem run) tt (s .entry, (progress, tt)) tt)
       (λ r. exE 𝓤 _ (λ ws. snd∗ 𝓤 (sem 𝓤 H A (lasts counted.ended tt (s .entry, (progress, tt)) ws)) (fact 𝓤 (r ≡ tally⁺))))
 
+  abbrev TallyHeld : Item 𝓤
+  TallyHeld = ‵ (MutRef (named 0) (s .lifetime) (row tally-struct) .own (passed s) (pointer s ∷ []))
+
+  -- what is owned of the parameters
+  abbrev Owned : List (Item 𝓤)
+  Owned = TallyHeld ∷ by-value progress-struct progress ∷ []
+
   walk : (𝓣 : Tables 𝓤 H) → Triple 𝓤 (𝓣 .C #turns·counted) (Counted w)
       → ent 𝓤 (onEntry 𝓤 H A f.signature (s .lifetime, tt) (s .share, tt) x at)
       (WpFn 𝓤 H (𝓣 .C) (𝓣 .Λ) code.function (pointer s ∷ progress-value ∷ []) Post)
   walk 𝓣 known =
-      qed W ((token s ⊛ ‵ ftrue) ∷ ‵ (owns (MutRef (named 0) (s .lifetime) (row tally-struct) ∷ row progress-struct ∷ []) x at) ∷ []) ∵
-      flip ! $ fsplit ! $ fsplit3 ! $ drop ! $ move ! (3 ∷ []) $ split ! $ keep ! (2 ∷ 3 ∷ 0 ∷ []) $
+      via 𝓤 (⋆ 𝓤 H A (token s ∷ Owned)) (signed w (token s ∷ []) Owned) (qed W (token s ∷ Owned) ∵
+      swap (token s ∷ TallyHeld ∷ []) (by-value progress-struct progress ∷ []) [] $ drop ! $ flip ! $ fsplit3 ! $ drop ! $
       enter ! (𝓣 .C) (𝓣 .Λ) code.function (pointer s ∷ progress-value ∷ []) _ $
       allocates ! (λ L. params1 ! $ argument ! refl (tt, tt) $ argument ! refl (typed W progress-struct progress is-progress) $ pass0 ! $
       opens-value ! tt tally-struct (s .entry) (s .block) (s .offset) (λ was.
       -- [the tally's cell; what it owns; the open borrow; obs; auth; the locals]
       assigned ! (of-opd ! (load ! (behind ! refl) (look-raw ! head refl))) refl refl (typed W tally-struct (s .entry) was) $
-      flip ! $ makes ! progress-struct progress _ is-progress $
+      flip ! $ makes ! progress-struct progress _ is-progress $ flip ! $
       use2 W (raw (Counted w .pre to-counted)) goes-counted $
       calls-at ! (fmOf 𝓤 H (W .laws) 𝓣) (Counted w) known to-counted (also ! refl (also ! refl (no-more !))) (λ v.
       tells w ! tt tally-struct (λ r. r ≡ tally⁺) v (told-counted v) (λ r e is. landed ! refl refl (typed W tally-struct r is) $
@@ -136,7 +140,7 @@ module _ (w : Setting) (s : Lent Tally) (progress : Progress) (roomy : Addable (
       flip ! $ assigns ! (of-opd ! (copied ! refl)) (behind ! refl) (store-raw ! head refl (typed W tally-struct r is)) $
       assigned ! (of-opd ! (unit-lit !)) refl refl (tt, tt) $ closes ! tt (row tally-struct) r (v ∷ []) (s .block) (s .offset) $
       returns ! (answered ! refl) $ forgets ! (locals-at 𝓤 H mir-of.locals L) answer (_ ∷ _ ∷ _ ∷ _ ∷ _ ∷ []) refl $
-      frees-all ! (locals-at 𝓤 H mir-of.locals L) (Held r) [] (prop (Post vunit)) $ by ! (exits r e)))))
+      frees-all ! (locals-at 𝓤 H mir-of.locals L) (Held r) [] (prop (Post vunit)) $ by ! (exits r e))))))
 
 module _ (w : Setting) (𝓣 : Tables (w .𝓤) (w .H)) (known : Triple (w .𝓤) (𝓣 .C #turns·counted) (Counted w)) where
   open Setting w using (𝓤, H, A, W, at-mem, run)

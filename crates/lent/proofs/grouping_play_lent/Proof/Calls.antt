@@ -36,6 +36,7 @@ use Rattle.player.specs.Plan.{Prepared, preparedOf, TurnableOn, TurnsOn, closed
 use Rattle.walks.proofs.Setting.{Setting, at-name, Loan, loan-token, pointer}
 use Rattle.walks.proofs.Carried.{row, value, IsValue, by-value, makes, Returned, told-value}
 use Rattle.walks.proofs.Again.{slice-value}
+use Rattle.walks.proofs.Places.{head}
 use Rattle.walks.proofs.Context.{swap, flip, chain, as-signed, as-asked}
 use Rattle.lent.proofs.Structs.{tally-struct, checked-struct, progress-struct, plan-struct, played-struct}
 use Rattle.player.proofs.prepare as prepare
@@ -166,13 +167,13 @@ module _ (w : Setting) (P : Parameters) where
       qed W (raw (Prepare w .post (to-prepare n) v) ∷ []) ∵ updating ! $
       use1 W (later (some (λ (r : Plan). (chain (Tokens w P n) ⊛ ‵ (row plan-struct .own r (v ∷ [])))
       ⊛ raw (ensured 𝓤 H A prepare.ended (prepare.clauses 𝓤 H A at-mem run) (lifetimes P n)
-      (file-passed P, slices-passed P n (lists₀ P)) tt r)))) (id⊢ 𝓤 _) $ await ! tt $ pick ! (λ r. split ! $ move ! (1 ∷ []) $
+      (file-passed P, slices-passed P n (lists₀ P)) tt r)))) (id⊢ 𝓤 _) $ await ! tt $ pick ! (λ r. split ! $ flip ! $
       use1 W (some (λ (zs : Unit {0} × ThreeLists). ‵ (lasts prepare.ended (lifetimes P n)
       (file-passed P, slices-passed P n (lists₀ P)) zs) ⊛ raw (fact 𝓤 (Exact P (told r (zs .1)) × Bytes (P .file .entry)))))
-      (id⊢ 𝓤 _) $ pick ! (λ zs. split ! $ move ! (1 ∷ []) $
+      (id⊢ 𝓤 _) $ pick ! (λ zs. split ! $ flip ! $
       heard ! (Exact P (told r (zs .1)) × Bytes (P .file .entry)) (λ e. fsplit ! $ drop ! $ flip ! $
       -- [the tokens and the result; the last lists]
-      cut ((chain (Tokens w P n) ⊛ ‵ (row plan-struct .own r (v ∷ []))) ∷ ‵ (Lasts n (lists₀ P) (told r (zs .1) .left)) ∷ [])
+      cut ((chain (Tokens w P n) ⊛ ‵ (row plan-struct .own r (v ∷ []))) ∷ ‵ (Lasts P n (lists₀ P) (told r (zs .1) .left)) ∷ [])
       (given (SameLengths (told r (zs .1) .left) (lists₀ P)) (raw (⋆ 𝓤 H A (Prepared-with n v (told r (zs .1))))) ∷ [])
       _ (over w P (row plan-struct .own r (v ∷ [])) n (lists₀ P) (told r (zs .1) .left)) $ learn ! (λ same.
       at-once ! $ show ! (λ (z : Told Plan). guard 𝓤 (Prepares P z) (⋆ 𝓤 H A (Prepared-with n v z))) (told r (zs .1)) $
@@ -248,14 +249,14 @@ module _ (w : Setting) (P : Parameters) where
         qed W (raw (TurnSearching w .post (to-turn n) v) ∷ []) ∵ updating ! $
         use1 W (later (some (λ (r : Progress). (chain (Tokens w P n) ⊛ ‵ (row progress-struct .own r (v ∷ [])))
         ⊛ raw (ensured 𝓤 H A turn-searching.ended (turn-searching.clauses 𝓤 H A at-mem run) (lifetimes P n)
-        (turn-arguments n) tt r)))) (id⊢ 𝓤 _) $ await ! tt $ pick ! (λ r. split ! $ move ! (1 ∷ []) $
+        (turn-arguments n) tt r)))) (id⊢ 𝓤 _) $ await ! tt $ pick ! (λ r. split ! $ flip ! $
         use1 W (some (λ (zs : Unit {0} × (Unit {0} × (Unit {0} × ThreeLists))). ‵ (lasts turn-searching.ended (lifetimes P n)
         (turn-arguments n) zs) ⊛ raw (fact 𝓤 (Does-turn P counts p b (told r (behind-values zs)))))) (id⊢ 𝓤 _) $
-        pick ! (λ zs. split ! $ move ! (1 ∷ []) $
+        pick ! (λ zs. split ! $ flip ! $
         heard ! (Does-turn P counts p b (told r (behind-values zs)))
         (λ e. fsplit ! $ drop ! $ fsplit ! $ drop ! $ fsplit ! $ drop ! $ flip ! $
         -- [the tokens and the result; the last lists]
-        cut ((chain (Tokens w P n) ⊛ ‵ (row progress-struct .own r (v ∷ []))) ∷ ‵ (Lasts n b (told r (behind-values zs) .left)) ∷ [])
+        cut ((chain (Tokens w P n) ⊛ ‵ (row progress-struct .own r (v ∷ []))) ∷ ‵ (Lasts P n b (told r (behind-values zs) .left)) ∷ [])
         (given (SameLengths (told r (behind-values zs) .left) b) (raw (⋆ 𝓤 H A (Turned-with n v (told r (behind-values zs))))) ∷ [])
         _ (over w P (row progress-struct .own r (v ∷ [])) n b (told r (behind-values zs) .left)) $ learn ! (λ same.
         at-once ! $ show ! (λ (z : Told Progress). guard 𝓤 (Turns P counts p b z) (⋆ 𝓤 H A (Turned-with n v z)))
@@ -295,13 +296,14 @@ module _ (w : Setting) (P : Parameters) where
         qed W (raw (Add w .post to-add v) ∷ []) ∵ updating ! $
         use1 W (later (some (λ (r : Unit {0}). ((‵ (flft (n .lifetime ∷ []) fullShare) ⊛ ‵ ftrue) ⊛ ‵ (Nothing .own r (v ∷ [])))
         ⊛ raw (ensured 𝓤 H A add.ended (add.clauses 𝓤 H A at-mem run) (n .lifetime ∷ [], tt)
-        (at-name (P .tally) (n .name) h, (p, tt)) tt r)))) (id⊢ 𝓤 _) $ await ! tt $ pick ! (λ r. split ! $ move ! (1 ∷ []) $
+        (at-name (P .tally) (n .name) h, (p, tt)) tt r)))) (id⊢ 𝓤 _) $ await ! tt $ pick ! (λ r. split ! $ flip ! $
         use1 W (some (λ (zs : Tally × (Unit {0} × Unit {0})). ‵ (lasts add.ended (n .lifetime ∷ [], tt)
         (at-name (P .tally) (n .name) h, (p, tt)) zs) ⊛ raw (fact 𝓤 (zs .0 ≡ tally⁺)))) (id⊢ 𝓤 _) $
-        pick ! (λ zs. split ! $ move ! (1 ∷ []) $
-        heard ! (zs .0 ≡ tally⁺) (λ e. fsplit ! $ rewrite ! 0 (λ (u : Tally). ‵ (fres (n .name) (row tally-struct .coded .code u))) e refl $
+        pick ! (λ zs. split ! $ flip ! $
+        heard ! (zs .0 ≡ tally⁺) (λ e. fsplit ! $
+        rewrite ! head (λ (u : Tally). ‵ (fres (n .name) (row tally-struct .coded .code u))) e refl $
         -- [the last value; true; the token and the result]
-        move ! (2 ∷ []) $ split ! $ move ! (1 ∷ []) $
+        move ! (2 ∷ []) $ split ! $ flip ! $
         feqL ! (λ u. at-once ! $ check ! (ap only u) $ split ! $ keep ! (0 ∷ 2 ∷ []) $ done !))))
 
   -- ---- `closed`

@@ -7,8 +7,9 @@
 --   Back, Buffers, Owner           the slices with their tokens; the file too; the tally with its token
 --   Tokens, Slices                 the tokens that a callee gets; the slices
 --   Passed, Kept, Lending          what a callee gets of the file and the slices lent on; what is kept meanwhile; both
---   Lasts                          what a call says of the slices lent on
---   Over, Left, Returning          what is had of them when it is over; with its result and the file's token; with what is kept
+--   slices, listed, loaned, same   the three slices, and what is said of them, as the laws of several slices take it
+--   Lasts, Finals                  what a call says of the slices lent on; their last lists
+--   Left, Returning                what is had when it is over: with its result; with what is kept
 --
 -- Main laws: lends, the slices are lent on; over, a call is over; comes, the slices come back.
 use mathlib.Core.Path.{_≡_}
@@ -17,18 +18,19 @@ use Prim.Native.Nat.{ℕ}
 use lib.ListN.{length}
 use mir.Syntax.{named}
 use base.Logic.{ent, ex, guard}
-use base.Fml.{Fml, GName, ftrue, fsep}
-use types.Kit.{Item, ‵, ⋆, _⊛_, some, later, _$_, _∵_, !, qed, move, keep, use1, use2, use3, split, pick, check, fsplit}
-use types.Kit.{feqL, await, updating, now as at-once, show, done}
-use types.Tokens.{lft-new, lft-end}
+use base.Fml.{Fml}
+use types.Kit.{Item, ‵, ⋆, _⊛_, some, later, _$_, _∵_, !, qed, by, cut, given, join, learn, frame, move, use1, use3, split, pick, check}
+use types.Kit.{await, updating, now as at-once, show, done}
 use denote.Builtin.{u8, u32}
 use denote.Ref.{MutRef}
-use denote.Slice.{ShrSlice, Room, finally, shr-slice-copy}
+use denote.Slice.{ShrSlice, Room, shr-slice-copy}
 use Rattle.job.specs.declared.Tally.{Tally}
-use Rattle.walks.proofs.Setting.{Loan, loan, Setting, Lent, at-name, token, loan-token, pointer}
+use Rattle.walks.proofs.Setting.{Loan, Setting, Lent, at-name, token, pointer}
 use Rattle.walks.proofs.Carried.{row}
-use Rattle.walks.proofs.Context.{swap, chain}
-use Rattle.walks.proofs.Again.{slice-value, SliceHeld, SliceLent, SliceKept, SliceLast, slice-lends, slice-comes}
+use Rattle.walks.proofs.Context.{swap, flip, chain, chains, unchains, parted, unparted}
+use Rattle.walks.proofs.Slices as each
+use Rattle.walks.proofs.Slices.{Slice}
+use Rattle.walks.proofs.Again.{slice-value}
 use Rattle.lent.proofs.Structs.{tally-struct}
 
 pub record Parameters : Type 0 where
@@ -57,13 +59,33 @@ pub record Loans : Type 0 where
   pub report : Loan
   pub linearization : Loan
 
--- ---- all parameters
+-- ---- the three slices, for the laws of several
 
-abbrev pub Lasts : Loans → Lists → Lists → Fml
-Lasts n b b′ =
-    fsep (SliceLast u32 (n .table) (b .table) (b′ .table))
-    (fsep (SliceLast u32 (n .report) (b .report) (b′ .report))
-    (fsep (SliceLast u32 (n .linearization) (b .linearization) (b′ .linearization)) ftrue))
+abbrev pub slices : Parameters → List Slice
+slices P =
+    record { T = u32; lent = P .table; room = P .table-room } ∷ record { T = u32; lent = P .report; room = P .report-room }
+    ∷ record { T = u32; lent = P .linearization; room = P .linearization-room } ∷ []
+
+module _ (P : Parameters) where
+  abbrev listed : Lists → each.Lists (slices P)
+  listed b = (b .table, (b .report, (b .linearization, tt)))
+
+  abbrev loaned : Loans → each.Loans (slices P)
+  loaned n = (n .table, (n .report, (n .linearization, tt)))
+
+  abbrev named-loans : each.Loans (slices P) → Loans
+  named-loans n = record { table = n .0; report = n .1 .0; linearization = n .1 .1 .0 }
+
+  same : {b c : Lists} → SameLengths b c → each.Same (slices P) (listed b) (listed c)
+  same e = (e .table, (e .report, (e .linearization, tt)))
+
+  named-same : {b c : Lists} → each.Same (slices P) (listed b) (listed c) → SameLengths b c
+  named-same e = record { table = e .0; report = e .1 .0; linearization = e .1 .1 .0 }
+
+  abbrev pub Lasts : Loans → Lists → Lists → Fml
+  Lasts n b b′ = each.Lasts (slices P) (loaned n) (listed b) (listed b′)
+
+-- ---- all parameters
 
 abbrev pub lists₀ : Parameters → Lists
 lists₀ P = record { table = P .table .entry; report = P .report .entry; linearization = P .linearization .entry }
@@ -80,9 +102,7 @@ module _ (w : Setting) (P : Parameters) where
   open Setting w using (𝓤, H, A, W)
 
   abbrev pub Back : Lists → List (Item 𝓤)
-  Back b =
-      ‵ (SliceHeld u32 (P .table) (b .table)) ∷ token (P .table) ∷ ‵ (SliceHeld u32 (P .report) (b .report)) ∷ token (P .report)
-      ∷ ‵ (SliceHeld u32 (P .linearization) (b .linearization)) ∷ token (P .linearization) ∷ []
+  Back b = each.Held (slices P) (listed P b)
 
   abbrev pub Buffers : Lists → List (Item 𝓤)
   Buffers b = ‵ (FileHeld P) ∷ token (P .file) ∷ Back b
@@ -92,81 +112,62 @@ module _ (w : Setting) (P : Parameters) where
 
   -- the tokens of the file and of the slices lent on, as a call takes them and gives them back
   abbrev pub Tokens : Loans → List (Item 𝓤)
-  Tokens n = token (P .file) ∷ loan-token (n .table) ∷ loan-token (n .report) ∷ loan-token (n .linearization) ∷ []
+  Tokens n = token (P .file) ∷ each.LoanTokens (slices P) (loaned P n)
 
   abbrev pub Slices : Loans → Lists → List (Item 𝓤)
-  Slices n b =
-      ‵ (SliceLent u32 (P .table) (n .table) (b .table)) ∷ ‵ (SliceLent u32 (P .report) (n .report) (b .report))
-      ∷ ‵ (SliceLent u32 (P .linearization) (n .linearization) (b .linearization)) ∷ []
+  Slices n b = each.Lents (slices P) (loaned P n) (listed P b)
+
+  abbrev pub Passed : Loans → Lists → List (Item 𝓤)
+  Passed n b = Tokens n ++ ‵ (FileHeld P) ∷ Slices n b
 
   abbrev pub Passed : Loans → Lists → List (Item 𝓤)
   Passed n b = Tokens n ++ ‵ (FileHeld P) ∷ Slices n b
 
   abbrev pub Kept : Loans → Lists → List (Item 𝓤)
-  Kept n b =
-      ‵ (SliceKept u32 (P .table) (n .table) (b .table)) ∷ ‵ (SliceKept u32 (P .report) (n .report) (b .report))
-      ∷ ‵ (SliceKept u32 (P .linearization) (n .linearization) (b .linearization)) ∷ []
+  Kept n b = each.Kepts (slices P) (loaned P n) (listed P b)
 
   abbrev pub Lending : Loans → Lists → List (Item 𝓤)
   Lending n b = Passed n b ++ ‵ (FileHeld P) ∷ Kept n b
 
-  abbrev pub Over : Loans → Lists → List (Item 𝓤)
-  Over n b =
-      loan-token (n .table) ∷ loan-token (n .report) ∷ loan-token (n .linearization)
-      ∷ ‵ (finally u32 (n .table .name) (b .table)) ∷ ‵ (finally u32 (n .report .name) (b .report))
-      ∷ ‵ (finally u32 (n .linearization .name) (b .linearization)) ∷ []
+  abbrev pub Finals : Loans → Lists → List (Item 𝓤)
+  Finals n b = each.Finals (slices P) (loaned P n) (listed P b)
 
   abbrev pub Left : Fml → Loans → Lists → List (Item 𝓤)
-  Left own n b = ‵ own ∷ token (P .file) ∷ Over n b
+  Left own n b = ‵ own ∷ Tokens n ++ Finals n b
 
-  -- a slice lent on for the lifetime ν
-  abbrev Offered : Lent (List ℕ) → List ℕ → ℕ → Item 𝓤
-  Offered s ys ν = later (some (λ (δ : GName). ‵ (SliceLent u32 s (loan ν δ) ys) ⊛ ‵ (SliceKept u32 s (loan ν δ) ys)))
+  abbrev pub Returning : Loans → Lists → Lists → List (Item 𝓤)
+  Returning n b b′ = Tokens n ++ Finals n b′ ++ ‵ (FileHeld P) ∷ Kept n b
 
   pub lends : (b : Lists) → SameLengths b (lists₀ P) → ent 𝓤 (⋆ 𝓤 H A (Buffers b)) (H .⇛ (ex 𝓤 (λ (n : Loans). ⋆ 𝓤 H A (Lending n b))))
   lends b e =
       qed W (Buffers b) ∵ updating ! $
       use1 W (‵ (FileHeld P) ⊛ ‵ (FileHeld P)) (shr-slice-copy 𝓤 H A W (named 0)
       (P .file .lifetime) u8 .twice (at-name (P .file) (P .file .name) (P .file .entry)) (slice-value (P .file) ∷ [])) $ split ! $
-      lft-new ! tt (λ ν₁. move ! (4 ∷ 5 ∷ []) $ use2 W (Offered (P .table) (b .table) ν₁)
-      (slice-lends w u32 (P .table) (b .table) (e .table) ν₁) $ await ! tt $ pick ! (λ δ₁. split ! $
-      lft-new ! tt (λ ν₂. move ! (7 ∷ 8 ∷ []) $ use2 W (Offered (P .report) (b .report) ν₂)
-      (slice-lends w u32 (P .report) (b .report) (e .report) ν₂) $ await ! tt $ pick ! (λ δ₂. split ! $
-      lft-new ! tt (λ ν₃. move ! (10 ∷ 11 ∷ []) $ use2 W (Offered (P .linearization) (b .linearization) ν₃)
-      (slice-lends w u32 (P .linearization) (b .linearization) (e .linearization) ν₃) $ await ! tt $ pick ! (λ δ₃. split ! $
-      -- [the slices lent on and what is kept, from the last; the file twice; its token]
-      at-once ! $ show ! (λ (n : Loans). ⋆ 𝓤 H A (Lending n b))
-      (record { table = loan ν₁ δ₁; report = loan ν₂ δ₂; linearization = loan ν₃ δ₃ }) $
-      move ! (11 ∷ 8 ∷ 5 ∷ 2 ∷ 9 ∷ 6 ∷ 3 ∷ 0 ∷ 10 ∷ 7 ∷ 4 ∷ 1 ∷ []) $ done !))))))
-
-  -- what is had when a call is over and its result is stored
-  abbrev pub Returning : Loans → Lists → Lists → List (Item 𝓤)
-  Returning n b b′ = token (P .file) ∷ Over n b′ ++ ‵ (FileHeld P) ∷ Kept n b
+      swap (‵ (FileHeld P) ∷ ‵ (FileHeld P) ∷ token (P .file) ∷ []) (Back b) [] $ cut (Back b) (chain (Back b) ∷ []) _ (chains w (Back b)) $
+      use1 W (later (some (each.Offered w (slices P) (listed P b)))) (each.lends-all w (slices P) (listed P b) (same P e)) $ await ! tt $
+      pick ! (λ n. split ! $ flip ! $ split ! $ at-once ! $ show ! (λ (m : Loans). ⋆ 𝓤 H A (Lending m b)) (named-loans P n) $
+      -- [the slices lent, kept, and their loans' tokens; the file twice; its token]
+      move ! (5 ∷ 2 ∷ []) $ join ! $ move ! (3 ∷ 1 ∷ []) $ join ! $ move ! (3 ∷ 2 ∷ []) $ join ! $ move ! (2 ∷ 1 ∷ 0 ∷ []) $
+      by ! (unparted w (Tokens (named-loans P n) ∷ (‵ (FileHeld P) ∷ Slices (named-loans P n) b)
+      ∷ (‵ (FileHeld P) ∷ Kept (named-loans P n) b) ∷ [])))
 
   pub comes : (n : Loans) (b b′ : Lists) → SameLengths b (lists₀ P) → SameLengths b′ b
       → ent 𝓤 (⋆ 𝓤 H A (Returning n b b′)) (H .⇛ (⋆ 𝓤 H A (Buffers b′)))
   comes n b b′ e e′ =
-      qed W (Returning n b b′) ∵ updating ! $ swap (token (P .file) ∷ []) (Over n b′) _ $ lft-end ! tt $ move ! (0 ∷ 8 ∷ 3 ∷ []) $
-      use3 W (later (‵ (SliceHeld u32 (P .table) (b′ .table)) ⊛ token (P .table)))
-      (slice-comes w u32 (P .table) (b .table) (e .table) (n .table) (P .table-room) (b′ .table) (e′ .table)) $ await ! tt $ split ! $
-      move ! (2 ∷ []) $ lft-end ! tt $ move ! (0 ∷ 8 ∷ 4 ∷ []) $
-      use3 W (later (‵ (SliceHeld u32 (P .report) (b′ .report)) ⊛ token (P .report)))
-      (slice-comes w u32 (P .report) (b .report) (e .report) (n .report) (P .report-room) (b′ .report) (e′ .report)) $
-      await ! tt $ split ! $
-      move ! (4 ∷ []) $ lft-end ! tt $ move ! (0 ∷ 8 ∷ 5 ∷ []) $
-      use3 W (later (‵ (SliceHeld u32 (P .linearization) (b′ .linearization)) ⊛ token (P .linearization)))
-      (slice-comes w u32 (P .linearization) (b .linearization) (e .linearization) (n .linearization) (P .linearization-room)
-      (b′ .linearization) (e′ .linearization)) $ await ! tt $ split ! $
-      -- [the slices and their tokens, from the last; the file's token; the file]
-      at-once ! $ move ! (7 ∷ 6 ∷ 4 ∷ 5 ∷ 2 ∷ 3 ∷ 0 ∷ 1 ∷ []) $ done !
+      qed W (Returning n b b′) ∵ updating ! $
+      cut (Returning n b b′) (chain (Tokens n) ∷ chain (Finals n b′) ∷ chain (‵ (FileHeld P) ∷ Kept n b) ∷ []) []
+      (parted w (Tokens n ∷ Finals n b′ ∷ (‵ (FileHeld P) ∷ Kept n b) ∷ [])) $
+      split ! $ move ! (3 ∷ []) $ split ! $ move ! (3 ∷ 4 ∷ 1 ∷ []) $
+      -- [the loans' tokens; the last lists; what is kept; the file; its token]
+      use3 W (later (chain (Back b′)))
+      (each.comes-all w (slices P) (loaned P n) (listed P b) (listed P b′) (same P e) (same P e′)) $ await ! tt $
+      cut (chain (Back b′) ∷ []) (Back b′) _ (unchains w (Back b′)) $ swap (Back b′) (‵ (FileHeld P) ∷ token (P .file) ∷ []) [] $
+      at-once ! $ done !
 
-  pub over : (own : Fml) (n : Loans) (b b′ : Lists) → ent 𝓤 (⋆ 𝓤 H A ((chain (Tokens n) ⊛ ‵ own) ∷ ‵ (Lasts n b b′) ∷ []))
+  pub over : (own : Fml) (n : Loans) (b b′ : Lists) → ent 𝓤 (⋆ 𝓤 H A ((chain (Tokens n) ⊛ ‵ own) ∷ ‵ (Lasts P n b b′) ∷ []))
       (guard 𝓤 (SameLengths b′ b) (⋆ 𝓤 H A (Left own n b′)))
   over own n b b′ =
-      qed W ((chain (Tokens n) ⊛ ‵ own) ∷ ‵ (Lasts n b b′) ∷ []) ∵ move ! (1 ∷ []) $
-      fsplit ! $ fsplit ! $ move ! (1 ∷ []) $ feqL ! (λ table. move ! (1 ∷ []) $ fsplit ! $ fsplit ! $ move ! (1 ∷ []) $
-      feqL ! (λ report. move ! (1 ∷ []) $ fsplit ! $ fsplit ! $ move ! (1 ∷ []) $ feqL ! (λ linearization.
-      -- [true and the last lists, from the last; the tokens and the result]
-      move ! (4 ∷ []) $ split ! $ split ! $ move ! (1 ∷ []) $ split ! $ move ! (1 ∷ []) $ split ! $ move ! (1 ∷ []) $ split ! $
-      check ! (record { table = table; report = report; linearization = linearization }) $
-      keep ! (5 ∷ 4 ∷ 3 ∷ 2 ∷ 0 ∷ 9 ∷ 8 ∷ 6 ∷ []) $ done !)))
+      qed W ((chain (Tokens n) ⊛ ‵ own) ∷ ‵ (Lasts P n b b′) ∷ []) ∵ flip ! $
+      use1 W (given (each.Same (slices P) (listed P b′) (listed P b)) (chain (Finals n b′)))
+      (each.over-all w (slices P) (loaned P n) (listed P b) (listed P b′)) $ learn ! (λ e. check ! (named-same P e) $
+      flip ! $ split ! $ flip ! $ frame ! $ by ! (unparted w (Tokens n ∷ Finals n b′ ∷ [])))
