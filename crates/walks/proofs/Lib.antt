@@ -2,6 +2,9 @@
 pub mod Setting
 pub mod Carried
 pub mod Again
+pub mod Stored
+pub mod Copied
+pub mod Shared
 pub mod Context
 pub mod Frame
 pub mod Places

@@ -6,7 +6,7 @@
 --   full, room, fields, Typed       the cell of local i as the code finds it: with a value, empty, of a struct; a value of its type
 --   copied, copied-field, also      an operand: a local, a field of one; one operand more, a local
 --   behind, behind-slice, slice-of  what a reference in a local points at, or a slice; a slice lent on
---   assigned, landed, replaced, landed-last   a statement or a call stores in a local
+--   assigned, landed, replaced, -last   a statement or a call stores in a local
 --   argument, answered              an argument is stored in its parameter; the answer is read
 --   forgets                         the locals from k on, which hold vs, are not needed any more
 --
@@ -28,7 +28,7 @@ use prog.Wp.{Heap, Env, Calls, Loops, spotOf, next}
 use ghost.Atoms.{Atoms}
 use types.Kit.{Given, Item, Goal, Post, Step, step, _$_, ‵, post, prop, runs, lands, settles, passes, nth, put}
 use types.Run.{Reads, Finds, Opd, Opds, Rv, look, init, store, forget, load, from, stop, hop, fld, and-then, no-more, assigns}
-use types.Run.{land, land-last, pass1}
+use types.Run.{assigns-last, land, land-last, pass1}
 use types.Part.{Part, agg, whole, sub, look-in}
 
 abbrev size : {M : Type 1} {𝓤 : URA M} → List (Item 𝓤) → ℕ
@@ -118,6 +118,14 @@ module _ {M : Type 1} {𝓤 : URA M} {H : Heap 𝓤} {A : Atoms 𝓤} {K : Type 
         → Step K W (with 𝓤 H A Γ i (full 𝓤 H E i fullShare u)) (runs C Λ E rest q) Γ (lands C Λ E (place i []) v rest q)
     replaced t is e ty = subst (λ (x : Val). Step K W (with 𝓤 H A Γ i (full 𝓤 H E i fullShare x)) (runs C Λ E rest q) Γ
         (lands C Λ E (place i []) v rest q)) is (land t (from t (stop t)) (store t (local-at Γ i) e ty))
+
+  -- the last statement of a turn stores in place of what a local holds
+  pub replaced-last : K → {C : Calls 𝓤 H} {Λ : Loops 𝓤 H} {q : Post 𝓤 H} {i : ℕ} {rv : RValue} {v u v₀ : Val} → Rv K W Γ E rv v → v ≡ u
+      → there 𝓤 H A Γ i ≡ full 𝓤 H E i fullShare v₀ → Typed 𝓤 H E i v
+      → Step K W (with 𝓤 H A Γ i (full 𝓤 H E i fullShare u)) (prop (post 𝓤 H q next)) Γ (runs C Λ E (assign (place i []) rv) q)
+  replaced-last t {C} {Λ} {q} {i} {rv} r is e ty =
+      subst (λ (x : Val). Step K W (with 𝓤 H A Γ i (full 𝓤 H E i fullShare x)) (prop (post 𝓤 H q next)) Γ
+      (runs C Λ E (assign (place i []) rv) q)) is (assigns-last t r (from t (stop t)) (store t (local-at Γ i) e ty))
 
   -- the last statement of a turn is a call
   pub landed-last : K → {q : Post 𝓤 H} {i : ℕ} {v : Val} → there 𝓤 H A Γ i ≡ room 𝓤 H E i → Typed 𝓤 H E i v

@@ -120,9 +120,6 @@ module _ (w : Setting) (P : Parameters) where
   abbrev pub Passed : Loans → Lists → List (Item 𝓤)
   Passed n b = Tokens n ++ ‵ (FileHeld P) ∷ Slices n b
 
-  abbrev pub Passed : Loans → Lists → List (Item 𝓤)
-  Passed n b = Tokens n ++ ‵ (FileHeld P) ∷ Slices n b
-
   abbrev pub Kept : Loans → Lists → List (Item 𝓤)
   Kept n b = each.Kepts (slices P) (loaned P n) (listed P b)
 
