@@ -24,8 +24,7 @@ use Rattle.page.specs.Written.{rowsTo, rowsAfter, pageAfter, AllFitting}
 -- ---- lengths
 
 column-length : (text : List ℕ) → length text ≤ 8 → length (rightAligned text) ≡ 8
-column-length text l =
-    omega (arith, length-append (replicate (8 - length text) 32) text, length-replicate {A = ℕ} (8 - length text) 32)
+column-length text l = simp (length-append, length-replicate) (omega arith)
 
 number-length : (n : ℕ) → n < 10 ^ 8 → length (rightAligned (decimal n)) ≡ 8
 number-length n l = column-length (decimal n) (digits-most 7 n l)
