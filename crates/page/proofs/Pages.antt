@@ -3,13 +3,12 @@
 -- Main laws: lines-to-length, how long a page is by its rows; rows-start, rows-next and rows-done, page-start, page-next and
 -- page-done: a loop leaves what it wrote, and then what was there.
 use mathlib.Core.Path.{_≡_, refl, sym, ap, _∙_}
-use mathlib.Core.Bool.{Bool, true, false}
-use mathlib.Core.List.{List, [], _∷_, _++_, map}
-use Prim.Native.Nat.{ℕ, zero, suc, _+_, _-_, _*_, _/_, _%_, _^_, _≤_, _<_}
+use mathlib.Core.List.{List, [], _∷_, _++_}
+use Prim.Native.Nat.{ℕ, zero, suc, _+_, _-_, _%_, _^_, _≤_, _<_}
 use native.Mathlib.Omega.{arith}
 use native.Mathlib.Decide.{ℕ-discrete}
 use lib.Dec.{eqb}
-use lib.ListN.{length, getD, set, drop, replicate, length-append, length-replicate, length-drop, List·getD-append}
+use lib.ListN.{length, getD, set, drop, length-append, length-replicate, length-drop, List·getD-append}
 use lib.Seq.{sets, sets-eq, length-sets, drop-cons, set-at, getD-at, append-snoc, ext-getD}
 use borrow.Author.Tests.{eqb-true, eqb-false}
 use Rattle.basics.proofs.Conditions.{split}
@@ -17,9 +16,9 @@ use Rattle.text.specs.Text.{decimal, each}
 use Rattle.text.proofs.Text.{digits-most}
 use Rattle.text.proofs.Writing.{sets-append}
 use Rattle.page.specs.declared.Row.{Row}
-use Rattle.page.specs.Rows.{noRow, rowAt, Numbered}
-use Rattle.page.specs.Page.{rightAligned, columns, heading, rowLine, rowLines, linesTo, Fitting, pageLength}
-use Rattle.page.specs.Written.{rowsTo, rowsAfter, pageAfter, AllFitting}
+use Rattle.page.specs.Rows.{noRow, rowOf, Numbered}
+use Rattle.page.specs.Page.{rightAligned, columns, heading, rowLine, rowLines, linesTo}
+use Rattle.page.specs.Written.{Fitting, pageLength, rowsTo, rowsAfter, pageAfter, AllFitting}
 
 -- ---- lengths
 
@@ -115,33 +114,33 @@ lines-same rows others (suc n) same =
 module _ (numbers : List ℕ) where
   rows-to-length : (n : ℕ) → length (rowsTo numbers n) ≡ n
   rows-to-length zero = refl
-  rows-to-length (suc n) = omega (arith, length-append (rowsTo numbers n) (rowAt numbers n ∷ []), rows-to-length n)
+  rows-to-length (suc n) = omega (arith, length-append (rowsTo numbers n) (rowOf numbers n ∷ []), rows-to-length n)
 
-  rows-to-at : (n k : ℕ) → k < n → getD (rowsTo numbers n) k noRow ≡ rowAt numbers k
+  rows-to-at : (n k : ℕ) → k < n → getD (rowsTo numbers n) k noRow ≡ rowOf numbers k
   rows-to-at zero k l = absurd (omega arith)
   rows-to-at (suc n) k l = go (ℕ-discrete k n) (λ h. rows-to-at n k h)
     where
-      go : Dec (k ≡ n) → (k < n → getD (rowsTo numbers n) k noRow ≡ rowAt numbers k)
-          → getD (rowsTo numbers n ++ (rowAt numbers n ∷ [])) k noRow ≡ rowAt numbers k
-      go (yes e) below = rw e (getD-at (rowsTo numbers n) (rowAt numbers n) [] noRow n (rows-to-length n))
+      go : Dec (k ≡ n) → (k < n → getD (rowsTo numbers n) k noRow ≡ rowOf numbers k)
+          → getD (rowsTo numbers n ++ (rowOf numbers n ∷ [])) k noRow ≡ rowOf numbers k
+      go (yes e) below = rw e (getD-at (rowsTo numbers n) (rowOf numbers n) [] noRow n (rows-to-length n))
       go (no d) below =
           let within : k < n = omega arith in
-          List·getD-append (rowsTo numbers n) (rowAt numbers n ∷ []) noRow k (omega (arith, rows-to-length n)) ∙ below within
+          List·getD-append (rowsTo numbers n) (rowOf numbers n ∷ []) noRow k (omega (arith, rows-to-length n)) ∙ below within
 
   module _ (rows : List Row) where
     pub rows-start : rowsAfter numbers rows 0 ≡ rows
     rows-start = refl
 
-    pub rows-next : (i : ℕ) → i < length rows → set (rowsAfter numbers rows i) i (rowAt numbers i) ≡ rowsAfter numbers rows (suc i)
+    pub rows-next : (i : ℕ) → i < length rows → set (rowsAfter numbers rows i) i (rowOf numbers i) ≡ rowsAfter numbers rows (suc i)
     rows-next i l =
         rw (drop-cons rows i noRow l)
-        (set-at (rowsTo numbers i) (getD rows i noRow) (drop (suc i) rows) (rowAt numbers i) i (rows-to-length i)
-        ∙ sym (append-snoc (rowsTo numbers i) (rowAt numbers i) (drop (suc i) rows)))
+        (set-at (rowsTo numbers i) (getD rows i noRow) (drop (suc i) rows) (rowOf numbers i) i (rows-to-length i)
+        ∙ sym (append-snoc (rowsTo numbers i) (rowOf numbers i) (drop (suc i) rows)))
 
     pub rows-size : (i : ℕ) → i ≤ length rows → length (rowsAfter numbers rows i) ≡ length rows
     rows-size i l = omega (arith, length-append (rowsTo numbers i) (drop i rows), rows-to-length i, length-drop i rows)
 
-    pub rows-read : (n k : ℕ) → k < n → getD (rowsAfter numbers rows n) k noRow ≡ rowAt numbers k
+    pub rows-read : (n k : ℕ) → k < n → getD (rowsAfter numbers rows n) k noRow ≡ rowOf numbers k
     rows-read n k l =
         List·getD-append (rowsTo numbers n) (drop n rows) noRow k (omega (arith, rows-to-length n)) ∙ rows-to-at n k l
 
