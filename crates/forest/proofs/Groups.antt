@@ -2,14 +2,14 @@
 --
 --   Leading n p root   `root` gives the root that each of n places leads to by the parents p
 --   weigh root w m r   the weight w of r if one of the places below m has the root r, else 0
---   RowOf root n i     which of the lowest places of n places has the root of place i
+--   LowestOf root n i  which of the lowest places of n places has the root of place i
 --
 -- Main laws: within-leads; lowest-row and lowest-one, a place's root is the root of exactly one lowest place; lowest-count,
 -- the lowest places are as many as the roots; lowest-sizes, the sizes of their groups add up to the place count.
 use mathlib.Core.Path.{_≡_, refl, sym, ap, _∙_}
 use mathlib.Core.Logic.{_≢_}
-use mathlib.Core.Bool.{Bool, true, false, cond}
-use mathlib.Core.List.{List, [], _∷_, _++_, map, map-append}
+use mathlib.Core.Bool.{true, false, cond}
+use mathlib.Core.List.{[], _∷_, _++_, map, map-append}
 use Prim.Native.Nat.{ℕ, zero, suc, _+_, _*_, _≤_, _<_}
 use native.Mathlib.Omega.{arith}
 use native.Mathlib.Decide.{ℕ-discrete, decLt}
@@ -24,7 +24,7 @@ use Rattle.basics.proofs.Sums.{sum-next, sum-ones, sumTo-same, sumTo-more, sumT
 use Rattle.word.specs.Word.{key, nodeLimit}
 use Rattle.forest.specs.Forest.{rootCount, Leads, root as ends, up}
 use Rattle.forest.specs.Groups.{rootWithin, size, isLowest, lowestPlaces}
-use Rattle.forest.proofs.Forest.{WellFormed, leads-root, leads-unique, leads-inside}
+use Rattle.forest.proofs.Forest.{WellFormed, leads-root, leads-unique}
 
 -- ---- the plain walk
 
@@ -67,7 +67,7 @@ module _ (root : ℕ → ℕ) (m r : ℕ) where
 
 -- ---- the lowest places
 
-pub record RowOf (root : ℕ → ℕ) (n i : ℕ) : Type 0 where
+pub record LowestOf (root : ℕ → ℕ) (n i : ℕ) : Type 0 where
   pub row : ℕ
   pub inside : row < length (lowestPlaces root n)
   pub same : root (getD (lowestPlaces root n) row 0) ≡ root i
@@ -138,7 +138,7 @@ module _ (root : ℕ → ℕ) where
       (λ e. rw e (lowest-rising m j k h (rw (lowest-out m e) at l)))
 
   -- a place's root is the root of one of them: of the place itself, or of one below it
-  row-next : (m i : ℕ) → RowOf root m i → RowOf root (suc m) i
+  row-next : (m i : ℕ) → LowestOf root m i → LowestOf root (suc m) i
   row-next m i found =
       split (isLowest root m)
       (λ e.
@@ -150,11 +150,11 @@ module _ (root : ℕ → ℕ) where
       })
       (λ e. record { row = found .row; inside = rw e (found .inside); same = rw e (found .same) })
 
-  pub lowest-row : (m i : ℕ) → i < m → RowOf root m i
+  pub lowest-row : (m i : ℕ) → i < m → LowestOf root m i
   lowest-row zero i l = absurd (omega arith)
   lowest-row (suc m) i l = go (ℕ-discrete i m) (λ j k. lowest-row m j k)
     where
-      go : Dec (i ≡ m) → ((j : ℕ) → j < m → RowOf root m j) → RowOf root (suc m) i
+      go : Dec (i ≡ m) → ((j : ℕ) → j < m → LowestOf root m j) → LowestOf root (suc m) i
       go (no d) below = row-next m i (below i (omega arith))
       go (yes d) below =
           split (isLowest root m)

@@ -1,7 +1,6 @@
 -- The table of cases holds of the definition, by computation.
 use mathlib.Core.Path.{_≡_, refl}
 use mathlib.Core.List.{[], _∷_, _++_, map}
-use lib.ListN.{replicate}
 use Rattle.word.specs.Word.{rankOf, parentOf}
 use Rattle.forest.specs.Groups.{size}
 use Rattle.table.specs.Groups.{rootIn}

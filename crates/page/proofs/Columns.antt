@@ -14,7 +14,8 @@ use Rattle.text.specs.Text.{decimal}
 use Rattle.text.specs.Writing.{lastPosition, Wrote}
 use Rattle.text.proofs.Writing.{wrote-nothing, wrote-append}
 use Rattle.page.specs.declared.Row.{Row}
-use Rattle.page.specs.Page.{rightAligned, columns, heading, rowLine, rowLines, pageLength}
+use Rattle.page.specs.Page.{rightAligned, columns, heading, rowLine, rowLines}
+use Rattle.page.specs.Written.{pageLength}
 
 -- ---- a column
 

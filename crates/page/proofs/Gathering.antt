@@ -3,20 +3,18 @@
 --   Gathering t n i groups   i of the n places are gathered
 use mathlib.Core.Path.{_≡_, refl, sym, ap, _∙_}
 use mathlib.Core.Logic.{_≢_}
-use mathlib.Core.Bool.{true, false}
-use mathlib.Core.List.{List, [], _∷_, _++_, map, map-append}
-use Prim.Native.Nat.{ℕ, suc, _+_, _≤_, _<_}
+use mathlib.Core.List.{List, [], _∷_, _++_, map-append}
+use Prim.Native.Nat.{ℕ, _+_, _≤_, _<_}
 use native.Mathlib.Numerals.{add-one}
 use native.Mathlib.Omega.{arith}
 use native.Mathlib.Decide.{ℕ-discrete}
-use lib.Dec.{eqb}
-use lib.ListN.{length, getD, set, take, replicate, length-append, length-set, length-replicate, getD-replicate}
+use lib.ListN.{length, getD, set, replicate, length-append, length-set, length-replicate, getD-replicate}
 use lib.Seq.{take-suc-set, getD-set-same, getD-set-other}
 use borrow.Author.Tests.{eq-eqb, ne-eqb}
 use Rattle.word.specs.declared.Node.{Node}
 use Rattle.job.specs.Job.{mostNodes}
 use Rattle.forest.specs.Forest.{Leads}
-use Rattle.forest.specs.Groups.{size, isLowest, lowestPlaces}
+use Rattle.forest.specs.Groups.{size, lowestPlaces}
 use Rattle.forest.proofs.Size.{size-le}
 use Rattle.forest.proofs.Groups.{size-in, size-out, lowest-in, lowest-out, lowest-few}
 use Rattle.rules.specs.Table.{parent}

@@ -16,7 +16,7 @@ use Rattle.rules.specs.Table.{parent}
 use Rattle.table.specs.Admitted.{Admitted}
 use Rattle.table.specs.Groups.{rootIn}
 use Rattle.table.proofs.Groups.{admitted-leading}
-use Rattle.page.specs.Rows.{noRow, rowOf, groupRows}
+use Rattle.page.specs.Rows.{noRow, groupRow, groupRows}
 use Rattle.page.specs.Page.{pageOf}
 use Rattle.page.specs.Grouped.{RowOf, Grouped}
 use Rattle.page.proofs.Rows.{rows-length, rows-at}
@@ -32,7 +32,7 @@ module _ (t : List Node) (admitted : Admitted (length t) t) where
   place k = getD (lowestPlaces (rootIn t) (length t)) k 0
 
   module _ (k : ℕ) (l : k < length (groupRows t)) where
-    row : getD (groupRows t) k noRow ≡ rowOf t (place k)
+    row : getD (groupRows t) k noRow ≡ groupRow t (place k)
     row = rows-at t k l
 
     within : k < length (lowestPlaces (rootIn t) (length t))
@@ -98,7 +98,7 @@ module _ (t : List Node) (admitted : Admitted (length t) t) where
         row = one-row;
         count = rows-length t ∙ groups.lowest-count leading;
         sizes =
-            ap sum (map-map (λ r. r .size) (rowOf t) (lowestPlaces (rootIn t) (length t)))
+            ap sum (map-map (λ r. r .size) (groupRow t) (lowestPlaces (rootIn t) (length t)))
             ∙ groups.lowest-sizes (rootIn t) (length t) (leading .inside);
         page = ruled-lines (groupRows t) (length (groupRows t)) (rows-fitting admitted);
       }

@@ -1,20 +1,20 @@
 -- The two loops that write: rows from their numbers, and a page from rows whose numbers fit their columns.
 --
+--   Fitting r                  the numbers of the row r fit their columns
+--   AllFitting rows n          so do those of the first n rows
 --   rowsTo numbers n           the first n rows of the numbers
 --   rowsAfter numbers rows n   the lent rows once n of them are written
 --   pageAfter rows page n      the lent page once the lines of n rows are written
---   AllFitting rows n          the numbers of the first n rows fit their columns
 --
 -- Main laws: lines-to-length, how long a page is by its rows; rows-start, rows-next and rows-done, page-start, page-next and
 -- page-done: a loop leaves what it wrote, and then what was there.
 use mathlib.Core.Path.{_≡_, refl, sym, ap, _∙_}
-use mathlib.Core.Bool.{Bool, true, false}
-use mathlib.Core.List.{List, [], _∷_, _++_, map}
-use Prim.Native.Nat.{ℕ, zero, suc, _+_, _-_, _*_, _/_, _%_, _^_, _≤_, _<_}
+use mathlib.Core.List.{List, [], _∷_, _++_}
+use Prim.Native.Nat.{ℕ, zero, suc, _+_, _-_, _%_, _^_, _≤_, _<_}
 use native.Mathlib.Omega.{arith}
 use native.Mathlib.Decide.{ℕ-discrete}
 use lib.Dec.{eqb}
-use lib.ListN.{length, getD, set, drop, replicate, length-append, length-replicate, length-drop, List·getD-append}
+use lib.ListN.{length, getD, set, drop, length-append, length-replicate, length-drop, List·getD-append}
 use lib.Seq.{sets, sets-eq, length-sets, drop-cons, set-at, getD-at, append-snoc, ext-getD}
 use borrow.Author.Tests.{eqb-true, eqb-false}
 use Rattle.basics.proofs.Conditions.{split}
@@ -22,13 +22,23 @@ use Rattle.text.specs.Text.{decimal, each}
 use Rattle.text.proofs.Text.{digits-most}
 use Rattle.text.proofs.Writing.{sets-append}
 use Rattle.page.specs.declared.Row.{Row}
-use Rattle.page.specs.Rows.{noRow, rowAt, Numbered}
-use Rattle.page.specs.Page.{rightAligned, columns, heading, rowLine, rowLines, linesTo, Fitting, pageLength}
-use Rattle.page.specs.Written.{filled, lined}
+use Rattle.page.specs.Rows.{noRow, rowOf, Numbered}
+use Rattle.page.specs.Page.{rightAligned, columns, heading, rowLine, rowLines, linesTo}
+use Rattle.page.specs.Written.{pageLength, filled, lined}
+
+-- every row of a table has numbers of at most 8 digits
+pub record Fitting (r : Row) : Type 0 where
+  pub lowest : r .lowest < 10 ^ 8
+  pub size : r .size < 10 ^ 8
+  pub root : r .root < 10 ^ 8
+  pub rank : r .rank < 10 ^ 8
+
+abbrev pub AllFitting : List Row → ℕ → Type 0
+AllFitting rows n = (k : ℕ) → k < n → Fitting (getD rows k noRow)
 
 abbrev pub rowsTo : List ℕ → ℕ → List Row
 rowsTo numbers zero = []
-rowsTo numbers (suc n) = rowsTo numbers n ++ (rowAt numbers n ∷ [])
+rowsTo numbers (suc n) = rowsTo numbers n ++ (rowOf numbers n ∷ [])
 
 abbrev pub rowsAfter : List ℕ → List Row → ℕ → List Row
 rowsAfter numbers rows n = rowsTo numbers n ++ drop n rows
@@ -36,14 +46,10 @@ rowsAfter numbers rows n = rowsTo numbers n ++ drop n rows
 unfoldable pub pageAfter : List Row → List ℕ → ℕ → List ℕ
 pageAfter rows page n = sets page 0 (linesTo rows n)
 
-abbrev pub AllFitting : List Row → ℕ → Type 0
-AllFitting rows n = (k : ℕ) → k < n → Fitting (getD rows k noRow)
-
 -- ---- lengths
 
 column-length : (text : List ℕ) → length text ≤ 8 → length (rightAligned text) ≡ 8
-column-length text l =
-    omega (arith, length-append (replicate (8 - length text) 32) text, length-replicate {A = ℕ} (8 - length text) 32)
+column-length text l = simp (length-append, length-replicate) (omega arith)
 
 number-length : (n : ℕ) → n < 10 ^ 8 → length (rightAligned (decimal n)) ≡ 8
 number-length n l = column-length (decimal n) (digits-most 7 n l)
@@ -134,33 +140,33 @@ lines-same rows others (suc n) same =
 module _ (numbers : List ℕ) where
   rows-to-length : (n : ℕ) → length (rowsTo numbers n) ≡ n
   rows-to-length zero = refl
-  rows-to-length (suc n) = omega (arith, length-append (rowsTo numbers n) (rowAt numbers n ∷ []), rows-to-length n)
+  rows-to-length (suc n) = omega (arith, length-append (rowsTo numbers n) (rowOf numbers n ∷ []), rows-to-length n)
 
-  rows-to-at : (n k : ℕ) → k < n → getD (rowsTo numbers n) k noRow ≡ rowAt numbers k
+  rows-to-at : (n k : ℕ) → k < n → getD (rowsTo numbers n) k noRow ≡ rowOf numbers k
   rows-to-at zero k l = absurd (omega arith)
   rows-to-at (suc n) k l = go (ℕ-discrete k n) (λ h. rows-to-at n k h)
     where
-      go : Dec (k ≡ n) → (k < n → getD (rowsTo numbers n) k noRow ≡ rowAt numbers k)
-          → getD (rowsTo numbers n ++ (rowAt numbers n ∷ [])) k noRow ≡ rowAt numbers k
-      go (yes e) below = rw e (getD-at (rowsTo numbers n) (rowAt numbers n) [] noRow n (rows-to-length n))
+      go : Dec (k ≡ n) → (k < n → getD (rowsTo numbers n) k noRow ≡ rowOf numbers k)
+          → getD (rowsTo numbers n ++ (rowOf numbers n ∷ [])) k noRow ≡ rowOf numbers k
+      go (yes e) below = rw e (getD-at (rowsTo numbers n) (rowOf numbers n) [] noRow n (rows-to-length n))
       go (no d) below =
           let within : k < n = omega arith in
-          List·getD-append (rowsTo numbers n) (rowAt numbers n ∷ []) noRow k (omega (arith, rows-to-length n)) ∙ below within
+          List·getD-append (rowsTo numbers n) (rowOf numbers n ∷ []) noRow k (omega (arith, rows-to-length n)) ∙ below within
 
   module _ (rows : List Row) where
     pub rows-start : rowsAfter numbers rows 0 ≡ rows
     rows-start = refl
 
-    pub rows-next : (i : ℕ) → i < length rows → set (rowsAfter numbers rows i) i (rowAt numbers i) ≡ rowsAfter numbers rows (suc i)
+    pub rows-next : (i : ℕ) → i < length rows → set (rowsAfter numbers rows i) i (rowOf numbers i) ≡ rowsAfter numbers rows (suc i)
     rows-next i l =
         rw (drop-cons rows i noRow l)
-        (set-at (rowsTo numbers i) (getD rows i noRow) (drop (suc i) rows) (rowAt numbers i) i (rows-to-length i)
-        ∙ sym (append-snoc (rowsTo numbers i) (rowAt numbers i) (drop (suc i) rows)))
+        (set-at (rowsTo numbers i) (getD rows i noRow) (drop (suc i) rows) (rowOf numbers i) i (rows-to-length i)
+        ∙ sym (append-snoc (rowsTo numbers i) (rowOf numbers i) (drop (suc i) rows)))
 
     pub rows-size : (i : ℕ) → i ≤ length rows → length (rowsAfter numbers rows i) ≡ length rows
     rows-size i l = omega (arith, length-append (rowsTo numbers i) (drop i rows), rows-to-length i, length-drop i rows)
 
-    pub rows-read : (n k : ℕ) → k < n → getD (rowsAfter numbers rows n) k noRow ≡ rowAt numbers k
+    pub rows-read : (n k : ℕ) → k < n → getD (rowsAfter numbers rows n) k noRow ≡ rowOf numbers k
     rows-read n k l =
         List·getD-append (rowsTo numbers n) (drop n rows) noRow k (omega (arith, rows-to-length n)) ∙ rows-to-at n k l
 
@@ -176,7 +182,7 @@ module _ (numbers : List ℕ) where
 pub filled-after : (numbers : List ℕ) (rows : List Row) (n : ℕ) → n ≤ length rows → filled numbers n rows ≡ rowsAfter numbers rows n
 filled-after numbers rows zero l = refl
 filled-after numbers rows (suc n) l =
-    ap (λ (after : List Row). set after n (rowAt numbers n)) (filled-after numbers rows n (omega arith)) ∙ rows-next numbers rows n l
+    ap (λ (after : List Row). set after n (rowOf numbers n)) (filled-after numbers rows n (omega arith)) ∙ rows-next numbers rows n l
 
 pub lined-after : (rows : List Row) (page : List ℕ) (n : ℕ) → AllFitting rows n → lined rows n page ≡ pageAfter rows page n
 lined-after rows page zero f = sym (page-start rows page)

@@ -6,7 +6,7 @@
 -- Main laws: paged, the outcome; paged-grouped, what holds of the rows; paged-room, paged-few and paged-fitting, what the two
 -- loops rely on.
 use mathlib.Core.Path.{_≡_, refl, sym, ap, _∙_}
-use mathlib.Core.Bool.{Bool, true, false, cond}
+use mathlib.Core.Bool.{true, false}
 use mathlib.Core.List.{List, _++_, map}
 use Prim.Native.Nat.{ℕ, _≤_, _<_}
 use native.Mathlib.Omega.{arith}
@@ -24,7 +24,7 @@ use Rattle.page.specs.declared.Row.{Row}
 use Rattle.page.specs.declared.Paged.{Paged}
 use Rattle.page.specs.declared.plan.Plan.{Plan}
 use Rattle.page.specs.Rows.{noRow, groupRows, Numbered}
-use Rattle.page.specs.Page.{linesTo, pageOf, pageRefusal, writtenAnswer, refusedAnswer, Outcome, pagedOf}
+use Rattle.page.specs.Page.{linesTo, pageOf, pageRefusal, writtenAnswer, refusedAnswer, pagedOf}
 use Rattle.page.specs.Grouped.{GroupedHere}
 use Rattle.page.specs.Plan.{answerOf, Planned}
 use Rattle.page.proofs.Pages.{rowsAfter, pageAfter, AllFitting, page-start, page-done, lines-same, rows-read, rows-done}

@@ -1,5 +1,5 @@
 -- The plan of a call: which refusal its tests tell, and the answer where none does.
-use mathlib.Core.Path.{_≡_, refl, sym, ap, _∙_}
+use mathlib.Core.Path.{_≡_, sym, ap, _∙_}
 use mathlib.Core.Logic.{_≢_}
 use mathlib.Core.List.{List, map}
 use Prim.Native.Nat.{ℕ, _≤_, _<_}
@@ -19,12 +19,13 @@ use Rattle.table.proofs.Groups.{admitted-leading}
 use Rattle.page.specs.declared.Row.{Row}
 use Rattle.page.specs.declared.groups.Groups.{Groups}
 use Rattle.page.specs.declared.plan.Plan.{Plan}
-use Rattle.page.specs.Rows.{noRow, rowOf, groupRows, Numbered}
-use Rattle.page.specs.Page.{pageOf, Fitting, pageLength, pageRefusal, writtenAnswer, refusedAnswer}
+use Rattle.page.specs.Rows.{noRow, groupRow, groupRows, Numbered}
+use Rattle.page.specs.Page.{pageOf, pageRefusal, writtenAnswer, refusedAnswer}
+use Rattle.page.specs.Written.{pageLength}
 use Rattle.page.specs.Gathered.{Gathered}
 use Rattle.page.specs.Plan.{answerOf, Planned}
 use Rattle.page.proofs.Rows.{rows-length, rows-at, groups-few, groups-count}
-use Rattle.page.proofs.Pages.{lines-to-length}
+use Rattle.page.proofs.Pages.{Fitting, lines-to-length}
 
 -- ---- the rows of an admitted table
 
@@ -32,7 +33,7 @@ module _ {n : ℕ} {t : List Node} (admitted : Admitted n t) where
   pub rows-few : length (groupRows t) ≤ mostNodes
   rows-few = omega (arith, rows-length t, lowest-few (rootIn t) (length t), admitted .nodes, admitted .few)
 
-  row-fitting : (i : ℕ) → i < n → Fitting (rowOf t i)
+  row-fitting : (i : ℕ) → i < n → Fitting (groupRow t i)
   row-fitting i l =
       let inside = admitted-leading admitted .inside i l in
       record {

@@ -2,13 +2,12 @@
 --
 --   stored numbers k a b c d   the numbers after the four stores of row k
 --   Numbering rows n k numbers   the numbers of k of the n rows are stored
-use mathlib.Core.Path.{_≡_, refl, sym, ap, _∙_}
-use mathlib.Core.Logic.{_≢_}
+use mathlib.Core.Path.{_≡_, sym, ap, _∙_}
 use mathlib.Core.List.{List, [], _∷_, map}
 use Prim.Native.Nat.{ℕ, suc, _+_, _*_, _≤_, _<_}
 use native.Mathlib.Omega.{arith}
 use native.Mathlib.Decide.{ℕ-discrete}
-use lib.ListN.{length, getD, set, take, replicate, length-set, length-replicate, length-map}
+use lib.ListN.{length, getD, set, replicate, length-set, length-replicate, length-map}
 use lib.Seq.{sets, getD-take}
 use Rattle.basics.proofs.Lists.{getD-mapped, getD-sets-in, getD-sets-below}
 use Rattle.word.specs.declared.Node.{Node}
@@ -23,20 +22,20 @@ use Rattle.table.proofs.Groups.{admitted-leading}
 use Rattle.table.proofs.Words.{rank-decoded}
 use Rattle.page.specs.declared.Row.{Row}
 use Rattle.page.specs.declared.groups.Groups.{Groups}
-use Rattle.page.specs.Rows.{noRow, rowOf, groupRows, rowAt, Numbered}
+use Rattle.page.specs.Rows.{noRow, groupRow, groupRows, rowOf, Numbered}
 use Rattle.page.specs.Gathered.{Gathered}
 
 -- ---- the rows of the groups
 
 pub rows-length : (t : List Node) → length (groupRows t) ≡ length (lowestPlaces (rootIn t) (length t))
 unfolding groupRows
-rows-length t = length-map (lowestPlaces (rootIn t) (length t)) (rowOf t)
+rows-length t = length-map (lowestPlaces (rootIn t) (length t)) (groupRow t)
 
 pub rows-at : (t : List Node) (k : ℕ) → k < length (groupRows t)
-    → getD (groupRows t) k noRow ≡ rowOf t (getD (lowestPlaces (rootIn t) (length t)) k 0)
+    → getD (groupRows t) k noRow ≡ groupRow t (getD (lowestPlaces (rootIn t) (length t)) k 0)
 unfolding groupRows
 rows-at t k l =
-    getD-mapped (rowOf t) (lowestPlaces (rootIn t) (length t)) k 0 noRow (omega (arith, rows-length t))
+    getD-mapped (groupRow t) (lowestPlaces (rootIn t) (length t)) k 0 noRow (omega (arith, rows-length t))
 
 module _ {n : ℕ} {t : List Node} (admitted : Admitted n t) {groups : Groups} (g : Gathered t n groups) where
   pub groups-count : groups .count ≡ length (groupRows t)
@@ -80,7 +79,7 @@ module _ {n : ℕ} {t : List Node} (admitted : Admitted n t) {groups : Groups} (
         }
     unfolding place
     group-row rank′ ranked =
-        let row = rows-at t k (omega (arith, groups-count)) ∙ ap (λ m. rowOf t (getD (lowestPlaces (rootIn t) m) k 0)) (admitted .nodes) in
+        let row = rows-at t k (omega (arith, groups-count)) ∙ ap (λ m. groupRow t (getD (lowestPlaces (rootIn t) m) k 0)) (admitted .nodes) in
         let counted : getD (groups .size) (getD (groups .root) k 0) 0 ≡ size (length t) (rootIn t) (rootIn t place) =
         g .size _ (omega (arith, root-inside, admitted .few))
         ∙ ap (size n (rootIn t)) group-root
@@ -115,7 +114,7 @@ module _ (numbers : List ℕ) (k : ℕ) (room : 4 * k + 4 ≤ length numbers) (a
   stored-at : (j : ℕ) → j < 4 → getD (stored numbers k a b c d) (4 * k + j) 0 ≡ getD (a ∷ b ∷ c ∷ d ∷ []) j 0
   stored-at j l = rw (stored-sets numbers k a b c d) (getD-sets-in (a ∷ b ∷ c ∷ d ∷ []) numbers (4 * k) j 0 l room)
 
-  stored-here : rowAt (stored numbers k a b c d) k ≡ record { lowest = a; size = b; root = c; rank = d }
+  stored-here : rowOf (stored numbers k a b c d) k ≡ record { lowest = a; size = b; root = c; rank = d }
   stored-here =
       let start : 4 * k + 0 ≡ 4 * k = omega arith in
       let first : getD (stored numbers k a b c d) (4 * k) 0 ≡ a = rw start at (stored-at 0 (omega arith)) in
@@ -124,7 +123,7 @@ module _ (numbers : List ℕ) (k : ℕ) (room : 4 * k + 4 ≤ length numbers) (a
       let fourth = stored-at 3 (omega arith) in
       λ i. record { lowest = first i; size = second i; root = third i; rank = fourth i }
 
-  stored-below : (j : ℕ) → j < k → rowAt (stored numbers k a b c d) j ≡ rowAt numbers j
+  stored-below : (j : ℕ) → j < k → rowOf (stored numbers k a b c d) j ≡ rowOf numbers j
   stored-below j l =
       let same : (m : ℕ) → m < 4 * k → getD (sets numbers (4 * k) (a ∷ b ∷ c ∷ d ∷ [])) m 0 ≡ getD numbers m 0 =
       λ m h. getD-sets-below (a ∷ b ∷ c ∷ d ∷ []) numbers (4 * k) m 0 h in
@@ -153,7 +152,7 @@ module _ {rows : List Row} {n k : ℕ} {numbers : List ℕ} (m : Numbering rows 
       fits : 4 * k + 4 ≤ length numbers
       fits = omega (arith, m .sized)
 
-      go : (j : ℕ) → j < k + 1 → Dec (j ≡ k) → rowAt (stored numbers k a b c d) j ≡ getD rows j noRow
+      go : (j : ℕ) → j < k + 1 → Dec (j ≡ k) → rowOf (stored numbers k a b c d) j ≡ getD rows j noRow
       go j l (yes e) = rw e (stored-here numbers k fits a b c d ∙ sym row)
       go j l (no e) = let below : j < k = omega arith in stored-below numbers k fits a b c d j below ∙ m .numbered j below
 

@@ -1,10 +1,10 @@
 -- Pages are ruled: their lines have 32 characters, none of which is a line feed.
 --
 --   isPlain text   the test for a text without a line feed
-use mathlib.Core.Path.{_≡_, refl, sym, ap, _∙_, subst}
+use mathlib.Core.Path.{_≡_, refl, sym, _∙_}
 use mathlib.Core.Bool.{Bool, true, false, cond, true≢false}
-use mathlib.Core.List.{List, [], _∷_, _++_, map, append-assoc, append-nil}
-use Prim.Native.Nat.{ℕ, zero, suc, _+_, _-_, _/_, _%_, _≤_, _<_}
+use mathlib.Core.List.{List, [], _∷_, _++_, map, append-assoc}
+use Prim.Native.Nat.{ℕ, zero, suc, _+_, _-_, _/_, _%_}
 use native.Mathlib.Omega.{arith}
 use lib.Dec.{eqb, ltb}
 use lib.ListN.{length, getD, replicate, length-append}
@@ -13,9 +13,9 @@ use Rattle.basics.proofs.Conditions.{split, cond-both}
 use Rattle.text.specs.Text.{digitsBy, digitsWithin, decimal, each}
 use Rattle.page.specs.declared.Row.{Row}
 use Rattle.page.specs.Rows.{noRow}
-use Rattle.page.specs.Page.{rightAligned, columns, names, heading, rowLine, rowLines, linesTo, Fitting}
+use Rattle.page.specs.Page.{rightAligned, columns, names, heading, rowLine, rowLines, linesTo}
 use Rattle.page.specs.Grouped.{Plain, Ruled, blank, ruled}
-use Rattle.page.proofs.Pages.{AllFitting, row-length}
+use Rattle.page.proofs.Pages.{Fitting, AllFitting, row-length}
 
 -- ---- characters
 

@@ -7,14 +7,12 @@
 --   heading, rowLine r        the line of the names, and of the row r
 --   rowLines i r              the lines of row number i: its own, and a heading before it where one is due
 --   linesTo rows n, pageOf rows   the lines of the first n rows, and of all of them: the page
---   Fitting r                 the numbers of the row r fit their columns
---   pageLength n              the bytes of a page of n rows, which is also where the lines of row n begin
 --   pageRefusal words rows page   the refusal's number for a list of so many rows and a page of so many bytes, 0 for none
 --   Outcome                   the answer, and what both buffers hold at exit
 --   pagedOf words rows page   the outcome for the lent rows and page
 use mathlib.Core.Bool.{cond}
 use mathlib.Core.List.{List, [], _∷_, _++_, map}
-use Prim.Native.Nat.{ℕ, _+_, _-_, _*_, _/_, _%_, _^_, _<_}
+use Prim.Native.Nat.{ℕ, _+_, _-_, _%_}
 use lib.Dec.{eqb, ltb}
 use lib.ListN.{length, getD, drop, replicate}
 use Rattle.word.specs.Word.{decode}
@@ -62,17 +60,6 @@ linesTo rows n = each (λ i. rowLines i (getD rows i noRow)) n
 
 unfoldable pub pageOf : List Row → List ℕ
 pageOf rows = linesTo rows (length rows)
-
--- A row whose numbers have at most 8 digits: every row of a table has.
-pub record Fitting (r : Row) : Type 0 where
-  pub lowest : r .lowest < 10 ^ 8
-  pub size : r .size < 10 ^ 8
-  pub root : r .root < 10 ^ 8
-  pub rank : r .rank < 10 ^ 8
-
--- Lines are 32 characters and a line feed; a heading goes with each twenty rows that are begun.
-abbrev pub pageLength : ℕ → ℕ
-pageLength n = 33 * (n + (n + 19) / 20)
 
 -- The table is checked as an enquiry's is. 17 when the row list is shorter than the groups or the page buffer than the page,
 -- after 15 and 16.

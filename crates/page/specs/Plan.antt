@@ -7,12 +7,11 @@ use mathlib.Core.Bool.{cond}
 use mathlib.Core.List.{List, map}
 use Prim.Native.Nat.{ℕ}
 use lib.Dec.{eqb}
-use lib.ListN.{length}
 use Rattle.word.specs.Word.{decode}
 use Rattle.page.specs.declared.Paged.{Paged}
 use Rattle.page.specs.declared.plan.Plan.{Plan}
 use Rattle.page.specs.Rows.{groupRows, Numbered}
-use Rattle.page.specs.Page.{pageOf, pageRefusal, writtenAnswer, refusedAnswer}
+use Rattle.page.specs.Page.{pageRefusal, writtenAnswer, refusedAnswer}
 
 unfoldable pub answerOf : List ℕ → ℕ → ℕ → Paged
 answerOf words rows page =

@@ -10,7 +10,7 @@ ghost use lib.ListN.{length};
 ghost use Rattle.job.specs.Job.{mostNodes};
 ghost use Rattle.word.specs.Word.{decode};
 ghost use Rattle.table.specs.Admitted.{Admitted};
-ghost use Rattle.page.specs.Rows.{groupRows, rowAt, Numbered};
+ghost use Rattle.page.specs.Rows.{groupRows, rowOf, Numbered};
 ghost use Rattle.page.specs.Gathered.{Gathered};
 
 // Four numbers a row, of at most as many rows as a table has nodes.
@@ -94,7 +94,7 @@ fn wide(number: u16) -> u32
 // Row k of the numbers.
 pub fn row_of(numbers: &Numbers, k: usize) -> Row
     requires { ⌜ k < mostNodes ⌝ }
-    ensures { λ r. ⌜ r ≡ rowAt (now (numbers .entry)) k ⌝ }
+    ensures { λ r. ⌜ r ≡ rowOf (now (numbers .entry)) k ⌝ }
 {
     let at = 4 * k;
     Row {

@@ -11,7 +11,8 @@ ghost use lib.Seq.{sets};
 ghost use Rattle.job.specs.Job.{mostNodes};
 ghost use Rattle.text.specs.Text.{decimal};
 ghost use Rattle.text.specs.Writing.{Wrote};
-ghost use Rattle.page.specs.Page.{rightAligned, columns, rowLine, rowLines, pageLength};
+ghost use Rattle.page.specs.Page.{rightAligned, columns, rowLine, rowLines};
+ghost use Rattle.page.specs.Written.{pageLength};
 
 // How many digits a number has.
 fn digits(n: u32) -> usize

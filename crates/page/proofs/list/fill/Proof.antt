@@ -44,7 +44,7 @@ use denote.Triple.Walked.{AllGo, goes-slice, goes-none-ref, goes-none, Walks, wa
 use denote.Exit.{yes}
 use Rattle.job.specs.Job.{mostNodes}
 use Rattle.page.specs.declared.Row.{Row}
-use Rattle.page.specs.Rows.{rowAt}
+use Rattle.page.specs.Rows.{rowOf}
 use Rattle.walks.proofs.Setting.{Setting, lent, passed, token, needs-both}
 use Rattle.walks.proofs.Carried.{row, typed, sees}
 use Rattle.walks.proofs.Again.{slice-value, SliceHeld}
@@ -120,7 +120,7 @@ module _ (w : Setting) (P : Parameters) where
           use2 W (raw (RowOf w .pre (to-row-of w P k))) (goes-row-of w P k (omega (arith, less, P .most))) $
           calls-at ! fm (RowOf w) (known .row-of) (to-row-of w P k)
           (and-then ! (copied ! refl) (and-then ! (copied ! refl) (no-more !))) (λ v.
-          use1 W (later (such (λ (r : Row). given (r ≡ rowAt (P .numbers .entry) k)
+          use1 W (later (such (λ (r : Row). given (r ≡ rowOf (P .numbers .entry) k)
           (‵ (row row-struct .own r (v ∷ [])) ⊛ token (P .numbers))))) (told-row-of w P k v) $ await ! tt $
           pick ! (λ r. learn ! (λ e. split ! $
           -- [what the row owns; the numbers' token; the numbers; the list and its token; the locals]

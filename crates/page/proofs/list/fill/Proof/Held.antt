@@ -39,7 +39,7 @@ use denote.Triple.Walked.{says, Stays, stay-slice, stay-none-ref, stay-none, wal
 use denote.Exit.{yes}
 use Rattle.job.specs.Job.{mostNodes}
 use Rattle.page.specs.declared.Row.{Row}
-use Rattle.page.specs.Rows.{rowAt}
+use Rattle.page.specs.Rows.{rowOf}
 use Rattle.page.specs.Written.{filled}
 use Rattle.walks.proofs.Setting.{Setting, Lent, passed, token}
 use Rattle.walks.proofs.Carried.{row}
@@ -66,7 +66,7 @@ stayed = (
 
 filled-length : (numbers : List ℕ) (k : ℕ) (rows : List Row) → length (filled numbers k rows) ≡ length rows
 filled-length numbers zero rows = refl
-filled-length numbers (suc k) rows = length-set (filled numbers k rows) k (rowAt numbers k) ∙ filled-length numbers k rows
+filled-length numbers (suc k) rows = length-set (filled numbers k rows) k (rowOf numbers k) ∙ filled-length numbers k rows
 
 -- ---- the parameters
 
@@ -133,7 +133,7 @@ module _ (w : Setting) (P : Parameters) (k : ℕ) where
 
   abbrev Rowed : Val → Row → SProp 𝓤
   Rowed v r =
-      guard 𝓤 (r ≡ rowAt (P .numbers .entry) k)
+      guard 𝓤 (r ≡ rowOf (P .numbers .entry) k)
       (sep 𝓤 (sem 𝓤 H A (row row-struct .own r (v ∷ []))) (A .lft (P .numbers .lifetime) (P .numbers .share)))
 
   pub told-row-of : (v : Val) → ent 𝓤 (RowOf w .post to-row-of v) (H .⇛ (ex 𝓤 (Rowed v)))
@@ -142,9 +142,9 @@ module _ (w : Setting) (P : Parameters) (k : ℕ) where
       use1 W (later (such (λ (r : Row). ((token (P .numbers) ⊛ ‵ ftrue) ⊛ ‵ (row row-struct .own r (v ∷ [])))
       ⊛ raw (ensured 𝓤 H A row-of.ended (row-of.clauses 𝓤 H A at-mem run) (P .numbers .lifetime, tt)
       (passed (P .numbers), (k, tt)) tt r)))) (id⊢ 𝓤 _) $ await ! tt $ pick ! (λ r. split ! $ move ! (1 ∷ []) $
-      use1 W (raw (fact 𝓤 (r ≡ rowAt (P .numbers .entry) k)))
+      use1 W (raw (fact 𝓤 (r ≡ rowOf (P .numbers .entry) k)))
       (exE 𝓤 _ (λ ws. snd∗ 𝓤 (sem 𝓤 H A (lasts row-of.ended (P .numbers .lifetime, tt) (passed (P .numbers), (k, tt)) ws)) _)) $
-      heard ! (r ≡ rowAt (P .numbers .entry) k) (λ e. split ! $ split ! $ at-once ! $ show ! (Rowed v) r $ check ! e $
+      heard ! (r ≡ rowOf (P .numbers .entry) k) (λ e. split ! $ split ! $ at-once ! $ show ! (Rowed v) r $ check ! e $
       keep ! (2 ∷ 0 ∷ []) $ done !))
 
 -- ---- the exit

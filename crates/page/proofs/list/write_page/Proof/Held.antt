@@ -36,8 +36,8 @@ use denote.Triple.Walked.{says}
 use Rattle.job.specs.Job.{mostNodes}
 use Rattle.page.specs.declared.Row.{Row}
 use Rattle.page.specs.Rows.{noRow}
-use Rattle.page.specs.Page.{pageLength, rowLines}
-use Rattle.page.specs.Written.{lined}
+use Rattle.page.specs.Page.{rowLines}
+use Rattle.page.specs.Written.{pageLength, lined}
 use Rattle.walks.proofs.Setting.{Setting, Lent, at-name, passed, Loan, loan, token, loan-token}
 use Rattle.walks.proofs.Carried.{row, value, IsValue, makes}
 use Rattle.walks.proofs.Again.{slice-value, SliceHeld, SliceLent, SliceKept}

@@ -42,7 +42,8 @@ use denote.Triple.Walked.{says, Stays, stay-slice, stay-none-slice, stay-none, w
 use denote.Exit.{yes}
 use Rattle.job.specs.Job.{mostNodes}
 use Rattle.page.specs.Rows.{noRow}
-use Rattle.page.specs.Page.{pageLength, rowLines}
+use Rattle.page.specs.Page.{rowLines}
+use Rattle.page.specs.Written.{pageLength}
 use Rattle.walks.proofs.Setting.{Setting, loan, token}
 use Rattle.walks.proofs.Carried.{row, typed}
 use Rattle.walks.proofs.Again.{slice-value, SliceHeld, slice-lends, slice-comes}
