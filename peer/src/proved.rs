@@ -3,13 +3,16 @@
 use grouping_core as core;
 
 use crate::job::Written;
+// The library has no group page yet: this crate's stands in.
+use crate::page::page;
 use crate::play::{Played, Tally};
 use crate::player::{Outcome, Player, AMPLE};
 use crate::query::Queried;
 
-pub const CORE: Player = Player { name: "core", play, write, query, list };
+pub const CORE: Player = Player { name: "core", play, write, query, list, page };
 /// The core with a tally lent to it.
-pub const LENT: Player = Player { name: "core, tally lent", play: play_lent, write, query, list };
+pub const LENT: Player =
+    Player { name: "core, tally lent", play: play_lent, write, query, list, page };
 
 /// What stands in a lent tally before the call.
 const BEFORE: core::Tally = core::Tally {
