@@ -1,6 +1,6 @@
 /* Every call of the core once: writes the job that docs/JOBFILE.md shows byte by byte, plays it, plays it again on a
- * lent tally, makes an enquiry on the table that it leaves, and prints the listing. A wrong result ends it with the
- * number of its check. */
+ * lent tally, prints the listing and the page of its groups, and makes an enquiry on the table that it leaves. A wrong
+ * result ends it with the number of its check. */
 #include "grouping.h"
 
 #include <stdio.h>
@@ -29,6 +29,8 @@ static uint32_t table[GROUPING_MOST_TABLE];
 static uint32_t report[GROUPING_MOST_REPORT];
 static uint32_t lineup[GROUPING_MOST_LINEUP];
 static uint8_t text[GROUPING_MOST_LISTING];
+static struct grouping_row rows[GROUPING_MOST_ROWS];
+static uint8_t page[GROUPING_MOST_PAGE];
 
 int main(void) {
     struct grouping_written written = grouping_write(
@@ -57,12 +59,19 @@ int main(void) {
         return 4;
     }
 
-    /* Place 2's parent is 3: six grants tell so, and five are too few. The table's length is its number of places. */
+    /* Three groups: the places 0 and 1 alone, and 2 with 3, its root. The table's length is its number of places. */
+    struct grouping_paged paged = grouping_page(table, again.places, rows, GROUPING_MOST_ROWS, page, sizeof page);
+    if (paged.number != GROUPING_ACCEPTED || paged.rows != 3 || rows[2].lowest != 2 || rows[2].size != 2 ||
+        rows[2].root != 3 || rows[2].rank != 1 || fwrite(page, 1, paged.bytes, stdout) != paged.bytes) {
+        return 5;
+    }
+
+    /* Place 2's parent is 3: six grants tell so, and five are too few. */
     struct grouping_queried spent = grouping_query(table, again.places, 2, 3, 5);
     struct grouping_queried yes = grouping_query(table, again.places, 2, 3, 6);
     if (spent.answer != GROUPING_SPENT || spent.used != 5 || yes.answer != GROUPING_YES || yes.used != 6) {
-        return 5;
+        return 6;
     }
     struct grouping_queried refused = grouping_query(table, again.places, 2, 4, 6);
-    return refused.number == GROUPING_REFUSED_ENQUIRY ? 0 : 6;
+    return refused.number == GROUPING_REFUSED_ENQUIRY ? 0 : 7;
 }

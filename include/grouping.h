@@ -1,4 +1,5 @@
-/* The grouping core for C and C++: play a job file, write one, make a counter enquiry, print a played job.
+/* The grouping core for C and C++: play a job file, write one, make a counter enquiry, print a played job, put a
+ * table's groups on a page.
  *
  * Words. Heads take turns on one table of places, one grant at a time, and work through requests: a union joins the
  * groups of two places, a same-set asks whether two places are in one group. A place is a node of the paper's forest,
@@ -39,12 +40,15 @@ enum {
 };
 
 /* Enough of each buffer for every job: numbers of the table (one a place), of the report (four a request) and of the
- * line-up (two a request); bytes of the text that grouping_list prints of a played job (no text is that long). */
+ * line-up (two a request); bytes of the text that grouping_list prints of a played job (no text is that long); rows and
+ * bytes of a page (each place alone: 4,096 rows and 205 headings of 33 bytes). */
 enum {
     GROUPING_MOST_TABLE = 4096,
     GROUPING_MOST_REPORT = 2048,
     GROUPING_MOST_LINEUP = 1024,
-    GROUPING_MOST_LISTING = 327808
+    GROUPING_MOST_LISTING = 327808,
+    GROUPING_MOST_ROWS = 4096,
+    GROUPING_MOST_PAGE = 141933
 };
 
 /* What a call is refused with: its result's number. */
@@ -66,8 +70,9 @@ enum {
     GROUPING_REFUSED_BALANCE = 13,          /* the file's words don't add up to zero */
     /* by the host program */
     GROUPING_REFUSED_BUFFER = 14,           /* a lent buffer is too short */
-    GROUPING_REFUSED_ENQUIRY = 15,          /* its table is empty or over 4,096, or a place is not below its length */
-    GROUPING_REFUSED_WORD = 16              /* a word that no table has: docs/JOBFILE.md */
+    GROUPING_REFUSED_ENQUIRY = 15,          /* the table is empty or over 4,096, or a place is not below its length */
+    GROUPING_REFUSED_WORD = 16,             /* a word that no table has: docs/JOBFILE.md */
+    GROUPING_REFUSED_PAGE = 17              /* a row list shorter than the groups, or a page buffer than the page */
 };
 
 /* A request's kind, and its answer in the report. An enquiry has the same answers: yes, no or spent. */
@@ -90,7 +95,8 @@ enum {
     GROUPING_STACK_PLAY_LENT = 1024,
     GROUPING_STACK_WRITE = 512,
     GROUPING_STACK_QUERY = 17408,
-    GROUPING_STACK_LIST = 1536
+    GROUPING_STACK_LIST = 1536,
+    GROUPING_STACK_PAGE = 131072
 };
 
 /* The counters of a play: idle grants, failed swaps, links, and the heads with work left. */
@@ -131,6 +137,22 @@ struct grouping_listed {
     size_t bytes;
 };
 
+/* A group: its lowest place, its number of places, its root and the root's rank. */
+struct grouping_row {
+    uint32_t lowest;
+    uint32_t size;
+    uint32_t root;
+    uint32_t rank;
+};
+
+/* number is 0, rows the rows and bytes the page's length that were written; or the refusal's number (15 to 17) and
+ * zeros. */
+struct grouping_paged {
+    uint32_t number;
+    uint32_t rows;
+    uint32_t bytes;
+};
+
 /* Plays a job file. table gets a word a place (rank * 65536 + parent), report four numbers a request (answer, first
  * grant, last grant, grants used), lineup two numbers an entry (point, request). */
 struct grouping_played grouping_play(const uint8_t *file, size_t file_length,
@@ -165,6 +187,14 @@ struct grouping_listed grouping_list(struct grouping_played played,
                                      const uint32_t *lineup, size_t lineup_length,
                                      uint8_t *out, size_t out_length);
 
+/* Puts the groups of a table on a page. The table's length is its number of places; it is checked as an enquiry's is,
+ * and only read. rows gets a row a group, rising by lowest place; the sizes add up to the place count. page gets a line
+ * a row, exactly 32 characters and a line feed, each field right-aligned in 8; a heading of "group", "size", "root",
+ * "rank" in the same columns stands before rows 1, 21, 41 and so on; no zero byte is added. */
+struct grouping_paged grouping_page(const uint32_t *table, size_t table_length,
+                                    struct grouping_row *rows, size_t rows_length,
+                                    uint8_t *page, size_t page_length);
+
 /* The layout that the functions are compiled for. */
 #ifdef __cplusplus
 #define GROUPING_ASSERT(fact) static_assert(fact, #fact)
@@ -197,6 +227,15 @@ GROUPING_FIELD(grouping_queried, used, 8);
 GROUPING_ASSERT(sizeof(struct grouping_listed) == 16);
 GROUPING_FIELD(grouping_listed, number, 0);
 GROUPING_FIELD(grouping_listed, bytes, 8);
+GROUPING_ASSERT(sizeof(struct grouping_row) == 16);
+GROUPING_FIELD(grouping_row, lowest, 0);
+GROUPING_FIELD(grouping_row, size, 4);
+GROUPING_FIELD(grouping_row, root, 8);
+GROUPING_FIELD(grouping_row, rank, 12);
+GROUPING_ASSERT(sizeof(struct grouping_paged) == 12);
+GROUPING_FIELD(grouping_paged, number, 0);
+GROUPING_FIELD(grouping_paged, rows, 4);
+GROUPING_FIELD(grouping_paged, bytes, 8);
 
 #undef GROUPING_FIELD
 #undef GROUPING_ASSERT

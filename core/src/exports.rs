@@ -1,6 +1,6 @@
 //! The functions of include/grouping.h, in its order.
 
-use crate::{Listed, Played, Queried, Tally, Written};
+use crate::{Listed, Paged, Played, Queried, Row, Tally, Written};
 
 extern "C" {
     pub fn grouping_play(
@@ -56,4 +56,13 @@ extern "C" {
         out: *mut u8,
         out_length: usize,
     ) -> Listed;
+
+    pub fn grouping_page(
+        table: *const u32,
+        table_length: usize,
+        rows: *mut Row,
+        rows_length: usize,
+        page: *mut u8,
+        page_length: usize,
+    ) -> Paged;
 }

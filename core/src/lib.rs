@@ -1,5 +1,5 @@
 //! Safe Rust over the proved grouping core: play a job file, with a tally of its own or on one that
-//! is lent, write one, make a counter enquiry, print a played job.
+//! is lent, write one, make a counter enquiry, print a played job, put a table's groups on a page.
 //!
 //! Heads take turns on one table of places, one grant at a time, and work through requests: a union
 //! joins the groups of two places, a same-set asks whether two places are in one group. A place is a
@@ -47,7 +47,7 @@ mod results;
 struct Readme;
 
 pub use numbers::*;
-pub use results::{Listed, Played, Queried, Tally, Written};
+pub use results::{Listed, Paged, Played, Queried, Row, Tally, Written};
 
 // In all calls each pointer and length come from one slice, which is valid for the call and, where
 // it is written, held by nobody else; so is the tally. The functions keep no pointer.
@@ -220,6 +220,45 @@ pub fn list(
             lineup.len(),
             out.as_mut_ptr(),
             out.len(),
+        )
+    }
+}
+
+/// Puts the groups of a table on a page. The table's length is its number of places; it is checked as
+/// an enquiry's is, and only read. `rows` gets a row a group, rising by lowest place; the sizes add up
+/// to the place count. `page` gets a line a row, each field right-aligned in 8 characters, with a line
+/// feed; a heading in the same columns stands before rows 1, 21, 41 and so on. Refused with 15 to 17.
+///
+/// ```
+/// use grouping_core::{page, Refusal, Row};
+///
+/// // Place 2 has parent 3, a root of rank 1; places 0 and 1 are alone.
+/// let table = [0, 1, 3, 65_539];
+/// let (mut rows, mut text) = ([Row::default(); 4], [b'.'; 133]);
+/// let paged = page(&table, &mut rows, &mut text);
+/// assert_eq!((paged.number, paged.rows, paged.bytes), (0, 3, 132));
+/// assert_eq!(rows[2], Row { lowest: 2, size: 2, root: 3, rank: 1 });
+/// let text = String::from_utf8_lossy(&text);
+/// let lines: Vec<&str> = text.lines().collect();
+/// assert_eq!(lines[0], "   group    size    root    rank");
+/// assert_eq!(lines[3], "       2       2       3       1");
+/// // What is past the page stays.
+/// assert_eq!(lines[4], ".");
+///
+/// assert_eq!(page(&[], &mut rows, &mut []).result(), Err(Refusal::Enquiry));
+/// assert_eq!(page(&[2, 1], &mut rows, &mut []).result(), Err(Refusal::Word));
+/// assert_eq!(page(&table, &mut rows, &mut [0; 131]).result(), Err(Refusal::Page));
+/// ```
+pub fn page(table: &[u32], rows: &mut [Row], page: &mut [u8]) -> Paged {
+    // SAFETY: pointers and lengths of slices, as said above.
+    unsafe {
+        exports::grouping_page(
+            table.as_ptr(),
+            table.len(),
+            rows.as_mut_ptr(),
+            rows.len(),
+            page.as_mut_ptr(),
+            page.len(),
         )
     }
 }

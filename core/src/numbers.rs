@@ -23,6 +23,10 @@ pub const MOST_REPORT: usize = 2_048;
 pub const MOST_LINEUP: usize = 1_024;
 /// Bytes enough for the text of every played job; no text is that long.
 pub const MOST_LISTING: usize = 327_808;
+/// Rows of a page for every table: one a place, each place alone in its group.
+pub const MOST_ROWS: usize = 4_096;
+/// Bytes of the longest page: lines of 33 bytes, 4,096 for the rows and 205 headings.
+pub const MOST_PAGE: usize = 141_933;
 
 /// The kind of a request that joins the groups of two places.
 pub const UNION: u32 = 1;
@@ -43,6 +47,8 @@ pub mod stack {
     pub const QUERY: usize = 17_408;
     /// [`list`](crate::list)
     pub const LIST: usize = 1_536;
+    /// [`page`](crate::page)
+    pub const PAGE: usize = 131_072;
 }
 
 /// What a request was told: the first of its four numbers in the report.
@@ -134,16 +140,19 @@ pub enum Refusal {
     Balance = 13,
     /// A lent buffer is too short.
     Buffer = 14,
-    /// The enquiry's table is empty or over 4,096, or a place is not below its length.
+    /// The table of an enquiry or a page is empty or over 4,096, or an enquiry's place is not below
+    /// its length.
     Enquiry = 15,
-    /// A word of the enquiry's table has a parent not below the length, a rank above 12, or a parent
-    /// that comes before its place.
+    /// A word of the table of an enquiry or a page has a parent not below the length, a rank above
+    /// 12, or a parent that comes before its place.
     Word = 16,
+    /// The row list is shorter than the groups, or the page buffer than the page.
+    Page = 17,
 }
 
 impl Refusal {
     /// All of them, by their numbers.
-    pub const ALL: [Refusal; 16] = [
+    pub const ALL: [Refusal; 17] = [
         Refusal::FileTooLong,
         Refusal::FileEndsEarly,
         Refusal::Mark,
@@ -160,6 +169,7 @@ impl Refusal {
         Refusal::Buffer,
         Refusal::Enquiry,
         Refusal::Word,
+        Refusal::Page,
     ];
 
     /// The refusal that a number stands for; 0 is none.
@@ -185,10 +195,13 @@ impl Refusal {
             Refusal::Balance => "the file's words don't add up to zero",
             Refusal::Buffer => "a lent buffer is too short",
             Refusal::Enquiry => {
-                "the enquiry's table is empty or over 4,096, or a place is not below its length"
+                "the table is empty or over 4,096, or an enquiry's place is not below its length"
             }
             Refusal::Word => {
                 "a word has a parent not below the length, a rank above 12, or a parent that comes before its place"
+            }
+            Refusal::Page => {
+                "the row list is shorter than the groups, or the page buffer than the page"
             }
         }
     }

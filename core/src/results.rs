@@ -74,6 +74,33 @@ pub struct Listed {
     pub bytes: usize,
 }
 
+/// A group of a table: a row of its page.
+#[repr(C)]
+#[derive(Clone, Copy, Debug, Default, PartialEq, Eq)]
+pub struct Row {
+    /// The group's lowest place.
+    pub lowest: u32,
+    /// Places of the group.
+    pub size: u32,
+    /// The group's root.
+    pub root: u32,
+    /// The root's rank.
+    pub rank: u32,
+}
+
+/// The rows and bytes of a page, or a refusal's number (15 to 17) and zeros.
+#[must_use = "a refusal is told only here"]
+#[repr(C)]
+#[derive(Clone, Copy, Debug, Default, PartialEq, Eq)]
+pub struct Paged {
+    /// 0, or the refusal's.
+    pub number: u32,
+    /// Rows written: one a group.
+    pub rows: u32,
+    /// The page's length.
+    pub bytes: u32,
+}
+
 impl Queried {
     /// Yes or no; none where the allowance was spent or the enquiry was refused.
     #[must_use]
@@ -97,7 +124,7 @@ macro_rules! result {
     )*};
 }
 
-result!(Played Written Queried Listed);
+result!(Played Written Queried Listed Paged);
 
 /// The layout that the functions are compiled for.
 macro_rules! layout {
@@ -115,4 +142,6 @@ layout! {
     Written 8: number 0, bytes 4;
     Queried 12: number 0, answer 4, used 8;
     Listed 16: number 0, bytes 8;
+    Row 16: lowest 0, size 4, root 8, rank 12;
+    Paged 12: number 0, rows 4, bytes 8;
 }

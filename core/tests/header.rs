@@ -29,6 +29,8 @@ fn of_the_crate() -> BTreeMap<String, u64> {
         ("REPORT", MOST_REPORT as u64),
         ("LINEUP", MOST_LINEUP as u64),
         ("LISTING", MOST_LISTING as u64),
+        ("ROWS", MOST_ROWS as u64),
+        ("PAGE", MOST_PAGE as u64),
     ] {
         put(format!("MOST_{name}"), number);
     }
@@ -38,6 +40,7 @@ fn of_the_crate() -> BTreeMap<String, u64> {
         ("WRITE", stack::WRITE),
         ("QUERY", stack::QUERY),
         ("LIST", stack::LIST),
+        ("PAGE", stack::PAGE),
     ] {
         put(format!("STACK_{name}"), number as u64);
     }
@@ -74,9 +77,9 @@ fn same_names_and_numbers() {
 /// Every number has its refusal and every refusal its words.
 #[test]
 fn refusals_by_number() {
-    for number in 1..=16 {
-        let refusal = Refusal::of(number).expect("1 to 16 are refusals");
+    for number in 1..=17 {
+        let refusal = Refusal::of(number).expect("1 to 17 are refusals");
         assert!(refusal.to_string().starts_with(&format!("refused {number}: ")));
     }
-    assert_eq!((Refusal::of(0), Refusal::of(17)), (None, None));
+    assert_eq!((Refusal::of(0), Refusal::of(18)), (None, None));
 }

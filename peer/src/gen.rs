@@ -1,8 +1,9 @@
-//! Seeded jobs that make heads meet, schedules built for known wrong turns, and damage to files.
+//! Seeded jobs that make heads meet, schedules built for known wrong turns, tables, and damage to
+//! files and tables.
 
 use crate::job::{self, Job, Request, CLOSE, MAX_BYTES, MAX_REQUESTS, OPENING, REQUEST, RUN};
 use crate::numbers::refusal;
-use crate::word::{before, word};
+use crate::word::{parent, rank, word};
 
 /// A splitmix generator: the same seed gives the same numbers.
 pub struct Random(u64);
@@ -141,22 +142,40 @@ pub fn tournament(nodes: u32) -> Job {
     Job::new(nodes, 1, &requests, &[(0, grants)])
 }
 
-/// A table that an enquiry admits: every parent comes after its child.
+/// A table that an enquiry admits: every parent comes after its child, next to it, near it or
+/// anywhere.
 pub fn admitted_table(random: &mut Random, nodes: u32) -> Vec<u32> {
     let highest = random.pick(&[0, 1, 3, 12]);
-    let roots = random.pick(&[1, 10, 50]);
+    let roots = random.pick(&[0, 1, 10, 50, 100]);
+    let reach = random.pick(&[1, 4, nodes]);
     let ranks: Vec<u32> = (0..nodes).map(|_| random.between(0, highest)).collect();
     let rank_of = |node: u32| ranks[node as usize];
-    let mut parent_of = |node: u32| {
-        let other = random.below(nodes);
-        let later = before(rank_of(node), node, rank_of(other), other);
-        if later && !random.chance(roots) {
-            other
-        } else {
-            node
-        }
-    };
-    (0..nodes).map(|node| word(rank_of(node), parent_of(node))).collect()
+    let mut order: Vec<u32> = (0..nodes).collect();
+    order.sort_by_key(|&node| (rank_of(node), node));
+    let mut table = vec![0; nodes as usize];
+    let mut rest = &order[..];
+    while let Some((&node, later)) = rest.split_first() {
+        let near = &later[..later.len().min(reach as usize)];
+        let root = near.is_empty() || random.chance(roots);
+        let parent = if root { node } else { random.pick(near) };
+        table[node as usize] = word(rank_of(node), parent);
+        rest = later;
+    }
+    table
+}
+
+/// The table with a few words changed in a bit, the parent or the rank; it may still be admitted.
+pub fn damaged_table(random: &mut Random, mut table: Vec<u32>) -> Vec<u32> {
+    let nodes = table.len() as u32;
+    for _ in 0..random.between(1, 3) {
+        let own = &mut table[random.below(nodes) as usize];
+        *own = match random.below(3) {
+            0 => *own ^ (1 << random.below(32)),
+            1 => word(rank(*own), random.below(nodes + 1)),
+            _ => word(random.between(0, 13), parent(*own)),
+        };
+    }
+    table
 }
 
 /// What is known of a damaged file.

@@ -1,8 +1,8 @@
-//! A second player of job files, from document 01; it shares no code with the core.
+//! A second player of job files, from documents 01 and 02; it shares no code with the core.
 //!
-//! `play`, `job`, `query` and `listing` are the player; `replay` and `demand` say what a run must
-//! leave; `gen` makes jobs and damage; `player` is how any player, this one or another, is called;
-//! `proved`, under the feature `core`, is the proved core as such a player.
+//! `play`, `job`, `query`, `listing` and `page` are the player; `replay` and `demand` say what a run
+//! must leave; `gen` makes jobs, tables and damage; `player` is how any player, this one or another,
+//! is called; `proved`, under the feature `core`, is the proved core as such a player.
 
 #![forbid(unsafe_code)]
 
@@ -12,6 +12,7 @@ pub mod head;
 pub mod job;
 pub mod listing;
 pub mod numbers;
+pub mod page;
 pub mod play;
 pub mod player;
 #[cfg(feature = "core")]

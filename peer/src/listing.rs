@@ -16,10 +16,15 @@ pub fn listing(file: &[u8]) -> String {
     text(&played, &table, &report, &lineup)
 }
 
+/// The line of a refused job.
+pub fn refused(number: u32) -> String {
+    format!("refused {number}\n")
+}
+
 /// The listing of a result.
 pub fn text(played: &Played, table: &[u32], report: &[u32], lineup: &[u32]) -> String {
     if played.number != refusal::NONE {
-        return format!("refused {}\n", played.number);
+        return refused(played.number);
     }
     let mut text = String::new();
     let mut line = |name: &str, numbers: &[u32]| {

@@ -1,4 +1,4 @@
-//! The numbers that document 01 gives to answers and to refusals.
+//! The numbers that documents 01 and 02 give to answers and to refusals.
 
 /// The first of a request's four report numbers.
 pub mod answer {
@@ -28,4 +28,5 @@ pub mod refusal {
     pub const BUFFER_TOO_SHORT: u32 = 14;
     pub const QUERY_RANGE: u32 = 15;
     pub const QUERY_WORD: u32 = 16;
+    pub const PAGE_TOO_SHORT: u32 = 17;
 }

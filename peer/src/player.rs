@@ -3,6 +3,7 @@
 use crate::head::Access;
 use crate::job::{self, Job, Written, MAX_NODES, MAX_REQUESTS};
 use crate::listing;
+use crate::page::{self, Paged, Row};
 use crate::play::{self, Played};
 use crate::query::{self, Queried};
 
@@ -14,6 +15,8 @@ pub type Write = fn(u32, u32, &[u32], &[u8], &mut [u8]) -> Written;
 pub type Query = fn(&mut [u32], u32, u32, u16) -> Queried;
 /// A file; gives the program's text for it.
 pub type List = fn(&[u8]) -> String;
+/// Table, rows, page.
+pub type Page = fn(&[u32], &mut [Row], &mut [u8]) -> Paged;
 
 /// A player as its calls. One that lives elsewhere, behind C functions say, is held against this
 /// crate's by giving its calls these types.
@@ -24,6 +27,7 @@ pub struct Player {
     pub write: Write,
     pub query: Query,
     pub list: List,
+    pub page: Page,
 }
 
 pub const PEER: Player = Player {
@@ -32,6 +36,7 @@ pub const PEER: Player = Player {
     write: job::write,
     query: query::query,
     list: listing::listing,
+    page: page::page,
 };
 
 /// How many numbers are lent for the table, the report and the line-up.

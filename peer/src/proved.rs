@@ -3,13 +3,15 @@
 use grouping_core as core;
 
 use crate::job::Written;
+use crate::page::{Paged, Row};
 use crate::play::{Played, Tally};
 use crate::player::{Outcome, Player, AMPLE};
 use crate::query::Queried;
 
-pub const CORE: Player = Player { name: "core", play, write, query, list };
+pub const CORE: Player = Player { name: "core", play, write, query, list, page };
 /// The core with a tally lent to it.
-pub const LENT: Player = Player { name: "core, tally lent", play: play_lent, write, query, list };
+pub const LENT: Player =
+    Player { name: "core, tally lent", play: play_lent, write, query, list, page };
 
 /// What stands in a lent tally before the call.
 const BEFORE: core::Tally = core::Tally {
@@ -40,6 +42,15 @@ fn write(nodes: u32, heads: u32, requests: &[u32], grants: &[u8], buffer: &mut [
 fn query(table: &mut [u32], x: u32, y: u32, budget: u16) -> Queried {
     let core::Queried { number, answer, used } = core::query(table, x, y, budget);
     Queried { number, answer, grants: used }
+}
+
+fn page(table: &[u32], rows: &mut [Row], page: &mut [u8]) -> Paged {
+    let asked = |&Row { lowest, size, root, rank }: &Row| core::Row { lowest, size, root, rank };
+    let told = |core::Row { lowest, size, root, rank }| Row { lowest, size, root, rank };
+    let mut lent: Vec<core::Row> = rows.iter().map(asked).collect();
+    let core::Paged { number, rows: written, bytes } = core::page(table, &mut lent, page);
+    rows.copy_from_slice(&lent.into_iter().map(told).collect::<Vec<Row>>());
+    Paged { number, rows: written, bytes }
 }
 
 fn told(played: core::Played) -> Played {

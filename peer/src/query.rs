@@ -22,7 +22,8 @@ pub fn query(table: &mut [u32], x: u32, y: u32, budget: u16) -> Queried {
     Queried { number: refusal::NONE, answer, grants: u32::from(budget - steps.left) }
 }
 
-fn check(table: &[u32], x: u32, y: u32) -> Result<(), u32> {
+/// Everything that is checked before a step is made.
+pub fn check(table: &[u32], x: u32, y: u32) -> Result<(), u32> {
     let nodes = table.len();
     if nodes == 0 || nodes > MAX_NODES as usize || x as usize >= nodes || y as usize >= nodes {
         return Err(refusal::QUERY_RANGE);

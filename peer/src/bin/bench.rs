@@ -7,6 +7,7 @@ use grouping_core::MOST_LISTING;
 use peer::gen::{self, Random};
 use peer::job::{Job, Request};
 use peer::listing;
+use peer::page::{self, MAX_PAGE, MAX_ROWS};
 use peer::player::{Outcome, Player, AMPLE, PEER};
 use peer::proved::{list_into, CORE, LENT};
 
@@ -260,6 +261,44 @@ fn enquiry() {
     println!("{:<40} {}", "a chain of 4096 nodes, 12290 grants", ask.columns(12_290.0));
 }
 
+/// What is lent for a page; each player has rows of its own kind.
+struct Room {
+    of_core: Vec<grouping_core::Row>,
+    of_peer: Vec<page::Row>,
+    page: Vec<u8>,
+}
+
+type Page = fn(&[u32], &mut Room);
+
+fn pages() {
+    println!("\nns a node of a group page");
+    println!("{:<40}      core      peer  ratio", "");
+    let mut room = Room {
+        of_core: vec![grouping_core::Row::default(); MAX_ROWS],
+        of_peer: vec![page::Row::default(); MAX_ROWS],
+        page: vec![0; MAX_PAGE],
+    };
+    let by_core: Page = |table, room| {
+        _ = black_box(grouping_core::page(table, &mut room.of_core, &mut room.page));
+    };
+    let by_peer: Page = |table, room| {
+        black_box(page::page(table, &mut room.of_peer, &mut room.page));
+    };
+    let tables: [(&str, Vec<u32>); 3] = [
+        ("4096 nodes, each alone", (0..4_096).collect()),
+        ("4096 nodes, one flat group", vec![4_095; 4_096]),
+        ("4096 nodes, one chain", (0..4_096).map(|node| (node + 1).min(4_095)).collect()),
+    ];
+    for (name, table) in tables {
+        by_core(&table, &mut room);
+        let printed = room.page.clone();
+        by_peer(&table, &mut room);
+        assert_eq!(room.page, printed);
+        let times = Times::between(&by_core, &by_peer, |page| page(black_box(&table), &mut room));
+        println!("{name:<40} {}", times.columns(4_096.0));
+    }
+}
+
 fn growth() {
     println!("\ngrowth, 16 heads, one by one, 50 % unions, no idle grants");
     println!("{:<40}   core us   peer us  ratio   core ns a grant", "");
@@ -291,5 +330,6 @@ fn main() {
     grants();
     bytes();
     enquiry();
+    pages();
     growth();
 }

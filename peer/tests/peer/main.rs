@@ -1,4 +1,4 @@
-//! Tests of players: document 01's cases, its edges, seeded jobs, damage and wrong turns.
+//! Tests of players: the cases of documents 01 and 02, edges, seeded jobs, damage and wrong turns.
 
 use peer::player::{Player, PEER};
 
@@ -9,6 +9,7 @@ mod edges;
 mod enquiry;
 #[cfg(feature = "core")]
 mod listed;
+mod page;
 mod plain;
 #[cfg(feature = "core")]
 mod program;
@@ -16,6 +17,7 @@ mod promises;
 mod random;
 #[cfg(all(feature = "core", target_arch = "x86_64"))]
 mod stack;
+mod words;
 mod writer;
 mod wrong_turns;
 

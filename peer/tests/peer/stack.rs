@@ -5,7 +5,7 @@ use std::arch::asm;
 use std::ffi::c_void;
 use std::thread;
 
-use grouping_core::{self as core, stack, Played, Tally};
+use grouping_core::{self as core, stack, Played, Row, Tally};
 use peer::gen::{self, Random};
 use peer::job::{Job, Request};
 use peer::player::{Outcome, AMPLE};
@@ -144,6 +144,24 @@ fn list() {
         painted.used(|| _ = core::list(played, &table, &report, &lineup, &mut text))
     };
     measured("list", stack::LIST, calls.into_iter().map(used));
+}
+
+/// Pages of the most rows, of one long way, of any tables, and refused ones.
+#[test]
+fn page() {
+    let mut painted = Painted::new();
+    let mut random = Random::new(0);
+    let (mut rows, mut page) = (vec![Row::default(); core::MOST_ROWS], vec![0; core::MOST_PAGE]);
+    let mut tables = vec![(0..4_096).collect(), vec![4_095; 4_096], chain(), vec![], vec![1, 0]];
+    for _ in 0..100 {
+        let places = random.between(1, 4_096);
+        tables.push(gen::admitted_table(&mut random, places));
+    }
+    let used = |table: Vec<u32>| {
+        let short = painted.used(|| _ = core::page(&table, &mut rows, &mut []));
+        painted.used(|| _ = core::page(&table, &mut rows, &mut page)).max(short)
+    };
+    measured("page", stack::PAGE, tables.into_iter().map(used));
 }
 
 /// A chain of all places: no enquiry that is known takes more grants than the one from its end.
