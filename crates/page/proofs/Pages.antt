@@ -5,6 +5,7 @@
 use mathlib.Core.Path.{_≡_, refl, sym, ap, _∙_}
 use mathlib.Core.List.{List, [], _∷_, _++_}
 use Prim.Native.Nat.{ℕ, zero, suc, _+_, _-_, _%_, _^_, _≤_, _<_}
+use native.Mathlib.Numerals.{add-one}
 use native.Mathlib.Omega.{arith}
 use native.Mathlib.Decide.{ℕ-discrete}
 use lib.Dec.{eqb}
@@ -83,10 +84,11 @@ module _ (rows : List Row) (page : List ℕ) where
   page-start = refl
 
   pub page-next : (i : ℕ) → AllFitting rows i
-      → sets (pageAfter rows page i) (pageLength i) (rowLines i (getD rows i noRow)) ≡ pageAfter rows page (suc i)
+      → sets (pageAfter rows page i) (pageLength i) (rowLines i (getD rows i noRow)) ≡ pageAfter rows page (i + 1)
   unfolding pageAfter each
   page-next i f =
-      sets-append (linesTo rows i) (rowLines i (getD rows i noRow)) page 0 (pageLength i) (omega (arith, lines-to-length rows i f))
+      rw (add-one i)
+      (sets-append (linesTo rows i) (rowLines i (getD rows i noRow)) page 0 (pageLength i) (omega (arith, lines-to-length rows i f)))
 
   pub page-size : (i : ℕ) → length (pageAfter rows page i) ≡ length page
   unfolding pageAfter
@@ -131,9 +133,9 @@ module _ (numbers : List ℕ) where
     pub rows-start : rowsAfter numbers rows 0 ≡ rows
     rows-start = refl
 
-    pub rows-next : (i : ℕ) → i < length rows → set (rowsAfter numbers rows i) i (rowOf numbers i) ≡ rowsAfter numbers rows (suc i)
+    pub rows-next : (i : ℕ) → i < length rows → set (rowsAfter numbers rows i) i (rowOf numbers i) ≡ rowsAfter numbers rows (i + 1)
     rows-next i l =
-        rw (drop-cons rows i noRow l)
+        rw (add-one i, drop-cons rows i noRow l)
         (set-at (rowsTo numbers i) (getD rows i noRow) (drop (suc i) rows) (rowOf numbers i) i (rows-to-length i)
         ∙ sym (append-snoc (rowsTo numbers i) (rowOf numbers i) (drop (suc i) rows)))
 
