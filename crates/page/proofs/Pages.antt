@@ -11,6 +11,7 @@
 use mathlib.Core.Path.{_≡_, refl, sym, ap, _∙_}
 use mathlib.Core.List.{List, [], _∷_, _++_}
 use Prim.Native.Nat.{ℕ, zero, suc, _+_, _-_, _%_, _^_, _≤_, _<_}
+use native.Mathlib.Numerals.{add-one}
 use native.Mathlib.Omega.{arith}
 use native.Mathlib.Decide.{ℕ-discrete}
 use lib.Dec.{eqb}
@@ -109,10 +110,11 @@ module _ (rows : List Row) (page : List ℕ) where
   page-start = refl
 
   pub page-next : (i : ℕ) → AllFitting rows i
-      → sets (pageAfter rows page i) (pageLength i) (rowLines i (getD rows i noRow)) ≡ pageAfter rows page (suc i)
+      → sets (pageAfter rows page i) (pageLength i) (rowLines i (getD rows i noRow)) ≡ pageAfter rows page (i + 1)
   unfolding pageAfter each
   page-next i f =
-      sets-append (linesTo rows i) (rowLines i (getD rows i noRow)) page 0 (pageLength i) (omega (arith, lines-to-length rows i f))
+      rw (add-one i)
+      (sets-append (linesTo rows i) (rowLines i (getD rows i noRow)) page 0 (pageLength i) (omega (arith, lines-to-length rows i f)))
 
   pub page-size : (i : ℕ) → length (pageAfter rows page i) ≡ length page
   unfolding pageAfter
@@ -157,9 +159,9 @@ module _ (numbers : List ℕ) where
     pub rows-start : rowsAfter numbers rows 0 ≡ rows
     rows-start = refl
 
-    pub rows-next : (i : ℕ) → i < length rows → set (rowsAfter numbers rows i) i (rowOf numbers i) ≡ rowsAfter numbers rows (suc i)
+    pub rows-next : (i : ℕ) → i < length rows → set (rowsAfter numbers rows i) i (rowOf numbers i) ≡ rowsAfter numbers rows (i + 1)
     rows-next i l =
-        rw (drop-cons rows i noRow l)
+        rw (add-one i, drop-cons rows i noRow l)
         (set-at (rowsTo numbers i) (getD rows i noRow) (drop (suc i) rows) (rowOf numbers i) i (rows-to-length i)
         ∙ sym (append-snoc (rowsTo numbers i) (rowOf numbers i) (drop (suc i) rows)))
 
@@ -183,10 +185,11 @@ pub filled-after : (numbers : List ℕ) (rows : List Row) (n : ℕ) → n ≤ le
 filled-after numbers rows zero l = refl
 filled-after numbers rows (suc n) l =
     ap (λ (after : List Row). set after n (rowOf numbers n)) (filled-after numbers rows n (omega arith)) ∙ rows-next numbers rows n l
+    ∙ ap (rowsAfter numbers rows) (add-one n)
 
 pub lined-after : (rows : List Row) (page : List ℕ) (n : ℕ) → AllFitting rows n → lined rows n page ≡ pageAfter rows page n
 lined-after rows page zero f = sym (page-start rows page)
 lined-after rows page (suc n) f =
     let before : AllFitting rows n = λ k l. f k (omega arith) in
     ap (λ (after : List ℕ). sets after (pageLength n) (rowLines n (getD rows n noRow))) (lined-after rows page n before)
-    ∙ page-next rows page n before
+    ∙ page-next rows page n before ∙ ap (pageAfter rows page) (add-one n)

@@ -79,7 +79,8 @@ module _ {n : ℕ} {t : List Node} (admitted : Admitted n t) {groups : Groups} (
         }
     unfolding place
     group-row rank′ ranked =
-        let row = rows-at t k (omega (arith, groups-count)) ∙ ap (λ m. groupRow t (getD (lowestPlaces (rootIn t) m) k 0)) (admitted .nodes) in
+        let row =
+        rows-at t k (omega (arith, groups-count)) ∙ ap (λ m. groupRow t (getD (lowestPlaces (rootIn t) m) k 0)) (admitted .nodes) in
         let counted : getD (groups .size) (getD (groups .root) k 0) 0 ≡ size (length t) (rootIn t) (rootIn t place) =
         g .size _ (omega (arith, root-inside, admitted .few))
         ∙ ap (size n (rootIn t)) group-root

@@ -27,10 +27,14 @@ fn digits(n: u32) -> usize
     digits
 }
 
-// Writes a number at the right end of a column.
+// Writes a number at the right end of a column; most sizes and ranks are one digit, which is faster by itself.
 fn put_column(page: &mut [u8], at: usize, n: u32) -> usize
     ensures { λ r. ⌜ Wrote (rightAligned (decimal n)) at (now (page .entry)) (now (page .exit)) r ⌝ }
 {
+    if n < 10 {
+        let digit = (48 + n) as u8;
+        return put_bytes(page, at, &[b' ', b' ', b' ', b' ', b' ', b' ', b' ', digit]);
+    }
     let mut next = at;
     let mut filled = digits(n);
     while filled < 8 {

@@ -12,7 +12,7 @@ use lib.Dec.{ltb}
 use lib.ListN.{length, getD, take, length-append}
 use borrow.Author.Tests.{ltb-true, ltb-false, lt-ltb, le-ltb}
 use Rattle.basics.proofs.Lists.{length-three, take-next}
-use Rattle.text.specs.Text.{digitsBy, digitsWithin, decimal, fields, line, each}
+use Rattle.text.specs.Text.{digitsBy, digitsWithin, decimal, lastTwo, fields, line, each}
 
 -- Any fuel above the number gives the same digits.
 digits-enough : (f g n : ℕ) → n < f → n < g → digitsWithin f n ≡ digitsWithin g n
@@ -35,6 +35,20 @@ unfolding digitsWithin decimal
 decimal-more n h =
     rw (le-ltb n 10 h)
     (ap (λ (ds : List ℕ). ds ++ ((48 + n % 10) ∷ [])) (digits-enough n (suc (n / 10)) (n / 10) (omega arith) (omega arith)))
+
+-- two digits at once
+pub decimal-two : (n : ℕ) → 10 ≤ n → n < 100 → decimal n ≡ lastTwo n
+decimal-two n h l =
+    let tenth : n / 10 % 10 ≡ n / 10 = omega arith in
+    decimal-more n h ∙ ap (λ (t : List ℕ). t ++ ((48 + n % 10) ∷ [])) (decimal-digit (n / 10) (omega arith))
+    ∙ ap (λ d. (48 + d) ∷ (48 + n % 10) ∷ []) (sym tenth)
+
+pub decimal-hundred : (n : ℕ) → 100 ≤ n → decimal n ≡ decimal (n / 100) ++ lastTwo n
+decimal-hundred n h =
+    let hundredth : n / 10 / 10 ≡ n / 100 = omega arith in
+    decimal-more n (omega arith) ∙ ap (λ (t : List ℕ). t ++ ((48 + n % 10) ∷ [])) (decimal-more (n / 10) (omega arith))
+    ∙ append-assoc (decimal (n / 10 / 10)) ((48 + n / 10 % 10) ∷ []) ((48 + n % 10) ∷ [])
+    ∙ ap (λ k. decimal k ++ lastTwo n) hundredth
 
 pub decimal-more-length : (n : ℕ) → 10 ≤ n → length (decimal n) ≡ length (decimal (n / 10)) + 1
 decimal-more-length n h = ap length (decimal-more n h) ∙ length-append (decimal (n / 10)) ((48 + n % 10) ∷ [])

@@ -3,6 +3,7 @@
 --   digitsBy small n digits   the digits of n, by those of its tenth where n is not small
 --   digitsWithin fuel n       the digits of n, for any fuel above n
 --   decimal n                 n in ASCII decimal: no leading zeros, and "0" for 0
+--   lastTwo n                 the last two digits of n
 --   fields ns                 the numbers ns, a space before each
 --   line name ns              one line: its name, the numbers, a line feed
 --   each f n                  f 0, f 1 and so on, n of them, one after the other
@@ -22,6 +23,9 @@ digitsWithin (suc fuel) n = digitsBy (ltb n 10) n (digitsWithin fuel)
 
 unfoldable pub decimal : ℕ → List ℕ
 decimal n = digitsWithin (suc n) n
+
+abbrev pub lastTwo : ℕ → List ℕ
+lastTwo n = (48 + n / 10 % 10) ∷ (48 + n % 10) ∷ []
 
 -- ASCII 32 is a space.
 unfoldable pub fields : List ℕ → List ℕ

@@ -1,7 +1,7 @@
 // Text into a lent buffer: bytes, decimal numbers and lines, each from a position on; the result is the position past it.
 // A byte past the buffer's end is counted and dropped, so that writing into an empty buffer measures the text.
 ghost use mathlib.Core.List.{[], _∷_};
-ghost use Rattle.text.specs.Text.{decimal, fields, line};
+ghost use Rattle.text.specs.Text.{lastTwo, decimal, fields, line};
 ghost use Rattle.text.specs.Writing.{Wrote};
 
 // Writes one byte. No buffer reaches to the last position, so that counting may end there.
@@ -18,15 +18,26 @@ pub fn put_byte(out: &mut [u8], at: usize, byte: u8) -> usize
     at + 1
 }
 
-// Writes a number's decimal digits.
+// Writes a number's last two decimal digits.
+fn put_last_two(out: &mut [u8], at: usize, n: u32) -> usize
+    ensures { λ r. ⌜ Wrote (lastTwo n) at (now (out .entry)) (now (out .exit)) r ⌝ }
+{
+    let next = put_byte(out, at, (48 + n / 10 % 10) as u8);
+    put_byte(out, next, (48 + n % 10) as u8)
+}
+
+// Writes a number's decimal digits, two a call of its own.
 pub fn put_decimal(out: &mut [u8], at: usize, n: u32) -> usize
     ensures { λ r. ⌜ Wrote (decimal n) at (now (out .entry)) (now (out .exit)) r ⌝ }
 {
     if n < 10 {
         return put_byte(out, at, (48 + n) as u8);
     }
-    let next = put_decimal(out, at, n / 10);
-    put_byte(out, next, (48 + n % 10) as u8)
+    if n < 100 {
+        return put_last_two(out, at, n);
+    }
+    let next = put_decimal(out, at, n / 100);
+    put_last_two(out, next, n)
 }
 
 // Writes bytes as they are, such as a line's name.

@@ -1,6 +1,6 @@
--- `text::put_decimal`: the digits of the tenth, then the last digit; the number falls.
+-- `text::put_decimal`: the digits of the hundredth, then the last two; the number falls.
 use native.Mathlib.Omega.{arith}
-use Rattle.text.proofs.Text.{decimal-digit, decimal-more}
+use Rattle.text.proofs.Text.{decimal-digit, decimal-two, decimal-hundred}
 use Rattle.text.proofs.Writing.{wrote-append, wrote-length}
 use mathlib.Core.Path.{_∙_}
 use Prim.Native.Nat.{ℕ, _<_}
@@ -11,6 +11,7 @@ use Rattle.text.proofs.put_decimal.Reads as put-decimal
 use Rattle.text.proofs.put_decimal.Kinds as put-decimal-kinds
 use Rattle.text.proofs.+put_decimal.Lts-put_decimal as put-decimal-lts
 use Rattle.text.proofs.put_byte.Reads as put-byte-reads
+use Rattle.text.proofs.put_last_two.Reads as put-last-two-reads
 use Rattle.text.proofs.+put_decimal.{statement}
 use Rattle.text.proofs.+put_decimal.Tie.{close}
 
@@ -25,9 +26,16 @@ abbrev put-decimal-below : ℕ → In 1 put-decimal-kinds.ps
 put-decimal-below t =
     and 1 put-decimal-kinds.ps (falls 1 put-decimal-kinds.ps _<_ μ-put-decimal t) put-decimal.Pre
 
--- what is claimed of the functions that it calls: the contract of `put_byte`, and its own for a smaller number
+-- what is claimed of the functions that it calls: the contracts of `put_byte` and `put_last_two`, and its own for a smaller number
 abbrev put-decimal-claims : ℕ → put-decimal-lts.Claims
-put-decimal-claims t = (put-byte-reads.Asked, put-byte-reads.Learnt, put-decimal-below t, put-decimal.Post)
+put-decimal-claims t = (
+  put-byte-reads.Asked,
+  put-byte-reads.Learnt,
+  put-last-two-reads.Asked,
+  put-last-two-reads.Learnt,
+  put-decimal-below t,
+  put-decimal.Post,
+)
 
 put-decimal-add-put-byte : (t : ℕ) → put-decimal-lts.Need-add-put-byte (put-decimal-claims t) (put-decimal-at t) put-decimal.Post
 put-decimal-add-put-byte t c = omega arith
@@ -47,32 +55,39 @@ put-decimal-returns t c =
     let start = after-digit .before .before .before .before in
     rw (decimal-digit (start .args .n) (omega arith)) (after-digit .put-byte .ensures)
 
+put-decimal-put-last-two-requires : (t : ℕ)
+    → put-decimal-lts.Need-put-last-two-requires (put-decimal-claims t) (put-decimal-at t) put-decimal.Post
+put-decimal-put-last-two-requires t c κs = search needs
+
+put-decimal-same-length-2 : (t : ℕ) → put-decimal-lts.Need-same-length-2 (put-decimal-claims t) (put-decimal-at t) put-decimal.Post
+put-decimal-same-length-2 t c = wrote-length (c .before .before .put-last-two .ensures)
+
+put-decimal-returns-2 : (t : ℕ) → put-decimal-lts.Need-returns-2 (put-decimal-claims t) (put-decimal-at t) put-decimal.Post
+put-decimal-returns-2 t c =
+    let after-two = c .before .before in
+    let start = after-two .before .before .before .before .before in
+    rw (decimal-two (start .args .n) (omega arith) (omega arith)) (after-two .put-last-two .ensures)
+
 put-decimal-put-decimal-requires : (t : ℕ)
     → put-decimal-lts.Need-put-decimal-requires (put-decimal-claims t) (put-decimal-at t) put-decimal.Post
 put-decimal-put-decimal-requires t c κs = omega arith
 
-put-decimal-add-put-byte-2 : (t : ℕ) → put-decimal-lts.Need-add-put-byte-2 (put-decimal-claims t) (put-decimal-at t) put-decimal.Post
-put-decimal-add-put-byte-2 t c = omega arith
+put-decimal-put-last-two-requires-2 : (t : ℕ)
+    → put-decimal-lts.Need-put-last-two-requires-2 (put-decimal-claims t) (put-decimal-at t) put-decimal.Post
+put-decimal-put-last-two-requires-2 t c κs = search needs
 
-put-decimal-cast-put-byte-2 : (t : ℕ) → put-decimal-lts.Need-cast-put-byte-2 (put-decimal-claims t) (put-decimal-at t) put-decimal.Post
-put-decimal-cast-put-byte-2 t c = omega arith
+put-decimal-same-length-3 : (t : ℕ) → put-decimal-lts.Need-same-length-3 (put-decimal-claims t) (put-decimal-at t) put-decimal.Post
+put-decimal-same-length-3 t c =
+    let after-two = c .before .before in
+    let after-hundredth = after-two .before .before .before .before in
+    wrote-length (after-two .put-last-two2 .ensures) ∙ wrote-length (after-hundredth .put-decimal .ensures)
 
-put-decimal-put-byte-requires-2 : (t : ℕ)
-    → put-decimal-lts.Need-put-byte-requires-2 (put-decimal-claims t) (put-decimal-at t) put-decimal.Post
-put-decimal-put-byte-requires-2 t c κs = search needs
-
-put-decimal-same-length-2 : (t : ℕ) → put-decimal-lts.Need-same-length-2 (put-decimal-claims t) (put-decimal-at t) put-decimal.Post
-put-decimal-same-length-2 t c =
-    let after-digit = c .before .before in
-    let after-tenth = after-digit .before .before .before .before in
-    wrote-length (after-digit .put-byte2 .ensures) ∙ wrote-length (after-tenth .put-decimal .ensures)
-
-put-decimal-returns-2 : (t : ℕ) → put-decimal-lts.Need-returns-2 (put-decimal-claims t) (put-decimal-at t) put-decimal.Post
-put-decimal-returns-2 t c =
-    let after-digit = c .before .before in
-    let after-tenth = after-digit .before .before .before .before in
-    let start = after-tenth .before .before .before .before in
-    rw (decimal-more (start .args .n) (omega arith)) (wrote-append (after-tenth .put-decimal .ensures) (after-digit .put-byte2 .ensures))
+put-decimal-returns-3 : (t : ℕ) → put-decimal-lts.Need-returns-3 (put-decimal-claims t) (put-decimal-at t) put-decimal.Post
+put-decimal-returns-3 t c =
+    let after-two = c .before .before in
+    let after-hundredth = after-two .before .before .before .before in
+    let start = after-hundredth .before .before .before .before .before in
+    rw (decimal-hundred (start .args .n) (omega arith)) (wrote-append (after-hundredth .put-decimal .ensures) (after-two .put-last-two2 .ensures))
 
 pub +put-decimal-spec : {M : Type 1} → statement M
 +put-decimal-spec = close μ-put-decimal λ t. put-decimal-lts.spec (put-decimal-claims t)
@@ -83,9 +98,10 @@ pub +put-decimal-spec : {M : Type 1} → statement M
     (put-decimal-put-byte-requires t)
     (put-decimal-same-length t)
     (put-decimal-returns t)
-    (put-decimal-put-decimal-requires t)
-    (put-decimal-add-put-byte-2 t)
-    (put-decimal-cast-put-byte-2 t)
-    (put-decimal-put-byte-requires-2 t)
+    (put-decimal-put-last-two-requires t)
     (put-decimal-same-length-2 t)
     (put-decimal-returns-2 t)
+    (put-decimal-put-decimal-requires t)
+    (put-decimal-put-last-two-requires-2 t)
+    (put-decimal-same-length-3 t)
+    (put-decimal-returns-3 t)
