@@ -24,6 +24,7 @@ after-requests c = c .before .before .before
 abbrev after-runs : tie.After-put-close-arg → tie.After-put-runs
 after-runs c = c .before .before .before
 
+-- the draft that is written, and what is known of it at the start
 abbrev draft : tie.Start → Draft
 draft s = given (s .args .nodes) (s .args .heads) (now (s .args .requests)) (now (s .args .grants))
 
