@@ -29,6 +29,10 @@ put-decimal-below t =
 abbrev put-decimal-claims : ℕ → put-decimal-lts.Claims
 put-decimal-claims t = (put-byte-reads.Asked, put-byte-reads.Learnt, put-decimal-below t, put-decimal.Post)
 
+abbrev after-tenth : {t : ℕ} → put-decimal-lts.After-put-byte2 (put-decimal-claims t) (put-decimal-at t) put-decimal.Post
+    → put-decimal-lts.After-put-decimal (put-decimal-claims t) (put-decimal-at t) put-decimal.Post
+after-tenth c = c .before .before .before .before
+
 put-decimal-add-put-byte : (t : ℕ) → put-decimal-lts.Need-add-put-byte (put-decimal-claims t) (put-decimal-at t) put-decimal.Post
 put-decimal-add-put-byte t c = omega arith
 
@@ -43,9 +47,8 @@ put-decimal-same-length t c = wrote-length (c .before .before .put-byte .ensures
 
 put-decimal-returns : (t : ℕ) → put-decimal-lts.Need-returns (put-decimal-claims t) (put-decimal-at t) put-decimal.Post
 put-decimal-returns t c =
-    let after-digit = c .before .before in
-    let start = after-digit .before .before .before .before in
-    rw (decimal-digit (start .args .n) (omega arith)) (after-digit .put-byte .ensures)
+    let digit = c .before .before in
+    rw (decimal-digit _ (digit .before .before .if1 .taken)) (digit .put-byte .ensures)
 
 put-decimal-put-decimal-requires : (t : ℕ)
     → put-decimal-lts.Need-put-decimal-requires (put-decimal-claims t) (put-decimal-at t) put-decimal.Post
@@ -63,16 +66,14 @@ put-decimal-put-byte-requires-2 t c κs = search needs
 
 put-decimal-same-length-2 : (t : ℕ) → put-decimal-lts.Need-same-length-2 (put-decimal-claims t) (put-decimal-at t) put-decimal.Post
 put-decimal-same-length-2 t c =
-    let after-digit = c .before .before in
-    let after-tenth = after-digit .before .before .before .before in
-    wrote-length (after-digit .put-byte2 .ensures) ∙ wrote-length (after-tenth .put-decimal .ensures)
+    let digit = c .before .before in
+    wrote-length (digit .put-byte2 .ensures) ∙ wrote-length (after-tenth digit .put-decimal .ensures)
 
 put-decimal-returns-2 : (t : ℕ) → put-decimal-lts.Need-returns-2 (put-decimal-claims t) (put-decimal-at t) put-decimal.Post
 put-decimal-returns-2 t c =
-    let after-digit = c .before .before in
-    let after-tenth = after-digit .before .before .before .before in
-    let start = after-tenth .before .before .before .before in
-    rw (decimal-more (start .args .n) (omega arith)) (wrote-append (after-tenth .put-decimal .ensures) (after-digit .put-byte2 .ensures))
+    let digit = c .before .before in
+    let tenth = after-tenth digit in
+    rw (decimal-more _ (tenth .before .before .if1 .left)) (wrote-append (tenth .put-decimal .ensures) (digit .put-byte2 .ensures))
 
 pub +put-decimal-spec : {M : Type 1} → statement M
 +put-decimal-spec = close μ-put-decimal λ t. put-decimal-lts.spec (put-decimal-claims t)
