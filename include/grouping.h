@@ -96,7 +96,7 @@ enum {
     GROUPING_STACK_WRITE = 512,
     GROUPING_STACK_QUERY = 17408,
     GROUPING_STACK_LIST = 1536,
-    GROUPING_STACK_PAGE = 131072
+    GROUPING_STACK_PAGE = 245760
 };
 
 /* The counters of a play: idle grants, failed swaps, links, and the heads with work left. */

@@ -48,7 +48,7 @@ pub mod stack {
     /// [`list`](crate::list)
     pub const LIST: usize = 1_536;
     /// [`page`](crate::page)
-    pub const PAGE: usize = 131_072;
+    pub const PAGE: usize = 245_760;
 }
 
 /// What a request was told: the first of its four numbers in the report.

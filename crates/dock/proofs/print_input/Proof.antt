@@ -8,10 +8,11 @@ use borrow.Author.Needs.{needs}
 use Rattle.dock.proofs.print_input.Statement.{statement}
 use Rattle.dock.proofs.print_input.Tie as tie
 
+abbrev start : tie.After-print-job-arg → tie.Start
+start c = c .before .before .before
+
 slice-aggregate-print-job : tie.Need-slice-aggregate-print-job
-slice-aggregate-print-job c =
-    let start = c .before .before .before in
-    sym (length-take-le (start .args .bytes) (now (start .args .buffer)) (start .pre .1 .0))
+slice-aggregate-print-job c = let s = start c in sym (length-take-le (s .args .bytes) (now (s .args .buffer)) (s .pre .1 .0))
 
 print-job-requires : tie.Need-print-job-requires
 print-job-requires c κs = search needs
@@ -21,9 +22,10 @@ same-length c = search needs
 
 returns : tie.Need-returns
 returns c =
-    let start = c .before .before .before .before .before .before .before in
-    let put = c .before .before .print-job .ensures in
-    (put-input (now (start .args .buffer)) (start .args .bytes) (start .pre .0) put, (put-within put, put-part put))
+    let printed = c .before .before in
+    let s = start (printed .before .before) in
+    let put = printed .print-job .ensures in
+    (put-input (now (s .args .buffer)) (s .args .bytes) (s .pre .0) put, (put-within put, put-part put))
 
 pub print-input-spec : {M : Type 1} → statement M
 print-input-spec = tie.close (tie.spec slice-aggregate-print-job print-job-requires same-length returns)

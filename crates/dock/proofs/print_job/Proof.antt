@@ -8,6 +8,13 @@ use borrow.Author.Needs.{needs}
 use Rattle.dock.proofs.print_job.Statement.{statement}
 use Rattle.dock.proofs.print_job.Tie as tie
 
+-- the places that the answers read
+abbrev after-play : tie.After-put-text-arg → tie.After-play
+after-play c = c .before .before .before .before .before .before .before
+
+abbrev known : tie.After-play → tie.After-shared-slice-known
+known c = c .before .before .before .before .before
+
 slice-aggregate-play : tie.Need-slice-aggregate-play
 slice-aggregate-play c = search needs
 
@@ -31,26 +38,19 @@ slice-aggregate-put-text-3 c = search needs
 
 put-text-requires : tie.Need-put-text-requires
 put-text-requires c κs =
-    let start = c .before .before .before .before .before .before .before .before .before .before .before .before .before in
-    let file = now (start .args .file) in
-    let bytes : Bytes file = λ i. omega (
-      arith,
-      c .before .before .before .before .before .before .before .before .before .before .before .before .shared-slice-known .given i,
-    ) in (
-      subst PrintableLeft (sym (c .before .before .before .before .before .before .before .play .ensures .0))
-          (printable file _ _ _ bytes),
-      start .pre,
-    )
+    let played = after-play c in
+    let start = known played .before in
+    let bytes : Bytes (now (start .args .file)) = λ i. omega (arith, known played .shared-slice-known .given i) in
+    (subst PrintableLeft (sym (played .play .ensures .0)) (printable _ _ _ _ bytes), start .pre)
 
 same-length : tie.Need-same-length
 same-length c = search needs
 
 returns : tie.Need-returns
 returns c =
-    let after-put-text = c .before .before in
-    let after-play = after-put-text .before .before .before .before .before .before .before .before in
-    let start = after-play .before .before .before .before .before .before in
-    put-output (now (start .args .file)) _ (after-play .play .ensures .0) (after-put-text .put-text .ensures)
+    let put = c .before .before in
+    let played = after-play (put .before) in
+    put-output (now (known played .before .args .file)) _ (played .play .ensures .0) (put .put-text .ensures)
 
 pub print-job-spec : {M : Type 1} → statement M
 print-job-spec =

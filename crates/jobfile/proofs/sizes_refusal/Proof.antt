@@ -19,20 +19,22 @@ returns-3 c = simp (ne-eqb _ _ (c .before .before .if1 .left), le-ltb _ _ (c .be
 returns-4 : tie.Need-returns-4
 unfolding sizesRefusal
 returns-4 c =
+    let some = c .before in
     simp (
-      ne-eqb _ _ (c .before .before .before .if1 .left),
-      le-ltb _ _ (c .before .before .if2 .left),
-      ne-eqb _ _ (c .before .if3 .left),
+      ne-eqb _ _ (some .before .before .if1 .left),
+      le-ltb _ _ (some .before .if2 .left),
+      ne-eqb _ _ (some .if3 .left),
       lt-ltb _ _ (c .if4 .taken),
     )
 
 returns-5 : tie.Need-returns-5
 unfolding sizesRefusal
 returns-5 c =
+    let some = c .before in
     simp (
-      ne-eqb _ _ (c .before .before .before .if1 .left),
-      le-ltb _ _ (c .before .before .if2 .left),
-      ne-eqb _ _ (c .before .if3 .left),
+      ne-eqb _ _ (some .before .before .if1 .left),
+      le-ltb _ _ (some .before .if2 .left),
+      ne-eqb _ _ (some .if3 .left),
       le-ltb _ _ (c .if4 .left),
     )
 

@@ -1,5 +1,4 @@
 -- `linearization::position` looks from the back and stops at the first entry that is not later.
-use denote.Ref.{now}
 use borrow.Author.Needs.{needs}
 use native.Mathlib.Omega.{arith}
 use mathlib.Core.Path.{refl}
@@ -12,6 +11,9 @@ Inv-loop linearization entries point at₀ at = Scanned linearization entries po
 
 abbrev μ-loop : tie.MeasureT-loop
 μ-loop linearization entries point at₀ at = at
+
+abbrev looped : tie.After-shared-slice-known Inv-loop μ-loop → tie.At-loop Inv-loop μ-loop
+looped c = c .before .before
 
 loop-holds : tie.Need-loop-holds Inv-loop μ-loop
 loop-holds c = record { within = omega arith; rising = c .pre .rising; same = refl }
@@ -32,10 +34,7 @@ mul-result : tie.Need-mul-result Inv-loop μ-loop
 mul-result c = search needs
 
 returns : tie.Need-returns Inv-loop μ-loop
-returns c =
-    let a = c .before .before .before .before .args in
-    scanned-here (now (a .linearization)) (a .entries) (a .point) (omega arith) _ (omega arith)
-    (c .before .before .before .loop .inv) (omega arith)
+returns c = scanned-here _ _ _ (omega arith) _ (omega arith) (looped (c .before) .loop .inv) (omega arith)
 
 sub-at : tie.Need-sub-at Inv-loop μ-loop
 sub-at c = search needs
@@ -44,15 +43,10 @@ loop-less : tie.Need-loop-less Inv-loop μ-loop
 loop-less c = search needs
 
 loop-again : tie.Need-loop-again Inv-loop μ-loop
-loop-again c =
-    let a = c .before .before .before .before .args in
-    scanned-on (now (a .linearization)) (a .entries) (a .point) (omega arith) _ (omega arith)
-    (c .before .before .before .loop .inv) (omega arith)
+loop-again c = scanned-on _ _ _ (omega arith) _ (omega arith) (looped (c .before) .loop .inv) (omega arith)
 
 returns-2 : tie.Need-returns-2 Inv-loop μ-loop
-returns-2 c =
-    let a = c .before .before .args in
-    scanned-none (now (a .linearization)) (a .entries) (a .point) (omega arith) _ (omega arith) (c .before .loop .inv)
+returns-2 c = scanned-none _ _ _ (omega arith) _ (omega arith) (c .before .loop .inv)
 
 pub position-spec : {M : Type 1} → statement M
 position-spec =

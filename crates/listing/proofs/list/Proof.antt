@@ -2,7 +2,6 @@
 use mathlib.Core.Path.{refl}
 use native.Mathlib.Omega.{arith}
 use borrow.Author.Tests.{lt-ltb, le-ltb}
-use denote.Ref.{now}
 use Rattle.listing.specs.Listing.{listed, printed}
 use Rattle.listing.proofs.Listing.{enough}
 use Rattle.text.proofs.Writing.{wrote-whole}
@@ -18,10 +17,7 @@ unfolding listed printed
 returns c = simp (← c .before .any-short .ensures, c .if1 .taken) (refl, refl)
 
 listing-length-requires : tie.Need-listing-length-requires
-listing-length-requires c κs =
-    let a = c .before .before .before .before .before .before .args in
-    enough (a .played) (now (a .table)) (now (a .report)) (now (a .linearization))
-    (c .before .any-short .ensures) (c .if1 .left)
+listing-length-requires c κs = enough _ _ _ _ (c .before .any-short .ensures) (c .if1 .left)
 
 returns-2 : tie.Need-returns-2
 unfolding listed printed
@@ -33,9 +29,8 @@ returns-2 c =
 
 put-listing-requires : tie.Need-put-listing-requires
 put-listing-requires c κs =
-    let a = c .before .before .before .before .before .before .before .before .before .args in
-    enough (a .played) (now (a .table)) (now (a .report)) (now (a .linearization))
-    (c .before .before .before .before .any-short .ensures) (c .before .before .before .if1 .left)
+    let checked = c .before .before .before in
+    enough _ _ _ _ (checked .before .any-short .ensures) (checked .if1 .left)
 
 same-length : tie.Need-same-length
 same-length c = search needs

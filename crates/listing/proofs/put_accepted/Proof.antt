@@ -4,6 +4,13 @@ use borrow.Author.Needs.{needs}
 use Rattle.listing.proofs.put_accepted.Statement.{statement}
 use Rattle.listing.proofs.put_accepted.Tie as tie
 
+-- the places that the answer reads
+abbrev after-job : tie.After-put-sections → tie.After-put-job
+after-job c = c .before .before .before .before
+
+abbrev after-sections : tie.After-put-tally → tie.After-put-sections
+after-sections c = c .before .before .before .before
+
 put-job-requires : tie.Need-put-job-requires
 put-job-requires c κs = search needs
 
@@ -18,10 +25,9 @@ same-length c = search needs
 
 returns : tie.Need-returns
 returns c =
-    let after-tally = c .before .before in
-    let after-sections = after-tally .before .before .before .before in
-    let after-job = after-sections .before .before .before .before in
-    wrote-append (after-job .put-job .ensures) (wrote-append (after-sections .put-sections .ensures) (after-tally .put-tally .ensures))
+    let tally = c .before .before in
+    let sections = after-sections tally in
+    wrote-append (after-job sections .put-job .ensures) (wrote-append (sections .put-sections .ensures) (tally .put-tally .ensures))
 
 pub put-accepted-spec : {M : Type 1} → statement M
 put-accepted-spec =

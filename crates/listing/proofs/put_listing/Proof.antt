@@ -6,6 +6,9 @@ use borrow.Author.Needs.{needs}
 use Rattle.listing.proofs.put_listing.Statement.{statement}
 use Rattle.listing.proofs.put_listing.Tie as tie
 
+abbrev start : tie.After-slice-known → tie.Start
+start c = c .before .before .before .before
+
 put-refused-requires : tie.Need-put-refused-requires
 put-refused-requires c κs = search needs
 
@@ -15,8 +18,9 @@ same-length c = search needs
 returns : tie.Need-returns
 unfolding listing
 returns c =
-    let number = c .before .before .before .before .before .before .before .before .before .args .played .number in
-    rw (ne-eqb number 0 (omega arith)) (c .before .before .put-refused .ensures)
+    let put = c .before .before in
+    let test = put .before .before in
+    rw (ne-eqb (start (test .before) .args .played .number) 0 (omega arith)) (put .put-refused .ensures)
 
 put-accepted-requires : tie.Need-put-accepted-requires
 put-accepted-requires c κs = search needs
@@ -27,8 +31,9 @@ same-length-2 c = search needs
 returns-2 : tie.Need-returns-2
 unfolding listing
 returns-2 c =
-    let number = c .before .before .before .before .before .before .before .before .before .args .played .number in
-    rw (eq-eqb number 0 (omega arith)) (c .before .before .put-accepted .ensures)
+    let put = c .before .before in
+    let test = put .before .before in
+    rw (eq-eqb (start (test .before) .args .played .number) 0 (omega arith)) (put .put-accepted .ensures)
 
 pub put-listing-spec : {M : Type 1} → statement M
 put-listing-spec =

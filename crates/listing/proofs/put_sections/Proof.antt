@@ -4,6 +4,13 @@ use borrow.Author.Needs.{needs}
 use Rattle.listing.proofs.put_sections.Statement.{statement}
 use Rattle.listing.proofs.put_sections.Tie as tie
 
+-- the places that the answer reads
+abbrev after-words : tie.After-put-rows2 → tie.After-put-rows
+after-words c = c .before .before .before .before
+
+abbrev after-requests : tie.After-put-rows3 → tie.After-put-rows2
+after-requests c = c .before .before .before .before
+
 put-rows-requires : tie.Need-put-rows-requires
 put-rows-requires c κs = search needs
 
@@ -18,10 +25,9 @@ same-length c = search needs
 
 returns : tie.Need-returns
 returns c =
-    let after-entries = c .before .before in
-    let after-requests = after-entries .before .before .before .before in
-    let after-words = after-requests .before .before .before .before in
-    wrote-append (after-words .put-rows .ensures) (wrote-append (after-requests .put-rows2 .ensures) (after-entries .put-rows3 .ensures))
+    let entries = c .before .before in
+    let requests = after-requests entries in
+    wrote-append (after-words requests .put-rows .ensures) (wrote-append (requests .put-rows2 .ensures) (entries .put-rows3 .ensures))
 
 pub put-sections-spec : {M : Type 1} → statement M
 put-sections-spec =

@@ -62,6 +62,26 @@ move-on-claims t = (
   look.Post,
 )
 
+-- the places of `look` that its answers read
+abbrev some : {t : ℕ} → look-lts.After-parent (look-claims t) (look-at t) look.Post → look-lts.Else1 (look-claims t) (look-at t) look.Post
+some c = c .before .before
+
+abbrev read : {t : ℕ} → look-lts.Else5 (look-claims t) (look-at t) look.Post → look-lts.After-parent (look-claims t) (look-at t) look.Post
+read c = c .before .before .before .before
+
+-- the places of `move_on` that its answers read
+abbrev up : {t : ℕ} → move-on-lts.After-parent2 (move-on-claims t) (move-on-at t) move-on.Post
+    → move-on-lts.After-parent (move-on-claims t) (move-on-at t) move-on.Post
+up c = c .before .before
+
+abbrev above : {t : ℕ} → move-on-lts.After-halve (move-on-claims t) (move-on-at t) move-on.Post
+    → move-on-lts.After-parent2 (move-on-claims t) (move-on-at t) move-on.Post
+above c = c .before .before .before
+
+abbrev halved : {t : ℕ} → move-on-lts.After-parent3 (move-on-claims t) (move-on-at t) move-on.Post
+    → move-on-lts.After-halve (move-on-claims t) (move-on-at t) move-on.Post
+halved c = c .before .before .before
+
 look-packed-requires : (t : ℕ) → look-lts.Need-packed-requires (look-claims t) (look-at t) look.Post
 look-packed-requires t c κs = search needs
 
@@ -87,24 +107,23 @@ look-sub-move-on t c = search needs
 
 look-move-on-requires : (t : ℕ) → look-lts.Need-move-on-requires (look-claims t) (look-at t) look.Post
 look-move-on-requires t c κs =
-    let read = c .before .before in
-    let start = read .before .before .before in
+    let told = c .before .before in
+    let start = some told .before in
     let ready = start .pre .1 in (
       omega (arith, start .pre .0),
       (
         record { admitted = ready .admitted; inside = ready .inside; within = ready .within; room = omega (arith, ready .room) },
-        record { read = refl; lower = λ e. c .before .if2 .taken (read .parent .ensures ∙ e) },
+        record { read = refl; lower = λ e. c .before .if2 .taken (told .parent .ensures ∙ e) },
       ),
     )
 
 look-returns-2 : (t : ℕ) → look-lts.Need-returns-2 (look-claims t) (look-at t) look.Post
 look-returns-2 t c =
     let lower = c .before .before in
-    let read = lower .before in
-    let some = read .before .before in
-    let start = some .before in
+    let told = lower .before in
+    let start = some told .before in
     c .move-on .ensures
-    ∙ sym (looked-on (start .pre .1) (start .args .from-y) (some .if1 .left) (read .parent .ensures) (lower .if2 .taken))
+    ∙ sym (looked-on (start .pre .1) (start .args .from-y) (some told .if1 .left) (told .parent .ensures) (lower .if2 .taken))
 
 look-add-look : (t : ℕ) → look-lts.Need-add-look (look-claims t) (look-at t) look.Post
 look-add-look t c = search needs
@@ -114,7 +133,8 @@ look-sub-look t c = search needs
 
 look-look-requires : (t : ℕ) → look-lts.Need-look-requires (look-claims t) (look-at t) look.Post
 look-look-requires t c κs =
-    let start = c .before .before .before .before .before .before in
+    let root = c .before .before in
+    let start = some (root .before) .before in
     let ready = start .pre .1 in (
       omega (arith, start .pre .0),
       record { admitted = ready .admitted; inside = ready .within; within = ready .inside; room = omega (arith, ready .room) },
@@ -124,11 +144,10 @@ look-returns-3 : (t : ℕ) → look-lts.Need-returns-3 (look-claims t) (look-at 
 look-returns-3 t c =
     let first = c .before .before in
     let root = first .before in
-    let read = root .before in
-    let some = read .before .before in
-    let start = some .before in
+    let told = root .before in
+    let start = some told .before in
     c .look .ensures
-    ∙ sym (looked-turned (start .pre .1) (start .args .from-y) (some .if1 .left) (read .parent .ensures) (root .if2 .left)
+    ∙ sym (looked-turned (start .pre .1) (start .args .from-y) (some told .if1 .left) (told .parent .ensures) (root .if2 .left)
     (first .if3 .taken))
 
 look-add-packed : (t : ℕ) → look-lts.Need-add-packed (look-claims t) (look-at t) look.Post
@@ -140,13 +159,11 @@ look-packed-requires-2 t c κs = search needs
 look-returns-4 : (t : ℕ) → look-lts.Need-returns-4 (look-claims t) (look-at t) look.Post
 look-returns-4 t c =
     let met = c .before in
-    let second = met .before in
-    let root = second .before in
-    let read = root .before in
-    let some = read .before .before in
-    let start = some .before in
-    looked-met (start .pre .1) (start .args .from-y) (some .if1 .left) (read .parent .ensures) (root .if2 .left)
-    (second .if3 .left) (met .if4 .taken) (c .packed2 .ensures)
+    let root = met .before .before in
+    let told = root .before in
+    let start = some told .before in
+    looked-met (start .pre .1) (start .args .from-y) (some told .if1 .left) (told .parent .ensures) (root .if2 .left)
+    (met .before .if3 .left) (met .if4 .taken) (c .packed2 .ensures)
 
 look-add-packed-2 : (t : ℕ) → look-lts.Need-add-packed-2 (look-claims t) (look-at t) look.Post
 look-add-packed-2 t c = search needs
@@ -157,13 +174,11 @@ look-packed-requires-3 t c κs = search needs
 look-returns-5 : (t : ℕ) → look-lts.Need-returns-5 (look-claims t) (look-at t) look.Post
 look-returns-5 t c =
     let apart = c .before .before in
-    let second = apart .before in
-    let root = second .before in
-    let read = root .before in
-    let some = read .before .before in
-    let start = some .before in
-    looked-spent (start .pre .1) (start .args .from-y) (some .if1 .left) (read .parent .ensures) (root .if2 .left)
-    (second .if3 .left) (apart .if4 .left) (c .before .if5 .taken) (c .packed3 .ensures)
+    let root = apart .before .before in
+    let told = root .before in
+    let start = some told .before in
+    looked-spent (start .pre .1) (start .args .from-y) (some told .if1 .left) (told .parent .ensures) (root .if2 .left)
+    (apart .before .if3 .left) (apart .if4 .left) (c .before .if5 .taken) (c .packed3 .ensures)
 
 look-mul-parent : (t : ℕ) → look-lts.Need-mul-parent (look-claims t) (look-at t) look.Post
 look-mul-parent t c = search needs
@@ -185,13 +200,10 @@ look-returns-6 t c =
     let again = c .before .before in
     let two = again .before .before in
     let apart = two .before in
-    let second = apart .before in
-    let root = second .before in
-    let read = root .before in
-    let some = read .before .before in
-    let start = some .before in
-    looked-no (start .pre .1) (start .args .from-y) (some .if1 .left) (read .parent .ensures) (root .if2 .left)
-    (second .if3 .left) (apart .if4 .left) (two .if5 .left) (again .parent2 .ensures) (c .before .if6 .taken) (c .packed4 .ensures)
+    let told = read two in
+    let start = some told .before in
+    looked-no (start .pre .1) (start .args .from-y) (some told .if1 .left) (told .parent .ensures) (apart .before .before .if2 .left)
+    (apart .before .if3 .left) (apart .if4 .left) (two .if5 .left) (again .parent2 .ensures) (c .before .if6 .taken) (c .packed4 .ensures)
 
 look-add-look-2 : (t : ℕ) → look-lts.Need-add-look-2 (look-claims t) (look-at t) look.Post
 look-add-look-2 t c = search needs
@@ -201,7 +213,8 @@ look-sub-look-2 t c = search needs
 
 look-look-requires-2 : (t : ℕ) → look-lts.Need-look-requires-2 (look-claims t) (look-at t) look.Post
 look-look-requires-2 t c κs =
-    let start = c .before .before .before .before .before .before .before .before .before .before .before in
+    let again = c .before .before in
+    let start = some (read (again .before .before)) .before in
     let ready = start .pre .1 in (
       omega (arith, start .pre .0),
       record { admitted = ready .admitted; inside = ready .within; within = ready .inside; room = omega (arith, ready .room) },
@@ -213,14 +226,12 @@ look-returns-7 t c =
     let again = moved .before in
     let two = again .before .before in
     let apart = two .before in
-    let second = apart .before in
-    let root = second .before in
-    let read = root .before in
-    let some = read .before .before in
-    let start = some .before in
+    let told = read two in
+    let start = some told .before in
     c .look2 .ensures
-    ∙ sym (looked-again (start .pre .1) (start .args .from-y) (some .if1 .left) (read .parent .ensures) (root .if2 .left)
-    (second .if3 .left) (apart .if4 .left) (two .if5 .left) (again .parent2 .ensures) (moved .if6 .left))
+    ∙ sym (looked-again (start .pre .1) (start .args .from-y) (some told .if1 .left) (told .parent .ensures)
+    (apart .before .before .if2 .left) (apart .before .if3 .left) (apart .if4 .left) (two .if5 .left) (again .parent2 .ensures)
+    (moved .if6 .left))
 
 move-on-packed-requires : (t : ℕ) → move-on-lts.Need-packed-requires (move-on-claims t) (move-on-at t) move-on.Post
 move-on-packed-requires t c κs = search needs
@@ -255,23 +266,19 @@ move-on-packed-requires-2 t c κs = search needs
 
 move-on-returns-2 : (t : ℕ) → move-on-lts.Need-returns-2 (move-on-claims t) (move-on-at t) move-on.Post
 move-on-returns-2 t c =
-    let above = c .before .before in
-    let up = above .before .before in
-    let start = up .before .before in
-    once-spent (start .pre .1 .0) (start .pre .1 .1) (up .parent .ensures) (above .parent2 .ensures) (start .args .from-y)
-    (c .before .if2 .taken)
-    (c .packed2 .ensures)
+    let top = c .before .before in
+    let start = up top .before .before in
+    once-spent (start .pre .1 .0) (start .pre .1 .1) (up top .parent .ensures) (top .parent2 .ensures) (start .args .from-y)
+    (c .before .if2 .taken) (c .packed2 .ensures)
 
 move-on-halve-requires : (t : ℕ) → move-on-lts.Need-halve-requires (move-on-claims t) (move-on-at t) move-on.Post
 move-on-halve-requires t c κs =
-    let above = c .before .before in
-    let up = above .before .before in
-    let start = up .before .before in
+    let top = c .before .before in
+    let start = up top .before .before in
     let ready = start .pre .1 .0 in
-    let lower = start .pre .1 .1 in (
-      ready .admitted,
-      (ready .inside, own-rank ready lower (up .parent .ensures), above-inside ready lower (up .parent .ensures) (above .parent2 .ensures)),
-    )
+    let lower = start .pre .1 .1 in
+    let parent = up top .parent .ensures in
+    (ready .admitted, (ready .inside, own-rank ready lower parent, above-inside ready lower parent (top .parent2 .ensures)))
 
 move-on-add-packed-2 : (t : ℕ) → move-on-lts.Need-add-packed-2 (move-on-claims t) (move-on-at t) move-on.Post
 move-on-add-packed-2 t c = search needs
@@ -281,11 +288,10 @@ move-on-packed-requires-3 t c κs = search needs
 
 move-on-returns-3 : (t : ℕ) → move-on-lts.Need-returns-3 (move-on-claims t) (move-on-at t) move-on.Post
 move-on-returns-3 t c =
-    let halved = c .before .before in
-    let above = halved .before .before .before in
-    let up = above .before .before in
-    let start = up .before .before in
-    twice-spent (start .pre .1 .0) (start .pre .1 .1) (up .parent .ensures) (above .parent2 .ensures) (halved .halve .ensures)
+    let half = c .before .before in
+    let top = above half in
+    let start = up top .before .before in
+    twice-spent (start .pre .1 .0) (start .pre .1 .1) (up top .parent .ensures) (top .parent2 .ensures) (half .halve .ensures)
     (start .args .from-y) (c .before .if3 .taken) (c .packed3 .ensures)
 
 move-on-cast-parent-2 : (t : ℕ) → move-on-lts.Need-cast-parent-2 (move-on-claims t) (move-on-at t) move-on.Post
@@ -296,9 +302,9 @@ move-on-mul-parent-2 t c = search needs
 
 move-on-element-copy-out-parent-2 : (t : ℕ) → move-on-lts.Need-element-copy-out-parent-2 (move-on-claims t) (move-on-at t) move-on.Post
 move-on-element-copy-out-parent-2 t c =
-    let up = c .before .before .before .before .before .before in
-    let start = up .before .before in
-    up-inside (start .pre .1 .0) (start .pre .1 .1) (up .parent .ensures)
+    let first = up (above (c .before)) in
+    let start = first .before .before in
+    up-inside (start .pre .1 .0) (start .pre .1 .1) (first .parent .ensures)
 
 move-on-parent-requires-3 : (t : ℕ) → move-on-lts.Need-parent-requires-3 (move-on-claims t) (move-on-at t) move-on.Post
 move-on-parent-requires-3 t c κs = search needs
@@ -310,25 +316,23 @@ move-on-sub-look : (t : ℕ) → move-on-lts.Need-sub-look (move-on-claims t) (m
 move-on-sub-look t c = search needs
 
 move-on-look-requires : (t : ℕ) → move-on-lts.Need-look-requires (move-on-claims t) (move-on-at t) move-on.Post
-move-on-look-requires t c κs =
-    let next = c .before in
-    let halved = next .before .before .before in
-    let above = halved .before .before .before in
-    let up = above .before .before in
-    let start = up .before .before in
-    let ready = moved-ready (start .pre .1 .0) (start .pre .1 .1) (up .parent .ensures) (above .parent2 .ensures) (halved .halve .ensures)
-    (next .parent3 .ensures) (omega arith) in
-    (omega (arith, start .pre .0), ready)
+move-on-look-requires t c κs = (
+  omega (arith, up (above (halved (c .before))) .before .before .pre .0),
+  let half = halved (c .before) in
+      let top = above half in
+      let start = up top .before .before in
+      moved-ready (start .pre .1 .0) (start .pre .1 .1) (up top .parent .ensures) (top .parent2 .ensures) (half .halve .ensures)
+      (c .before .parent3 .ensures) (omega arith),
+)
 
 move-on-returns-4 : (t : ℕ) → move-on-lts.Need-returns-4 (move-on-claims t) (move-on-at t) move-on.Post
 move-on-returns-4 t c =
     let next = c .before .before in
-    let halved = next .before .before .before in
-    let above = halved .before .before .before in
-    let up = above .before .before in
-    let start = up .before .before in
+    let half = halved next in
+    let top = above half in
+    let start = up top .before .before in
     c .look .ensures
-    ∙ sym (moved (start .pre .1 .0) (start .pre .1 .1) (up .parent .ensures) (above .parent2 .ensures) (halved .halve .ensures)
+    ∙ sym (moved (start .pre .1 .0) (start .pre .1 .1) (up top .parent .ensures) (top .parent2 .ensures) (half .halve .ensures)
     (next .parent3 .ensures) (omega arith) (start .args .from-y))
 
 pub +look+move-on-spec : {M : Type 1} → statement M

@@ -1,49 +1,44 @@
 -- `query::enquire` fills its array, looks at x, and gives the array's front back.
 use denote.Ref.{now}
-use mathlib.Core.Path.{ap, _∙_}
+use mathlib.Core.Path.{_≡_, ap, _∙_}
 use native.Mathlib.Omega.{arith}
 use borrow.Author.Needs.{needs}
 use Rattle.query.specs.Numbers.{ended}
+use Rattle.query.proofs.Copies.{padded}
 use Rattle.query.proofs.Enquiry.{enquiry-few, enquiry-array, enquiry-ready, enquiry-size, enquired}
 use Rattle.query.proofs.enquire.Statement.{statement}
 use Rattle.query.proofs.enquire.Tie as tie
 
+-- the places that the answers read, and what the array is once it is padded
+abbrev start : tie.After-nodes2 → tie.Start
+start c = c .before .before .before .before .before
+
+abbrev looked : tie.After-nodes4 → tie.After-look
+looked c = c .before .before
+
+array : (c : tie.After-pad) → c .pad .last .0 ≡ padded (now (start (c .before) .args .table))
+array c =
+    let s = start (c .before) in
+    enquiry-array (now (s .args .table)) (s .args .x) (s .args .y) (s .pre) _ _ (c .before .before .copy-in .ensures) (c .pad .ensures)
+
 copy-in-requires : tie.Need-copy-in-requires
-copy-in-requires c κs =
-    let start = c .before .before .before in
-    enquiry-few (now (start .args .table)) (start .args .x) (start .args .y) (start .pre)
+copy-in-requires c κs = enquiry-few _ _ _ (c .before .before .before .pre)
 
 pad-requires : tie.Need-pad-requires
-pad-requires c κs =
-    let start = c .before .before .before .before .before in
-    enquiry-few (now (start .args .table)) (start .args .x) (start .args .y) (start .pre)
+pad-requires c κs = enquiry-few _ _ _ (start c .pre)
 
 look-requires : tie.Need-look-requires
 look-requires c κs =
-    let pad = c .before .pad in
-    let copied = c .before .before .before in
-    let start = copied .before .before .before .before in
-    let words = now (start .args .table) in
-    let copy = copied .copy-in in
-    let x = start .args .x in
-    let y = start .args .y in
-    let array = enquiry-array words x y (start .pre) (copy .last .0) (pad .last .0) (copy .ensures) (pad .ensures) in
-    enquiry-ready words x y (start .pre) (pad .last .0) _ array (omega (arith, start .fits .budget))
+    let s = start (c .before .before) in
+    enquiry-ready (now (s .args .table)) _ _ (s .pre) _ _ (array (c .before)) (omega (arith, s .fits .budget))
 
 copy-out-requires : tie.Need-copy-out-requires
 copy-out-requires c κs =
-    let looked = c .before .before in
-    let look = looked .look in
-    let pad = looked .before .before .pad in
-    let copied = looked .before .before .before .before in
-    let copy = copied .copy-in in
-    let start = copied .before .before .before .before in
-    let words = now (start .args .table) in
-    let x = start .args .x in
-    let y = start .args .y in
-    let array = enquiry-array words x y (start .pre) (copy .last .0) (pad .last .0) (copy .ensures) (pad .ensures) in (
-      enquiry-few words x y (start .pre),
-      enquiry-size words x y (start .pre) (start .args .budget) (pad .last .0) array (look .result) (look .last .0) (look .ensures),
+    let look = looked c in
+    let pad = look .before .before in
+    let s = start (pad .before) in (
+      enquiry-few _ _ _ (s .pre),
+      enquiry-size (now (s .args .table)) _ _ (s .pre) (s .args .budget) _ (array pad) _ _ (look .look .ensures),
     )
 
 same-length : tie.Need-same-length
@@ -51,19 +46,11 @@ same-length c = search needs
 
 returns : tie.Need-returns
 returns c =
-    let out = c .before .before .copy-out in
-    let looked = c .before .before .before .before .before in
-    let look = looked .look in
-    let pad = looked .before .before .pad in
-    let copied = looked .before .before .before .before in
-    let copy = copied .copy-in in
-    let start = copied .before .before .before .before in
-    let words = now (start .args .table) in
-    let x = start .args .x in
-    let y = start .args .y in
-    let array = enquiry-array words x y (start .pre) (copy .last .0) (pad .last .0) (copy .ensures) (pad .ensures) in
-    ap (ended (look .result)) (out .ensures)
-    ∙ enquired words x y (start .pre) (start .args .budget) (pad .last .0) array (look .result) (look .last .0) (look .ensures)
+    let out = c .before .before in
+    let look = looked (out .before) in
+    let pad = look .before .before in
+    ap (ended (look .look .result)) (out .copy-out .ensures)
+    ∙ enquired _ _ _ (start (pad .before) .pre) _ _ (array pad) _ _ (look .look .ensures)
 
 pub enquire-spec : {M : Type 1} → statement M
 enquire-spec = tie.close (tie.spec copy-in-requires pad-requires look-requires copy-out-requires same-length returns)

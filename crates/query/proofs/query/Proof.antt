@@ -1,5 +1,4 @@
 -- `query::query` checks first, and then makes the enquiry.
-use denote.Ref.{now}
 use mathlib.Core.Path.{sym, ap, _∙_}
 use borrow.Author.Needs.{needs}
 use Rattle.query.proofs.Enquiry.{query-refused}
@@ -15,11 +14,7 @@ same-length c = search needs
 
 returns : tie.Need-returns
 returns c =
-    let checked = c .before .refusal-of in
-    let a = c .before .before .before .before .args in (
-      query-refused (now (a .table)) (a .x) (a .y) (checked .result) (a .budget) (checked .ensures) (c .if1 .taken),
-      λ none. absurd (c .if1 .taken none),
-    )
+    (query-refused _ _ _ _ _ (c .before .refusal-of .ensures) (c .if1 .taken), λ none. absurd (c .if1 .taken none))
 
 enquire-requires : tie.Need-enquire-requires
 enquire-requires c κs = sym (c .before .before .refusal-of .ensures) ∙ c .before .if1 .left
@@ -33,9 +28,8 @@ same-length-2 c = search needs
 returns-2 : tie.Need-returns-2
 returns-2 c =
     let made = c .before .before .before in
-    let a = made .before .before .before .before .before .before .args in
     let exact = ap (λ r. record { queried = r; table = made .enquire .last .0 }) (c .told .ensures) ∙ made .enquire .ensures in
-    (exact, told-faithful (now (a .table)) (a .x) (a .y) (a .budget) _ exact)
+    (exact, told-faithful _ _ _ _ _ exact)
 
 pub query-spec : {M : Type 1} → statement M
 query-spec =

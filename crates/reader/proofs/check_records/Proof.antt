@@ -1,13 +1,46 @@
 -- `reader::check_records`: the first section that is refused answers, and where none is, the counts are the job's.
 use mathlib.Core.Path.{_∙_}
 use native.Mathlib.Omega.{arith}
+use mathlib.Core.List.{List}
+use Prim.Native.Nat.{ℕ}
 use denote.Ref.{now}
 use borrow.Author.Needs.{needs}
 use Rattle.jobfile.proofs.Passed.{header-passed}
-use Rattle.reader.proofs.Checks.{requests-told, requests-answer, runs-room, runs-told, runs-answer, close-room, close-told}
-use Rattle.reader.proofs.Checks.{close-answers, counts-answer}
+use Rattle.reader.proofs.Checks.{RequestsRead, requests-told, requests-answer, runs-room, RunsRead, runs-told, runs-answer}
+use Rattle.reader.proofs.Checks.{close-room, CloseRead, close-told, close-answers, counts-answer}
 use Rattle.reader.proofs.check_records.Statement.{statement}
 use Rattle.reader.proofs.check_records.Tie as tie
+
+-- the places that the answers read, and what a section that was read tells there
+abbrev start : tie.After-word-at2 → tie.Start
+start c = c .before .before .before
+
+abbrev after-requests : tie.After-struct-known2 → tie.After-struct-known
+after-requests c = c .before .before .before .before
+
+abbrev after-runs : tie.After-close-refusal → tie.After-struct-known2
+after-runs c = c .before .before .before
+
+abbrev file : tie.After-struct-known → List ℕ
+file c = now (start (c .before .before) .args .file)
+
+requests : (c : tie.After-struct-known) → RequestsRead (file c) (c .before .read-requests .result)
+requests c =
+    let words = c .before .before in
+    requests-told (start words .pre) (words .before .word-at .ensures) (words .word-at2 .ensures) (c .before .read-requests .ensures)
+
+runs : (c : tie.After-struct-known2)
+    → RunsRead (file (after-requests c)) (after-requests c .before .read-requests .result) (c .before .read-runs .result)
+runs c =
+    let read = after-requests c in
+    let ran = c .before in
+    runs-told (requests read) (ran .before .before .if1 .left) (read .before .before .word-at2 .ensures)
+    (ran .before .request-place .ensures) (ran .read-runs .ensures)
+
+close : (c : tie.After-close-refusal) → let ran = after-runs c in let read = after-requests ran in
+    CloseRead (file read) (read .before .read-requests .result) (ran .before .read-runs .result) (c .close-refusal .result)
+close c =
+    close-told (runs (after-runs c)) (c .before .before .if2 .left) (c .before .run-place .ensures) (c .close-refusal .ensures)
 
 word-at-requires : tie.Need-word-at-requires
 word-at-requires c κs = search needs
@@ -22,86 +55,47 @@ cast-heads : tie.Need-cast-heads
 cast-heads c = search needs
 
 read-requests-requires : tie.Need-read-requests-requires
-read-requests-requires c κs =
-    let start = c .before .before .before in
-    let s = now (start .args .file) in
-    (header-passed s (start .pre .1) .whole, start .pre .0)
+read-requests-requires c κs = (header-passed _ (start c .pre .1) .whole, start c .pre .0)
 
 refuse-requires : tie.Need-refuse-requires
 refuse-requires c κs = search needs
 
 returns : tie.Need-returns
-returns c =
-    let read = c .before .before .before in
-    let start = read .before .before .before .before in
-    let heads = read .before .word-at2 .ensures in
-    let requests = requests-told (start .pre) (read .before .before .word-at .ensures) heads (read .read-requests .ensures) in
-    c .refuse .ensures ∙ requests-answer requests (c .before .if1 .taken)
+returns c = c .refuse .ensures ∙ requests-answer (requests (c .before .before)) (c .before .if1 .taken)
 
 request-place-requires : tie.Need-request-place-requires
 request-place-requires c κs = search needs
 
 read-runs-requires : tie.Need-read-runs-requires
 read-runs-requires c κs =
-    let read = c .before .before .before in
-    let start = read .before .before .before .before in
-    let heads = read .before .word-at2 .ensures in
-    let requests = requests-told (start .pre) (read .before .before .word-at .ensures) heads (read .read-requests .ensures) in
-    (rw (c .request-place .ensures) (runs-room requests (c .before .if1 .left)), start .pre .0)
+    let read = requests (c .before .before) in
+    (rw (c .request-place .ensures) (runs-room read (c .before .if1 .left)), read .short)
 
 refuse-requires-2 : tie.Need-refuse-requires-2
 refuse-requires-2 c κs = search needs
 
 returns-2 : tie.Need-returns-2
-returns-2 c =
-    let ran = c .before .before .before in
-    let read = ran .before .before .before .before in
-    let start = read .before .before .before .before in
-    let heads = read .before .word-at2 .ensures in
-    let requests = requests-told (start .pre) (read .before .before .word-at .ensures) heads (read .read-requests .ensures) in
-    let runs = runs-told requests (ran .before .before .if1 .left) heads (ran .before .request-place .ensures) (ran .read-runs .ensures) in
-    c .refuse2 .ensures ∙ runs-answer runs (c .before .if2 .taken)
+returns-2 c = c .refuse2 .ensures ∙ runs-answer (runs (c .before .before)) (c .before .if2 .taken)
 
 run-place-requires : tie.Need-run-place-requires
 run-place-requires c κs = search needs
 
 close-refusal-requires : tie.Need-close-refusal-requires
 close-refusal-requires c κs =
-    let ran = c .before .before .before in
-    let read = ran .before .before .before .before in
-    let start = read .before .before .before .before in
-    let heads = read .before .word-at2 .ensures in
-    let requests = requests-told (start .pre) (read .before .before .word-at .ensures) heads (read .read-requests .ensures) in
-    let runs = runs-told requests (ran .before .before .if1 .left) heads (ran .before .request-place .ensures) (ran .read-runs .ensures) in
-    (rw (c .run-place .ensures) (close-room runs (c .before .if2 .left)), start .pre .0)
+    let ran = runs (c .before .before) in
+    (rw (c .run-place .ensures) (close-room ran (c .before .if2 .left)), ran .before .short)
 
 refuse-requires-3 : tie.Need-refuse-requires-3
 refuse-requires-3 c κs = search needs
 
 returns-3 : tie.Need-returns-3
-returns-3 c =
-    let ended = c .before .before in
-    let ran = ended .before .before .before .before in
-    let read = ran .before .before .before .before in
-    let start = read .before .before .before .before in
-    let heads = read .before .word-at2 .ensures in
-    let requests = requests-told (start .pre) (read .before .before .word-at .ensures) heads (read .read-requests .ensures) in
-    let runs = runs-told requests (ran .before .before .if1 .left) heads (ran .before .request-place .ensures) (ran .read-runs .ensures) in
-    let close = close-told runs (ended .before .before .if2 .left) (ended .before .run-place .ensures) (ended .close-refusal .ensures) in
-    c .refuse3 .ensures ∙ close-answers close (c .before .if3 .taken)
+returns-3 c = c .refuse3 .ensures ∙ close-answers (close (c .before .before)) (c .before .if3 .taken)
 
 returns-4 : tie.Need-returns-4
 returns-4 c =
-    let ended = c .before in
-    let ran = ended .before .before .before .before in
-    let read = ran .before .before .before .before in
-    let start = read .before .before .before .before in
-    let heads = read .before .word-at2 .ensures in
-    let requests = requests-told (start .pre) (read .before .before .word-at .ensures) heads (read .read-requests .ensures) in
-    let runs = runs-told requests (ran .before .before .if1 .left) heads (ran .before .request-place .ensures) (ran .read-runs .ensures) in
-    let close = close-told runs (ended .before .before .if2 .left) (ended .before .run-place .ensures) (ended .close-refusal .ensures) in
-    rw (read .before .before .word-at .ensures, heads)
-    (counts-answer close (λ i. omega (arith, read .before .before .before .shared-slice-known .given i)) (c .if3 .left))
+    let words = after-requests (after-runs (c .before)) .before .before in
+    simp (words .before .word-at .ensures, words .word-at2 .ensures)
+    (counts-answer (close (c .before)) (λ i. omega (arith, words .before .before .shared-slice-known .given i)) (c .if3 .left))
 
 pub check-records-spec : {M : Type 1} → statement M
 check-records-spec =

@@ -19,6 +19,9 @@ Inv-loop file counts firsts₀ h₀ firsts h = Filled 0 (firstRequest (requestsI
 abbrev μ-loop : tie.MeasureT-loop
 μ-loop file counts firsts₀ h₀ firsts h = mostHeads - h
 
+abbrev start : tie.At-loop Inv-loop μ-loop → tie.Start Inv-loop μ-loop
+start c = c .before .before
+
 loop-holds : tie.Need-loop-holds Inv-loop μ-loop
 loop-holds c = filled-none 0 (firstRequest (requestsIn (now (c .before .args .file)))) mostHeads _ refl
 
@@ -26,12 +29,12 @@ cast-next-request : tie.Need-cast-next-request Inv-loop μ-loop
 cast-next-request c = search needs
 
 next-request-requires : tie.Need-next-request-requires Inv-loop μ-loop
-next-request-requires c κs = (c .before .before .before .pre, omega arith)
+next-request-requires c κs = (start (c .before) .pre, omega arith)
 
 cast-firsts : tie.Need-cast-firsts Inv-loop μ-loop
 cast-firsts c =
-    let l = c .before .before .loop in
-    omega (arith, c .next-request .ensures, next-small (c .before .before .before .before .pre) (l .h) 0 (omega arith))
+    let looped = c .before .before in
+    omega (arith, c .next-request .ensures, next-small (start looped .pre) (looped .loop .h) 0 (omega arith))
 
 mul-firsts : tie.Need-mul-firsts Inv-loop μ-loop
 mul-firsts c = search needs
@@ -47,16 +50,16 @@ loop-less c = search needs
 
 loop-again : tie.Need-loop-again Inv-loop μ-loop
 loop-again c =
-    let l = c .before .before .loop in
-    filled-on 0 (firstRequest (requestsIn (now (c .before .before .before .before .args .file)))) mostHeads (l .firsts) (l .h) _
-    (omega arith) (c .next-request .ensures) (l .inv)
+    let looped = c .before .before in
+    filled-on 0 (firstRequest (requestsIn (now (start looped .args .file)))) mostHeads _ _ _ (omega arith) (c .next-request .ensures)
+    (looped .loop .inv)
 
 returns : tie.Need-returns Inv-loop μ-loop
 returns c =
-    let l = c .before .loop in
-    let qs = requestsIn (now (c .before .before .before .args .file)) in
-    filled-all 0 (firstRequest qs) mostHeads (l .firsts) (firstRequests qs 0 mostHeads) (length-first-requests qs 0 mostHeads)
-    (first-request qs mostHeads) (l .h) (omega arith) (l .inv)
+    let looped = c .before in
+    let qs = requestsIn (now (start looped .args .file)) in
+    filled-all 0 (firstRequest qs) mostHeads _ (firstRequests qs 0 mostHeads) (length-first-requests qs 0 mostHeads)
+    (first-request qs mostHeads) (looped .loop .h) (omega arith) (looped .loop .inv)
 
 pub first-requests-spec : {M : Type 1} → statement M
 first-requests-spec =

@@ -1,8 +1,9 @@
 -- `start::successors`: the successors of the requests from q on are found, and each head's first request from q on.
 use mathlib.Core.Path.{sym, ap}
-use Prim.Native.Nat.{_-_}
+use Prim.Native.Nat.{_-_, _≤_, _<_}
 use native.Mathlib.Omega.{arith}
 use borrow.Author.Needs.{needs}
+use Rattle.job.specs.Job.{mostHeads, mostRequests}
 use Rattle.stepper.proofs.Seek.{playing-count}
 use Rattle.rules.specs.State.{noRequest}
 use Rattle.stepper.specs.Shown.{requestsIn}
@@ -16,6 +17,19 @@ Inv-loop file requests firsts₀ index₀ q₀ firsts index q = Indexed (request
 abbrev μ-loop : tie.MeasureT-loop
 μ-loop file requests firsts₀ index₀ q₀ firsts index q = q
 
+-- where the loop started, and what is known of the request at hand
+abbrev start : tie.In-loop Inv-loop μ-loop → tie.Start Inv-loop μ-loop
+start c = c .before .before .before
+
+within : (c : tie.In-loop Inv-loop μ-loop) → c .before .loop .q ≤ start c .args .counts .requests
+within c = omega (arith, c .before .loop .inv .within, playing-count (start c .pre))
+
+few : (c : tie.In-loop Inv-loop μ-loop) → c .before .loop .q ≤ mostRequests
+few c = omega (arith, within c, few-requests (start c .pre))
+
+head : (c : tie.After-request-at Inv-loop μ-loop) → c .request-at .result .head < mostHeads
+head c = few-heads (start (c .before) .pre) (c .before .before .loop .q - 1) (omega (arith, within (c .before))) _ (c .request-at .ensures)
+
 cast-firsts : tie.Need-cast-firsts Inv-loop μ-loop
 cast-firsts c = omega (arith, few-requests (c .before .pre))
 
@@ -26,84 +40,34 @@ sub-q : tie.Need-sub-q Inv-loop μ-loop
 sub-q c = search needs
 
 request-at-requires : tie.Need-request-at-requires Inv-loop μ-loop
-request-at-requires c κs =
-    let start = c .before .before .before in
-    (start .pre .accepted, omega (arith, c .before .loop .inv .within, playing-count (start .pre)))
+request-at-requires c κs = (start c .pre .accepted, omega (arith, within c))
 
 cast-h : tie.Need-cast-h Inv-loop μ-loop
 cast-h c = search needs
 
 mul-index : tie.Need-mul-index Inv-loop μ-loop
-mul-index c =
-    let tested = c .before .before in
-    let l = tested .before .loop in
-    let start = tested .before .before .before in
-    omega (
-      arith,
-      few-heads (start .pre) (l .q - 1) (omega (arith, l .inv .within, playing-count (start .pre))) (c .before .request-at .result)
-          (c .before .request-at .ensures),
-    )
+mul-index c = omega (arith, head (c .before))
 
 array-read-index : tie.Need-array-read-index Inv-loop μ-loop
-array-read-index c =
-    let tested = c .before .before in
-    let l = tested .before .loop in
-    let start = tested .before .before .before in
-    omega (
-      arith,
-      few-heads (start .pre) (l .q - 1) (omega (arith, l .inv .within, playing-count (start .pre))) (c .before .request-at .result)
-          (c .before .request-at .ensures),
-    )
+array-read-index c = omega (arith, head (c .before))
 
 cast-index : tie.Need-cast-index Inv-loop μ-loop
-cast-index c =
-    let tested = c .before .before in
-    let l = tested .before .loop in
-    let start = tested .before .before .before in
-    omega (arith, l .inv .within, few-requests (start .pre), playing-count (start .pre))
+cast-index c = omega (arith, few (c .before .before))
 
 mul-index-2 : tie.Need-mul-index-2 Inv-loop μ-loop
-mul-index-2 c =
-    let tested = c .before .before in
-    let l = tested .before .loop in
-    let start = tested .before .before .before in
-    omega (arith, l .inv .within, few-requests (start .pre), playing-count (start .pre))
+mul-index-2 c = omega (arith, few (c .before .before))
 
 array-write-index : tie.Need-array-write-index Inv-loop μ-loop
-array-write-index c =
-    let tested = c .before .before in
-    let l = tested .before .loop in
-    let start = tested .before .before .before in
-    omega (arith, l .inv .within, few-requests (start .pre), playing-count (start .pre))
+array-write-index c = omega (arith, few (c .before .before))
 
 cast-firsts-2 : tie.Need-cast-firsts-2 Inv-loop μ-loop
-cast-firsts-2 c =
-    let tested = c .before .before in
-    let l = tested .before .loop in
-    let start = tested .before .before .before in
-    omega (arith, l .inv .within, few-requests (start .pre), playing-count (start .pre))
+cast-firsts-2 c = omega (arith, few (c .before .before))
 
 mul-firsts : tie.Need-mul-firsts Inv-loop μ-loop
-mul-firsts c =
-    let tested = c .before .before in
-    let l = tested .before .loop in
-    let start = tested .before .before .before in
-    omega (
-      arith,
-      few-heads (start .pre) (l .q - 1) (omega (arith, l .inv .within, playing-count (start .pre))) (c .before .request-at .result)
-          (c .before .request-at .ensures),
-    )
+mul-firsts c = omega (arith, head (c .before))
 
 array-write-firsts : tie.Need-array-write-firsts Inv-loop μ-loop
-array-write-firsts c =
-    let tested = c .before .before in
-    let l = tested .before .loop in
-    let start = tested .before .before .before in
-    omega (
-      arith,
-      few-heads (start .pre) (l .q - 1) (omega (arith, l .inv .within, playing-count (start .pre))) (c .before .request-at .result)
-          (c .before .request-at .ensures),
-    )
+array-write-firsts c = omega (arith, head (c .before))
 
 loop-less : tie.Need-loop-less Inv-loop μ-loop
 loop-less c = search needs
@@ -111,12 +75,8 @@ loop-less c = search needs
 loop-again : tie.Need-loop-again Inv-loop μ-loop
 loop-again c =
     let tested = c .before .before in
-    let l = tested .before .loop in
-    let start = tested .before .before .before in
-    indexed-on (l .inv) (l .q - 1) (c .before .request-at .result .head) (omega arith)
-    (ap (λ k. k .head) (sym (c .before .request-at .ensures noRequest)))
-    (few-heads (start .pre) (l .q - 1) (omega (arith, l .inv .within, playing-count (start .pre))) (c .before .request-at .result)
-    (c .before .request-at .ensures)) (omega (arith, l .inv .within, few-requests (start .pre), playing-count (start .pre)))
+    indexed-on (tested .before .loop .inv) (tested .before .loop .q - 1) (c .before .request-at .result .head) (omega arith)
+    (ap (λ k. k .head) (sym (c .before .request-at .ensures noRequest))) (head (c .before)) (omega (arith, few tested))
 
 returns : tie.Need-returns Inv-loop μ-loop
 returns c = indexed-all (omega arith) (c .before .loop .inv)

@@ -1,4 +1,10 @@
 -- `table::stepped`: one case a stage, each by what its access sees and leaves.
+use mathlib.Core.Path.{_≡_}
+use mathlib.Core.List.{map}
+use Rattle.word.specs.Word.{decode}
+use Rattle.process.specs.declared.Stage.{Stage}
+use Rattle.process.specs.Access.{accessAt}
+use Rattle.table.specs.Touch.{Touchable}
 use Rattle.table.proofs.Leads.{head-able, moves, moves-find}
 use Rattle.table.proofs.Accesses.{sees-idle, sees-load}
 use native.Mathlib.Omega.{arith}
@@ -6,6 +12,29 @@ use denote.Ref.{now}
 use borrow.Author.Needs.{needs}
 use Rattle.table.proofs.stepped.Statement.{statement}
 use Rattle.table.proofs.stepped.Tie as tie
+
+-- the places that the answers read: the start, seen from the match, and the arms whose access is a call
+abbrev start : tie.After-task → tie.Start
+start c = c .before .before
+
+able : (c : tie.After-task) {t : Stage} → start c .args .head .stage ≡ t
+    → Touchable (map decode (now (start c .args .table))) (accessAt (start c .args .head .task) t)
+able c case = head-able (now (start c .args .table)) (start c .args .head) case (start c .pre .0)
+
+abbrev find : tie.After-walk-arg → tie.After-stage
+find c = c .before .before
+
+abbrev reread-x : tie.After-load-arg → tie.After-stage2
+reread-x c = c .before .before
+
+abbrev read-rank-y : tie.After-load-arg3 → tie.After-stage3
+read-rank-y c = c .before .before
+
+abbrev link : tie.After-swap-arg → tie.After-stage4
+link c = c .before .before
+
+abbrev raise : tie.After-swap-arg2 → tie.After-stage5
+raise c = c .before .before
 
 enum-told : tie.Need-enum-told
 enum-told c = search needs
@@ -17,17 +46,13 @@ enum-known-stage : tie.Need-enum-known-stage
 enum-known-stage c = search needs
 
 walk-requires : tie.Need-walk-requires
-walk-requires c κs =
-    let start = c .before .before .before .before .before .before in
-    head-able (now (start .args .table)) (start .args .head) (c .before .before .stage .given .1) (start .pre .0)
+walk-requires c κs = let arm = find c in able (arm .before .before) (arm .stage .given .1)
 
 enum-known-stage-2 : tie.Need-enum-known-stage-2
 enum-known-stage-2 c = search needs
 
 load-requires : tie.Need-load-requires
-load-requires c κs =
-    let start = c .before .before .before .before .before .before in
-    head-able (now (start .args .table)) (start .args .head) (c .before .before .stage2 .given .1) (start .pre .0)
+load-requires c κs = let arm = reread-x c in able (arm .before .before) (arm .stage2 .given .1)
 
 reread-requires : tie.Need-reread-requires
 reread-requires c κs = search needs
@@ -36,9 +61,7 @@ enum-told-2 : tie.Need-enum-told-2
 enum-told-2 c = search needs
 
 load-requires-2 : tie.Need-load-requires-2
-load-requires-2 c κs =
-    let start = c .before .before .before .before .before in
-    head-able (now (start .args .table)) (start .args .head) (c .before .enum-told2 .given .1) (start .pre .0)
+load-requires-2 c κs = let arm = c .before in able (arm .before .before) (arm .enum-told2 .given .1)
 
 go-on-requires-2 : tie.Need-go-on-requires-2
 go-on-requires-2 c κs = search needs
@@ -47,9 +70,7 @@ enum-known-stage-3 : tie.Need-enum-known-stage-3
 enum-known-stage-3 c = search needs
 
 load-requires-3 : tie.Need-load-requires-3
-load-requires-3 c κs =
-    let start = c .before .before .before .before .before .before in
-    head-able (now (start .args .table)) (start .args .head) (c .before .before .stage3 .given .1) (start .pre .0)
+load-requires-3 c κs = let arm = read-rank-y c in able (arm .before .before) (arm .stage3 .given .1)
 
 rank-both-requires : tie.Need-rank-both-requires
 rank-both-requires c κs = search needs
@@ -58,9 +79,7 @@ enum-known-stage-4 : tie.Need-enum-known-stage-4
 enum-known-stage-4 c = search needs
 
 swap-requires : tie.Need-swap-requires
-swap-requires c κs =
-    let start = c .before .before .before .before .before .before in
-    head-able (now (start .args .table)) (start .args .head) (c .before .before .stage4 .given .1) (start .pre .0)
+swap-requires c κs = let arm = link c in able (arm .before .before) (arm .stage4 .given .1)
 
 link-requires : tie.Need-link-requires
 link-requires c κs = search needs
@@ -69,89 +88,83 @@ enum-known-stage-5 : tie.Need-enum-known-stage-5
 enum-known-stage-5 c = search needs
 
 add-t38 : tie.Need-add-t38
-add-t38 c =
-    let start = c .before .before .before .before .before .before in
-    omega (arith, rw (c .before .before .stage5 .given .1) at (start .pre .1))
+add-t38 c = let arm = raise c in omega (arith, rw (arm .stage5 .given .1) at (start (arm .before .before) .pre .1))
 
 swap-requires-2 : tie.Need-swap-requires-2
-swap-requires-2 c κs =
-    let start = c .before .before .before .before .before .before in
-    head-able (now (start .args .table)) (start .args .head) (c .before .before .stage5 .given .1) (start .pre .0)
+swap-requires-2 c κs = let arm = raise c in able (arm .before .before) (arm .stage5 .given .1)
 
 raise-requires : tie.Need-raise-requires
 raise-requires c κs = search needs
 
 returns : tie.Need-returns
 returns c =
-    let case = c .before .enum-told .given .1 in
-    let start = c .before .before .before .before .before in
-    let able = head-able (now (start .args .table)) (start .args .head) case (start .pre .0) in
-    moves (now (start .args .table)) (start .args .head) case _ _ _ _ (sees-idle _ (able .worded)) (c .go-on .ensures)
+    let arm = c .before in
+    let m = arm .before .before in
+    moves (now (start m .args .table)) _ (arm .enum-told .given .1) _ _ _ _
+    (sees-idle _ (able m (arm .enum-told .given .1) .worded)) (c .go-on .ensures)
 
 same-length : tie.Need-same-length
 same-length c = search needs
 
 returns-2 : tie.Need-returns-2
 returns-2 c =
-    let start = c .before .before .before .before .before .before .before .before .before in
-    let case = c .before .before .before .before .before .stage .given .1 in
-    moves-find (now (start .args .table)) (start .args .head) _ _ case _ _ _ (c .before .before .walk .ensures)
+    let walked = c .before .before in
+    let arm = find (walked .before) in
+    moves-find (now (start (arm .before .before) .args .table)) _ _ _ (arm .stage .given .1) _ _ _ (walked .walk .ensures)
 
 same-length-2 : tie.Need-same-length-2
 same-length-2 c = search needs
 
 returns-3 : tie.Need-returns-3
 returns-3 c =
-    let loaded = c .before .load in
-    let case = c .before .before .before .before .stage2 .given .1 in
-    let start = c .before .before .before .before .before .before .before .before in
-    let able = head-able (now (start .args .table)) (start .args .head) case (start .pre .0) in
-    moves (now (start .args .table)) (start .args .head) case _ _ _ _
-    (sees-load (now (start .args .table)) (able .worded) _ (able .node) (loaded .result) (loaded .ensures)) (c .reread .ensures)
+    let arm = reread-x (c .before .before) in
+    let m = arm .before .before in
+    let able = able m (arm .stage2 .given .1) in
+    moves (now (start m .args .table)) _ (arm .stage2 .given .1) _ _ _ _
+    (sees-load _ (able .worded) _ (able .node) _ (c .before .load .ensures)) (c .reread .ensures)
 
 same-length-3 : tie.Need-same-length-3
 same-length-3 c = search needs
 
 returns-4 : tie.Need-returns-4
 returns-4 c =
-    let loaded = c .before .load2 in
-    let case = c .before .before .before .enum-told2 .given .1 in
-    let start = c .before .before .before .before .before .before .before in
-    let able = head-able (now (start .args .table)) (start .args .head) case (start .pre .0) in
-    moves (now (start .args .table)) (start .args .head) case _ _ _ _
-    (sees-load (now (start .args .table)) (able .worded) _ (able .node) (loaded .result) (loaded .ensures)) (c .go-on2 .ensures)
+    let loaded = c .before in
+    let arm = loaded .before .before in
+    let m = arm .before .before in
+    let able = able m (arm .enum-told2 .given .1) in
+    moves (now (start m .args .table)) _ (arm .enum-told2 .given .1) _ _ _ _
+    (sees-load _ (able .worded) _ (able .node) _ (loaded .load2 .ensures)) (c .go-on2 .ensures)
 
 same-length-4 : tie.Need-same-length-4
 same-length-4 c = search needs
 
 returns-5 : tie.Need-returns-5
 returns-5 c =
-    let loaded = c .before .load3 in
-    let case = c .before .before .before .before .stage3 .given .1 in
-    let start = c .before .before .before .before .before .before .before .before in
-    let able = head-able (now (start .args .table)) (start .args .head) case (start .pre .0) in
-    moves (now (start .args .table)) (start .args .head) case _ _ _ _
-    (sees-load (now (start .args .table)) (able .worded) _ (able .node) (loaded .result) (loaded .ensures)) (c .rank-both .ensures)
+    let arm = read-rank-y (c .before .before) in
+    let m = arm .before .before in
+    let able = able m (arm .stage3 .given .1) in
+    moves (now (start m .args .table)) _ (arm .stage3 .given .1) _ _ _ _
+    (sees-load _ (able .worded) _ (able .node) _ (c .before .load3 .ensures)) (c .rank-both .ensures)
 
 same-length-5 : tie.Need-same-length-5
 same-length-5 c = search needs
 
 returns-6 : tie.Need-returns-6
 returns-6 c =
-    let swapped = c .before .before .before .swap in
-    let case = c .before .before .before .before .before .before .stage4 .given .1 in
-    let start = c .before .before .before .before .before .before .before .before .before .before in
-    moves (now (start .args .table)) (start .args .head) case _ _ _ _ (swapped .ensures) (c .link .ensures)
+    let back = c .before .before in
+    let arm = link (back .before .before) in
+    moves (now (start (arm .before .before) .args .table)) _ (arm .stage4 .given .1) _ _ _ _
+    (back .before .swap .ensures) (c .link .ensures)
 
 same-length-6 : tie.Need-same-length-6
 same-length-6 c = search needs
 
 returns-7 : tie.Need-returns-7
 returns-7 c =
-    let swapped = c .before .before .before .swap2 in
-    let case = c .before .before .before .before .before .before .stage5 .given .1 in
-    let start = c .before .before .before .before .before .before .before .before .before .before in
-    moves (now (start .args .table)) (start .args .head) case _ _ _ _ (swapped .ensures) (c .raise .ensures)
+    let back = c .before .before in
+    let arm = raise (back .before .before) in
+    moves (now (start (arm .before .before) .args .table)) _ (arm .stage5 .given .1) _ _ _ _
+    (back .before .swap2 .ensures) (c .raise .ensures)
 
 pub stepped-spec : {M : Type 1} → statement M
 stepped-spec =

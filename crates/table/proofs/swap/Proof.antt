@@ -6,6 +6,9 @@ use Rattle.table.proofs.Accesses.{node-inside, node-rank, swap-wrote, s
 use Rattle.table.proofs.swap.Statement.{statement}
 use Rattle.table.proofs.swap.Tie as tie
 
+abbrev start : tie.After-is-same → tie.Start
+start c = c .before .before .before .before
+
 mul-decoded : tie.Need-mul-decoded
 mul-decoded c = search needs
 
@@ -30,9 +33,8 @@ mul-table c = search needs
 
 slice-write-table : tie.Need-slice-write-table
 slice-write-table c =
-    let start = c .before .before .before .before .before .before in
-    let a = start .args in
-    node-inside (now (a .table)) (start .pre .worded) (a .node) (start .pre .node)
+    let s = start (c .before .before) in
+    node-inside (now (s .args .table)) (s .pre .worded) (s .args .node) (s .pre .node)
 
 same-length : tie.Need-same-length
 same-length c = search needs
@@ -40,19 +42,15 @@ same-length c = search needs
 returns : tie.Need-returns
 returns c =
     let tested = c .before .before in
-    let found = tested .before .decoded in
-    let start = tested .before .before .before .before in
-    let a = start .args in
-    swap-wrote (now (a .table)) (a .node) (a .expected) (a .new) (start .pre) (found .result) (found .ensures)
+    let s = start tested in
+    swap-wrote (now (s .args .table)) _ _ _ (s .pre) _ (tested .before .decoded .ensures)
     (sym (tested .is-same .ensures) ∙ c .before .if1 .taken) _ (c .encoded .ensures)
 
 returns-2 : tie.Need-returns-2
 returns-2 c =
     let tested = c .before in
-    let found = tested .before .decoded in
-    let start = tested .before .before .before .before in
-    let a = start .args in
-    swap-failed (now (a .table)) (a .node) (a .expected) (a .new) (start .pre) (found .result) (found .ensures)
+    let s = start tested in
+    swap-failed (now (s .args .table)) _ _ _ (s .pre) _ (tested .before .decoded .ensures)
     (sym (tested .is-same .ensures) ∙ c .if1 .left)
 
 pub swap-spec : {M : Type 1} → statement M

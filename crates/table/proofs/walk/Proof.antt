@@ -1,11 +1,40 @@
 -- `table::walk`: one case a step, each by what its access sees and leaves.
+use mathlib.Core.Path.{_≡_}
+use mathlib.Core.List.{map}
 use denote.Ref.{now}
 use borrow.Author.Tests.{eq-eqb, ne-eqb}
+use Rattle.word.specs.Word.{decode}
+use Rattle.process.specs.declared.Step.{Step}
+use Rattle.process.specs.Find.{findAccess}
+use Rattle.table.specs.Touch.{Touchable}
 use Rattle.table.proofs.Accesses.{sees-load}
 use Rattle.table.proofs.Leads.{find-able, walks}
 use borrow.Author.Needs.{needs}
 use Rattle.table.proofs.walk.Statement.{statement}
 use Rattle.table.proofs.walk.Tie as tie
+
+-- the places that the answers read: the start, seen from the match, and the arms with the access that each makes
+abbrev start : tie.After-node-at → tie.Start
+start c = c .before .before
+
+able : (c : tie.After-node-at) {step : Step} → start c .args .step ≡ step
+    → Touchable (map decode (now (start c .args .table))) (findAccess (c .node-at .result) step)
+able c case = let a = start c .args in find-able (now (a .table)) (a .task) (a .errand) _ (c .node-at .ensures) case (start c .pre)
+
+abbrev loaded : tie.After-struct-known → tie.After-load
+loaded c = c .before
+
+abbrev read-parent : tie.After-load-arg2 → tie.After-step
+read-parent c = c .before .before
+
+abbrev halve : tie.After-swap-arg → tie.After-step2
+halve c = c .before .before
+
+abbrev swapped : tie.After-is-same → tie.After-swap
+swapped c = c .before .before .before
+
+abbrev read-again : tie.After-load-arg3 → tie.After-step3
+read-again c = c .before .before
 
 node-at-requires : tie.Need-node-at-requires
 node-at-requires c κs = search needs
@@ -14,12 +43,7 @@ enum-told : tie.Need-enum-told
 enum-told c = search needs
 
 load-requires : tie.Need-load-requires
-load-requires c κs =
-    let found = c .before .before .before in
-    let node = found .node-at in
-    let a = found .before .before .args in
-    let case = c .before .enum-told .given .1 in
-    find-able (now (a .table)) (a .task) (a .errand) (node .result) (node .ensures) case (found .before .before .pre)
+load-requires c κs = let arm = c .before in able (arm .before .before) (arm .enum-told .given .1)
 
 ended-requires : tie.Need-ended-requires
 ended-requires c κs = search needs
@@ -29,15 +53,13 @@ same-length c = search needs
 
 returns : tie.Need-returns
 returns c =
-    let found = c .before .before .before .before .before .before .before in
-    let node = found .node-at in
-    let a = found .before .before .args in
-    let case = c .before .before .before .before .before .enum-told .given .1 in
-    let loaded = c .before .before .before .load in
-    let able = find-able (now (a .table)) (a .task) (a .errand) (node .result) (node .ensures) case (found .before .before .pre) in
-    walks (now (a .table)) (a .task) (a .errand) (node .result) (node .ensures) case _ (a .number) _ _
-    (sees-load (now (a .table)) (able .worded) _ (able .node) (loaded .result) (loaded .ensures))
-    (simp (eq-eqb _ _ (c .before .if1 .taken), c .ended .ensures))
+    let seen = loaded (c .before .before) in
+    let arm = seen .before .before in
+    let found = arm .before .before in
+    let able = able found (arm .enum-told .given .1) in
+    let a = start found .args in
+    walks (now (a .table)) (a .task) (a .errand) _ (found .node-at .ensures) (arm .enum-told .given .1) _ (a .number) _ _
+    (sees-load _ (able .worded) _ (able .node) _ (seen .load .ensures)) (simp (eq-eqb _ _ (c .before .if1 .taken), c .ended .ensures))
 
 go-on-requires : tie.Need-go-on-requires
 go-on-requires c κs = search needs
@@ -46,12 +68,7 @@ enum-known-step : tie.Need-enum-known-step
 enum-known-step c = search needs
 
 load-requires-2 : tie.Need-load-requires-2
-load-requires-2 c κs =
-    let found = c .before .before .before .before in
-    let node = found .node-at in
-    let a = found .before .before .args in
-    let case = c .before .before .step .given .1 in
-    find-able (now (a .table)) (a .task) (a .errand) (node .result) (node .ensures) case (found .before .before .pre)
+load-requires-2 c κs = let arm = read-parent c in able (arm .before .before) (arm .step .given .1)
 
 go-on-requires-2 : tie.Need-go-on-requires-2
 go-on-requires-2 c κs = search needs
@@ -60,12 +77,7 @@ enum-known-step-2 : tie.Need-enum-known-step-2
 enum-known-step-2 c = search needs
 
 swap-requires : tie.Need-swap-requires
-swap-requires c κs =
-    let found = c .before .before .before .before in
-    let node = found .node-at in
-    let a = found .before .before .args in
-    let case = c .before .before .step2 .given .1 in
-    find-able (now (a .table)) (a .task) (a .errand) (node .result) (node .ensures) case (found .before .before .pre)
+swap-requires c κs = let arm = halve c in able (arm .before .before) (arm .step2 .given .1)
 
 is-same-requires : tie.Need-is-same-requires
 is-same-requires c κs = search needs
@@ -78,13 +90,12 @@ same-length-2 c = search needs
 
 returns-2 : tie.Need-returns-2
 returns-2 c =
-    let found = c .before .before .before .before .before .before .before .before .before .before in
-    let node = found .node-at in
-    let a = found .before .before .args in
-    let case = c .before .before .before .before .before .before .before .before .step2 .given .1 in
-    let swapped = c .before .before .before .before .before .swap in
-    walks (now (a .table)) (a .task) (a .errand) (node .result) (node .ensures) case _ (a .number) _ _ (swapped .ensures)
-    (simp (← c .before .before .is-same .ensures, c .before .if2 .taken, c .go-on3 .ensures))
+    let after = swapped (c .before .before) in
+    let arm = halve (after .before) in
+    let found = arm .before .before in
+    let a = start found .args in
+    walks (now (a .table)) (a .task) (a .errand) _ (found .node-at .ensures) (arm .step2 .given .1) _ (a .number) _ _
+    (after .swap .ensures) (simp (← c .before .before .is-same .ensures, c .before .if2 .taken, c .go-on3 .ensures))
 
 retry-requires : tie.Need-retry-requires
 retry-requires c κs = search needs
@@ -93,12 +104,7 @@ enum-known-step-3 : tie.Need-enum-known-step-3
 enum-known-step-3 c = search needs
 
 load-requires-3 : tie.Need-load-requires-3
-load-requires-3 c κs =
-    let found = c .before .before .before .before in
-    let node = found .node-at in
-    let a = found .before .before .args in
-    let case = c .before .before .step3 .given .1 in
-    find-able (now (a .table)) (a .task) (a .errand) (node .result) (node .ensures) case (found .before .before .pre)
+load-requires-3 c κs = let arm = read-again c in able (arm .before .before) (arm .step3 .given .1)
 
 moved-to-requires : tie.Need-moved-to-requires
 moved-to-requires c κs = search needs
@@ -111,58 +117,50 @@ same-length-3 c = search needs
 
 returns-3 : tie.Need-returns-3
 returns-3 c =
-    let found = c .before .before .before .before .before .before .before in
-    let node = found .node-at in
-    let a = found .before .before .args in
-    let case = c .before .before .before .before .before .enum-told .given .1 in
-    let loaded = c .before .before .before .load in
-    let able = find-able (now (a .table)) (a .task) (a .errand) (node .result) (node .ensures) case (found .before .before .pre) in
-    walks (now (a .table)) (a .task) (a .errand) (node .result) (node .ensures) case _ (a .number) _ _
-    (sees-load (now (a .table)) (able .worded) _ (able .node) (loaded .result) (loaded .ensures))
-    (simp (ne-eqb _ _ (c .before .if1 .left), c .go-on .ensures))
+    let seen = loaded (c .before .before) in
+    let arm = seen .before .before in
+    let found = arm .before .before in
+    let able = able found (arm .enum-told .given .1) in
+    let a = start found .args in
+    walks (now (a .table)) (a .task) (a .errand) _ (found .node-at .ensures) (arm .enum-told .given .1) _ (a .number) _ _
+    (sees-load _ (able .worded) _ (able .node) _ (seen .load .ensures)) (simp (ne-eqb _ _ (c .before .if1 .left), c .go-on .ensures))
 
 same-length-4 : tie.Need-same-length-4
 same-length-4 c = search needs
 
 returns-4 : tie.Need-returns-4
 returns-4 c =
-    let found = c .before .before .before .before .before .before in
-    let node = found .node-at in
-    let a = found .before .before .args in
-    let case = c .before .before .before .before .step .given .1 in
-    let loaded = c .before .load2 in
-    let able = find-able (now (a .table)) (a .task) (a .errand) (node .result) (node .ensures) case (found .before .before .pre) in
-    walks (now (a .table)) (a .task) (a .errand) (node .result) (node .ensures) case _ (a .number) _ _
-    (sees-load (now (a .table)) (able .worded) _ (able .node) (loaded .result) (loaded .ensures))
-    (c .go-on2 .ensures)
+    let arm = read-parent (c .before .before) in
+    let found = arm .before .before in
+    let able = able found (arm .step .given .1) in
+    let a = start found .args in
+    walks (now (a .table)) (a .task) (a .errand) _ (found .node-at .ensures) (arm .step .given .1) _ (a .number) _ _
+    (sees-load _ (able .worded) _ (able .node) _ (c .before .load2 .ensures)) (c .go-on2 .ensures)
 
 same-length-5 : tie.Need-same-length-5
 same-length-5 c = search needs
 
 returns-5 : tie.Need-returns-5
 returns-5 c =
-    let found = c .before .before .before .before .before .before .before .before .before .before in
-    let node = found .node-at in
-    let a = found .before .before .args in
-    let case = c .before .before .before .before .before .before .before .before .step2 .given .1 in
-    let swapped = c .before .before .before .before .before .swap in
-    walks (now (a .table)) (a .task) (a .errand) (node .result) (node .ensures) case _ (a .number) _ _ (swapped .ensures)
-    (simp (← c .before .before .is-same .ensures, c .before .if2 .left, c .retry .ensures))
+    let after = swapped (c .before .before) in
+    let arm = halve (after .before) in
+    let found = arm .before .before in
+    let a = start found .args in
+    walks (now (a .table)) (a .task) (a .errand) _ (found .node-at .ensures) (arm .step2 .given .1) _ (a .number) _ _
+    (after .swap .ensures) (simp (← c .before .before .is-same .ensures, c .before .if2 .left, c .retry .ensures))
 
 same-length-6 : tie.Need-same-length-6
 same-length-6 c = search needs
 
 returns-6 : tie.Need-returns-6
 returns-6 c =
-    let found = c .before .before .before .before .before .before .before in
-    let node = found .node-at in
-    let a = found .before .before .args in
-    let case = c .before .before .before .before .before .step3 .given .1 in
-    let loaded = c .before .before .load3 in
-    let able = find-able (now (a .table)) (a .task) (a .errand) (node .result) (node .ensures) case (found .before .before .pre) in
-    walks (now (a .table)) (a .task) (a .errand) (node .result) (node .ensures) case _ (a .number) _ _
-    (sees-load (now (a .table)) (able .worded) _ (able .node) (loaded .result) (loaded .ensures))
-    (simp (c .before .moved-to .ensures, c .go-on4 .ensures))
+    let seen = c .before .before in
+    let arm = read-again (seen .before) in
+    let found = arm .before .before in
+    let able = able found (arm .step3 .given .1) in
+    let a = start found .args in
+    walks (now (a .table)) (a .task) (a .errand) _ (found .node-at .ensures) (arm .step3 .given .1) _ (a .number) _ _
+    (sees-load _ (able .worded) _ (able .node) _ (seen .load3 .ensures)) (simp (c .before .moved-to .ensures, c .go-on4 .ensures))
 
 pub walk-spec : {M : Type 1} → statement M
 walk-spec =

@@ -37,6 +37,10 @@ put-decimal-claims t = (
   put-decimal.Post,
 )
 
+abbrev after-hundredth : {t : ℕ} → put-decimal-lts.After-put-last-two2 (put-decimal-claims t) (put-decimal-at t) put-decimal.Post
+    → put-decimal-lts.After-put-decimal (put-decimal-claims t) (put-decimal-at t) put-decimal.Post
+after-hundredth c = c .before .before .before .before
+
 put-decimal-add-put-byte : (t : ℕ) → put-decimal-lts.Need-add-put-byte (put-decimal-claims t) (put-decimal-at t) put-decimal.Post
 put-decimal-add-put-byte t c = omega arith
 
@@ -51,9 +55,8 @@ put-decimal-same-length t c = wrote-length (c .before .before .put-byte .ensures
 
 put-decimal-returns : (t : ℕ) → put-decimal-lts.Need-returns (put-decimal-claims t) (put-decimal-at t) put-decimal.Post
 put-decimal-returns t c =
-    let after-digit = c .before .before in
-    let start = after-digit .before .before .before .before in
-    rw (decimal-digit (start .args .n) (omega arith)) (after-digit .put-byte .ensures)
+    let digit = c .before .before in
+    rw (decimal-digit _ (digit .before .before .if1 .taken)) (digit .put-byte .ensures)
 
 put-decimal-put-last-two-requires : (t : ℕ)
     → put-decimal-lts.Need-put-last-two-requires (put-decimal-claims t) (put-decimal-at t) put-decimal.Post
@@ -64,9 +67,9 @@ put-decimal-same-length-2 t c = wrote-length (c .before .before .put-last-two .e
 
 put-decimal-returns-2 : (t : ℕ) → put-decimal-lts.Need-returns-2 (put-decimal-claims t) (put-decimal-at t) put-decimal.Post
 put-decimal-returns-2 t c =
-    let after-two = c .before .before in
-    let start = after-two .before .before .before .before .before in
-    rw (decimal-two (start .args .n) (omega arith) (omega arith)) (after-two .put-last-two .ensures)
+    let two = c .before .before in
+    let below = two .before .before .before in
+    rw (decimal-two (below .before .before .args .n) (omega arith) (omega arith)) (two .put-last-two .ensures)
 
 put-decimal-put-decimal-requires : (t : ℕ)
     → put-decimal-lts.Need-put-decimal-requires (put-decimal-claims t) (put-decimal-at t) put-decimal.Post
@@ -78,16 +81,15 @@ put-decimal-put-last-two-requires-2 t c κs = search needs
 
 put-decimal-same-length-3 : (t : ℕ) → put-decimal-lts.Need-same-length-3 (put-decimal-claims t) (put-decimal-at t) put-decimal.Post
 put-decimal-same-length-3 t c =
-    let after-two = c .before .before in
-    let after-hundredth = after-two .before .before .before .before in
-    wrote-length (after-two .put-last-two2 .ensures) ∙ wrote-length (after-hundredth .put-decimal .ensures)
+    let two = c .before .before in
+    wrote-length (two .put-last-two2 .ensures) ∙ wrote-length (after-hundredth two .put-decimal .ensures)
 
 put-decimal-returns-3 : (t : ℕ) → put-decimal-lts.Need-returns-3 (put-decimal-claims t) (put-decimal-at t) put-decimal.Post
 put-decimal-returns-3 t c =
-    let after-two = c .before .before in
-    let after-hundredth = after-two .before .before .before .before in
-    let start = after-hundredth .before .before .before .before .before in
-    rw (decimal-hundred (start .args .n) (omega arith)) (wrote-append (after-hundredth .put-decimal .ensures) (after-two .put-last-two2 .ensures))
+    let two = c .before .before in
+    let start = after-hundredth two .before .before .before .before .before in
+    rw (decimal-hundred (start .args .n) (omega arith))
+    (wrote-append (after-hundredth two .put-decimal .ensures) (two .put-last-two2 .ensures))
 
 pub +put-decimal-spec : {M : Type 1} → statement M
 +put-decimal-spec = close μ-put-decimal λ t. put-decimal-lts.spec (put-decimal-claims t)

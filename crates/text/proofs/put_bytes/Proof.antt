@@ -37,18 +37,17 @@ loop-less c = search needs
 
 loop-again : tie.Need-loop-again Inv-loop μ-loop
 loop-again c =
-    let after-byte = c .before .before in
-    let looped = after-byte .before .before .before .before in
-    let bytes = now (looped .before .before .before .args .bytes) in
-    through-next (looped .loop .inv) (omega arith) (take-next bytes (looped .loop .i) (omega arith)) (after-byte .put-byte .ensures)
+    let put = c .before .before in
+    let looped = put .before .before .before .before in
+    through-next (looped .loop .inv) (omega arith) (take-next _ (looped .loop .i) (omega arith)) (put .put-byte .ensures)
 
 same-length : tie.Need-same-length Inv-loop μ-loop
 same-length c = wrote-length (c .before .loop .inv .wrote)
 
 returns : tie.Need-returns Inv-loop μ-loop
 returns c =
-    let bytes = now (c .before .before .before .before .args .bytes) in
-    rw (take-length bytes) at (through-end (c .before .loop .inv) (c .loop-test .left))
+    let looped = c .before in
+    rw (take-length (now (looped .before .before .before .args .bytes))) at (through-end (looped .loop .inv) (c .loop-test .left))
 
 pub put-bytes-spec : {M : Type 1} → statement M
 put-bytes-spec =

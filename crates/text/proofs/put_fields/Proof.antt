@@ -45,12 +45,11 @@ loop-less c = search needs
 
 loop-again : tie.Need-loop-again Inv-loop μ-loop
 loop-again c =
-    let after-digits = c .before .before in
-    let after-space = after-digits .before .before .before .before .before in
-    let looped = after-space .before .before .before in
-    let numbers = now (looped .before .before .before .args .numbers) in
-    through-next (looped .loop .inv) (omega arith) (fields-next numbers (looped .loop .i) (omega arith))
-    (wrote-append (after-space .put-byte .ensures) (after-digits .put-decimal .ensures))
+    let digits = c .before .before in
+    let space = digits .before .before .before .before .before in
+    let looped = space .before .before .before in
+    through-next (looped .loop .inv) (omega arith) (fields-next _ (looped .loop .i) (omega arith))
+    (wrote-append (space .put-byte .ensures) (digits .put-decimal .ensures))
 
 same-length : tie.Need-same-length Inv-loop μ-loop
 same-length c = wrote-length (c .before .loop .inv .wrote)

@@ -5,6 +5,13 @@ use borrow.Author.Needs.{needs}
 use Rattle.text.proofs.put_line.Statement.{statement}
 use Rattle.text.proofs.put_line.Tie as tie
 
+-- the places that the answer reads
+abbrev after-name : tie.After-put-fields → tie.After-put-bytes
+after-name c = c .before .before .before .before
+
+abbrev after-numbers : tie.After-put-byte → tie.After-put-fields
+after-numbers c = c .before .before .before .before
+
 put-bytes-requires : tie.Need-put-bytes-requires
 put-bytes-requires c κs = search needs
 
@@ -20,10 +27,9 @@ same-length c = search needs
 returns : tie.Need-returns
 unfolding line
 returns c =
-    let after-feed = c .before .before in
-    let after-numbers = after-feed .before .before .before .before in
-    let after-name = after-numbers .before .before .before .before in
-    wrote-append (after-name .put-bytes .ensures) (wrote-append (after-numbers .put-fields .ensures) (after-feed .put-byte .ensures))
+    let feed = c .before .before in
+    let numbers = after-numbers feed in
+    wrote-append (after-name numbers .put-bytes .ensures) (wrote-append (numbers .put-fields .ensures) (feed .put-byte .ensures))
 
 pub put-line-spec : {M : Type 1} → statement M
 put-line-spec =

@@ -1,38 +1,39 @@
 -- `writer::write`: what the check answers, and the file where nothing is refused.
 use denote.Ref.{now}
 use borrow.Author.Needs.{needs}
+use Rattle.jobfile.specs.Draft.{Draft}
 use Rattle.writer.specs.Write.{given}
 use Rattle.writer.proofs.File.{none-refused, left-refused, left-written}
 use Rattle.writer.proofs.write.Statement.{statement}
 use Rattle.writer.proofs.write.Tie as tie
 
+-- what the answers read of a place behind the check
+abbrev start : tie.After-checked → tie.Start
+start c = c .before .before .before .before
+
+abbrev draft : tie.After-checked → Draft
+draft c = let a = start c .args in given (a .nodes) (a .heads) (now (a .requests)) (now (a .grants))
+
 checked-requires : tie.Need-checked-requires
 checked-requires c κs = search needs
 
 returns : tie.Need-returns
-returns c =
-    let a = c .before .before .before .before .before .before .args in
-    let told = c .before .before .checked in
-    let d = given (a .nodes) (a .heads) (now (a .requests)) (now (a .grants)) in
-    left-refused d (now (a .out)) (told .result) (told .ensures) (c .if1 .taken)
+returns c = left-refused _ _ _ (c .before .before .checked .ensures) (c .if1 .taken)
 
 put-file-requires : tie.Need-put-file-requires
 put-file-requires c κs =
-    let a = c .before .before .before .before .before .before .before .args in
-    let told = c .before .before .before .checked in
-    let d = given (a .nodes) (a .heads) (now (a .requests)) (now (a .grants)) in
-    none-refused d (now (a .out)) (told .result) (told .ensures) (c .before .if1 .left)
+    let told = c .before .before .before in
+    none-refused (draft told) (now (start told .args .out)) _ (told .checked .ensures) (c .before .if1 .left)
 
 same-length : tie.Need-same-length
 same-length c = search needs
 
 returns-2 : tie.Need-returns-2
 returns-2 c =
-    let a = c .before .before .before .before .before .before .before .before .before .before .args in
-    let told = c .before .before .before .before .before .before .checked in
-    let d = given (a .nodes) (a .heads) (now (a .requests)) (now (a .grants)) in
-    left-written d (now (a .out)) (told .result) (told .ensures) _ (c .before .before .before .before .if1 .left)
-    (c .before .before .put-file .ensures)
+    let put = c .before .before in
+    let passed = put .before .before in
+    let told = passed .before .before in
+    left-written (draft told) (now (start told .args .out)) _ (told .checked .ensures) _ (passed .if1 .left) (put .put-file .ensures)
 
 pub write-spec : {M : Type 1} → statement M
 write-spec = tie.close (tie.spec checked-requires returns put-file-requires same-length returns-2)

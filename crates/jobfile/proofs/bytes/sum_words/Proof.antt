@@ -33,8 +33,9 @@ loop-less c = omega arith
 
 loop-again : tie.Need-loop-again Inv-loop μ-loop
 loop-again c =
-    sum-next (c .before .before .before .loop .inv) _ (rw (← c .before .whole-word .ensures) (c .wrapping-add-u16 .ensures))
-    (c .before .before .loop-test .taken)
+    let read = c .before in
+    sum-next (read .before .before .loop .inv) _ (rw (← read .whole-word .ensures) (c .wrapping-add-u16 .ensures))
+    (read .before .loop-test .taken)
 
 word-at-requires : tie.Need-word-at-requires Inv-loop μ-loop
 word-at-requires c κs = search needs
@@ -44,8 +45,9 @@ wrapping-add-u16-requires-2 c κs = search needs
 
 returns : tie.Need-returns Inv-loop μ-loop
 returns c =
-    sum-end (c .before .before .before .loop .inv) _ (rw (← c .before .word-at .ensures) (c .wrapping-add-u162 .ensures))
-    (c .before .before .loop-test .left)
+    let read = c .before in
+    sum-end (read .before .before .loop .inv) _ (rw (← read .word-at .ensures) (c .wrapping-add-u162 .ensures))
+    (read .before .loop-test .left)
 
 pub sum-words-spec : {M : Type 1} → statement M
 sum-words-spec =

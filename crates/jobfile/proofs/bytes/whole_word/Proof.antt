@@ -7,6 +7,9 @@ use borrow.Author.Needs.{needs}
 use Rattle.jobfile.proofs.bytes.whole_word.Statement.{statement}
 use Rattle.jobfile.proofs.bytes.whole_word.Tie as tie
 
+abbrev start : tie.After-wide2 → tie.Start
+start c = c .before .before .before .before .before
+
 shared-slice-read-wide : tie.Need-shared-slice-read-wide
 shared-slice-read-wide c = search needs
 
@@ -23,15 +26,12 @@ wide-requires-2 : tie.Need-wide-requires-2
 wide-requires-2 c κs = search needs
 
 mul-result : tie.Need-mul-result
-mul-result c = let a = c .before .before .before .before .before .args in omega (arith, c .before .shared-slice-known3 .given (a .at + 1))
+mul-result c = omega (arith, c .before .shared-slice-known3 .given (start c .args .at + 1))
 
 add-result : tie.Need-add-result
 add-result c =
-    let a = c .before .before .before .before .before .args in omega (
-      arith,
-      c .before .shared-slice-known3 .given (a .at + 1),
-      c .before .before .before .shared-slice-known2 .given (a .at),
-    )
+    let at = start c .args .at in
+    omega (arith, c .before .shared-slice-known3 .given (at + 1), c .before .before .before .shared-slice-known2 .given at)
 
 returns : tie.Need-returns
 returns c = simp (c .wide2 .ensures, c .before .before .wide .ensures, getD-drop, add-zero)

@@ -8,37 +8,40 @@ enum-told : tie.Need-enum-told
 enum-told c = search needs
 
 put-word-requires : tie.Need-put-word-requires
-put-word-requires c κs = omega (arith, rw (c .before .enum-told .given .1) at (c .before .before .before .before .before .pre))
+put-word-requires c κs =
+    let arm = c .before in let known = arm .before .before in omega (arith, rw (arm .enum-told .given .1) at (known .before .before .pre))
 
 enum-told-2 : tie.Need-enum-told-2
 enum-told-2 c = search needs
 
 put-request-requires : tie.Need-put-request-requires
-put-request-requires c κs = omega (arith, rw (c .before .enum-told2 .given .1) at (c .before .before .before .before .before .pre))
+put-request-requires c κs =
+    let arm = c .before in let known = arm .before .before in omega (arith, rw (arm .enum-told2 .given .1) at (known .before .before .pre))
 
 enum-told-3 : tie.Need-enum-told-3
 enum-told-3 c = search needs
 
 put-entry-requires : tie.Need-put-entry-requires
-put-entry-requires c κs = omega (arith, rw (c .before .enum-told3 .given .1) at (c .before .before .before .before .before .pre))
+put-entry-requires c κs =
+    let arm = c .before in let known = arm .before .before in omega (arith, rw (arm .enum-told3 .given .1) at (known .before .before .pre))
 
 same-length : tie.Need-same-length
 same-length c = search needs
 
 returns : tie.Need-returns
-returns c = rw (c .before .before .before .before .enum-told .given .1) (c .before .before .put-word .ensures)
+returns c = let put = c .before .before in rw (put .before .before .enum-told .given .1) (put .put-word .ensures)
 
 same-length-2 : tie.Need-same-length-2
 same-length-2 c = search needs
 
 returns-2 : tie.Need-returns-2
-returns-2 c = rw (c .before .before .before .before .enum-told2 .given .1) (c .before .before .put-request .ensures)
+returns-2 c = let put = c .before .before in rw (put .before .before .enum-told2 .given .1) (put .put-request .ensures)
 
 same-length-3 : tie.Need-same-length-3
 same-length-3 c = search needs
 
 returns-3 : tie.Need-returns-3
-returns-3 c = rw (c .before .before .before .before .enum-told3 .given .1) (c .before .before .put-entry .ensures)
+returns-3 c = let put = c .before .before in rw (put .before .before .enum-told3 .given .1) (put .put-entry .ensures)
 
 pub put-row-spec : {M : Type 1} → statement M
 put-row-spec =

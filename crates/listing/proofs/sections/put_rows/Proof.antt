@@ -27,7 +27,8 @@ loop-holds c =
 
 put-row-requires : tie.Need-put-row-requires Inv-loop μ-loop
 put-row-requires c κs =
-    let start = c .before .before .before .before .before in
+    let looped = c .before .before in
+    let start = looped .before .before .before in
     le-trans (mul-le-mul-left (rowSize (start .args .section)) (omega arith)) (start .pre)
 
 add-i : tie.Need-add-i Inv-loop μ-loop
@@ -38,10 +39,9 @@ loop-less c = search needs
 
 loop-again : tie.Need-loop-again Inv-loop μ-loop
 loop-again c =
-    let a = c .before .before .before .before .before .before .before .before .args in
-    let l = c .before .before .before .before .before .loop in
-    let line = row (a .section) (now (a .buffer)) in
-    through-next (l .inv) (omega arith) (each-next line (l .i)) (c .before .before .put-row .ensures)
+    let put = c .before .before in
+    let looped = c .before .before .before .before .before in
+    through-next (looped .loop .inv) (omega arith) (each-next _ (looped .loop .i)) (put .put-row .ensures)
 
 same-length : tie.Need-same-length Inv-loop μ-loop
 same-length c = wrote-length (c .before .loop .inv .wrote)

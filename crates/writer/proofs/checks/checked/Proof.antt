@@ -1,12 +1,24 @@
 -- `checks::checked`: the four ways that a check ends.
 use mathlib.Core.Path.{refl, _∙_}
 use native.Mathlib.Omega.{arith}
+use Prim.Native.Nat.{_/_, _≤_}
 use denote.Ref.{now}
+use lib.ListN.{length}
 use borrow.Author.Needs.{needs}
+use Rattle.job.specs.Job.{mostRequests}
 use Rattle.writer.specs.Write.{given}
 use Rattle.writer.proofs.Answers.{few-requests, answer-numbers, answer-length, answer-buffer, answer-written}
 use Rattle.writer.proofs.checks.checked.Statement.{statement}
 use Rattle.writer.proofs.checks.checked.Tie as tie
+
+-- what the answers read of a place behind the first test
+abbrev start : tie.Else1 → tie.Start
+start c = c .before .before .before .before
+
+few : (c : tie.Else1) → length (now (start c .args .requests)) / 4 ≤ mostRequests
+few c =
+    let a = start c .args in
+    few-requests (given (a .nodes) (a .heads) (now (a .requests)) (now (a .grants))) _ (c .before .numbers-refusal .ensures) (c .if1 .left)
 
 numbers-refusal-requires : tie.Need-numbers-refusal-requires
 numbers-refusal-requires c κs = search needs
@@ -15,18 +27,10 @@ refusal-requires : tie.Need-refusal-requires
 refusal-requires c κs = search needs
 
 returns : tie.Need-returns
-returns c =
-    let a = c .before .before .before .before .before .args in
-    let numbers = c .before .before .numbers-refusal in
-    let d = given (a .nodes) (a .heads) (now (a .requests)) (now (a .grants)) in
-    c .refusal .ensures ∙ answer-numbers d (a .room) (numbers .result) (numbers .ensures) (c .before .if1 .taken)
+returns c = c .refusal .ensures ∙ answer-numbers _ _ _ (c .before .before .numbers-refusal .ensures) (c .before .if1 .taken)
 
 cast-request-place : tie.Need-cast-request-place
-cast-request-place c =
-    let told = c .before in
-    let a = told .before .before .before .args in
-    let d = given (a .nodes) (a .heads) (now (a .requests)) (now (a .grants)) in
-    omega (arith, few-requests d _ (told .numbers-refusal .ensures) (c .if1 .left))
+cast-request-place c = omega (arith, few c)
 
 request-place-requires : tie.Need-request-place-requires
 request-place-requires c κs = search needs
@@ -38,27 +42,18 @@ run-count-requires : tie.Need-run-count-requires
 run-count-requires c κs = search needs
 
 sub-if2 : tie.Need-sub-if2
-sub-if2 c =
-    let placed = c .before in
-    let told = placed .before .before in
-    let a = told .before .before .before .args in
-    let d = given (a .nodes) (a .heads) (now (a .requests)) (now (a .grants)) in
-    let none = placed .before .if1 .left in
-    omega (arith, placed .request-place .ensures, few-requests d _ (told .numbers-refusal .ensures) none)
+sub-if2 c = omega (arith, c .before .request-place .ensures, few (c .before .before))
 
 refusal-requires-2 : tie.Need-refusal-requires-2
 refusal-requires-2 c κs = search needs
 
 returns-2 : tie.Need-returns-2
 returns-2 c =
-    let placed = c .before .before .before in
-    let told = placed .before .before in
-    let a = told .before .before .before .args in
-    let d = given (a .nodes) (a .heads) (now (a .requests)) (now (a .grants)) in
-    let none = placed .before .if1 .left in
+    let counted = c .before .before in
+    let placed = counted .before in
     c .refusal2 .ensures
-    ∙ answer-length d _ (told .numbers-refusal .ensures) none (a .room) _ _ (placed .request-place .ensures)
-    (c .before .before .run-count .ensures) (omega arith)
+    ∙ answer-length _ _ (placed .before .before .numbers-refusal .ensures) (placed .before .if1 .left) _ _ _
+    (placed .request-place .ensures) (counted .run-count .ensures) (omega arith)
 
 mul-bytes : tie.Need-mul-bytes
 mul-bytes c = search needs
@@ -71,33 +66,21 @@ refusal-requires-3 c κs = search needs
 
 returns-3 : tie.Need-returns-3
 returns-3 c =
-    let placed = c .before .before .before .before in
-    let told = placed .before .before in
-    let a = told .before .before .before .args in
-    let d = given (a .nodes) (a .heads) (now (a .requests)) (now (a .grants)) in
-    let none = placed .before .if1 .left in
+    let counted = c .before .before .before in
+    let placed = counted .before in
     c .refusal3 .ensures
-    ∙ answer-buffer d _ (told .numbers-refusal .ensures) none (a .room) _ _ (placed .request-place .ensures)
-    (c .before .before .before .run-count .ensures) (omega arith) (omega arith)
+    ∙ answer-buffer _ _ (placed .before .before .numbers-refusal .ensures) (placed .before .if1 .left) _ _ _
+    (placed .request-place .ensures) (counted .run-count .ensures) (omega arith) (omega arith)
 
 cast-t14 : tie.Need-cast-t14
-cast-t14 c =
-    let placed = c .before .before .before in
-    let told = placed .before .before in
-    let a = told .before .before .before .args in
-    let d = given (a .nodes) (a .heads) (now (a .requests)) (now (a .grants)) in
-    let none = placed .before .if1 .left in
-    omega (arith, placed .request-place .ensures, few-requests d _ (told .numbers-refusal .ensures) none)
+cast-t14 c = let counted = c .before .before in omega (arith, counted .before .request-place .ensures, few (counted .before .before))
 
 returns-4 : tie.Need-returns-4
 returns-4 c =
-    let placed = c .before .before .before in
-    let told = placed .before .before in
-    let a = told .before .before .before .args in
-    let d = given (a .nodes) (a .heads) (now (a .requests)) (now (a .grants)) in
-    let none = placed .before .if1 .left in
-    answer-written d _ (told .numbers-refusal .ensures) none (a .room) _ _ (placed .request-place .ensures)
-    (c .before .before .run-count .ensures) (omega arith) _ refl (omega arith)
+    let counted = c .before .before in
+    let placed = counted .before in
+    answer-written _ _ (placed .before .before .numbers-refusal .ensures) (placed .before .if1 .left) _ _ _
+    (placed .request-place .ensures) (counted .run-count .ensures) (omega arith) _ refl (omega arith)
 
 pub checked-spec : {M : Type 1} → statement M
 checked-spec =

@@ -2,7 +2,6 @@
 use mathlib.Core.Path.{refl}
 use Prim.Native.Nat.{_-_}
 use native.Mathlib.Omega.{arith}
-use denote.Ref.{now}
 use lib.ListN.{length}
 use borrow.Author.Needs.{needs}
 use Rattle.writer.proofs.Grants.{Serving, serving-stops, serving-on, serving-all}
@@ -15,6 +14,9 @@ Inv-loop heads grants i₀ i = Serving heads grants i
 abbrev μ-loop : tie.MeasureT-loop
 μ-loop heads grants i₀ i = length grants - i
 
+abbrev looped : tie.After-wide Inv-loop μ-loop → tie.At-loop Inv-loop μ-loop
+looped c = c .before .before .before
+
 loop-holds : tie.Need-loop-holds Inv-loop μ-loop
 loop-holds c = record { within = omega arith; same = refl }
 
@@ -25,10 +27,7 @@ wide-requires : tie.Need-wide-requires Inv-loop μ-loop
 wide-requires c κs = search needs
 
 returns : tie.Need-returns Inv-loop μ-loop
-returns c =
-    let a = c .before .before .before .before .before .before .args in
-    serving-stops (a .heads) (now (a .grants)) (c .before .before .before .before .loop .i)
-    (c .before .before .before .before .loop .inv) (omega arith) (omega arith)
+returns c = serving-stops _ _ _ (looped (c .before) .loop .inv) (omega arith) (omega arith)
 
 add-i : tie.Need-add-i Inv-loop μ-loop
 add-i c = search needs
@@ -37,15 +36,10 @@ loop-less : tie.Need-loop-less Inv-loop μ-loop
 loop-less c = search needs
 
 loop-again : tie.Need-loop-again Inv-loop μ-loop
-loop-again c =
-    let a = c .before .before .before .before .before .before .args in
-    serving-on (a .heads) (now (a .grants)) (c .before .before .before .before .loop .i)
-    (c .before .before .before .before .loop .inv) (omega arith) (omega arith)
+loop-again c = serving-on _ _ _ (looped (c .before) .loop .inv) (omega arith) (omega arith)
 
 returns-2 : tie.Need-returns-2 Inv-loop μ-loop
-returns-2 c =
-    let a = c .before .before .before .args in
-    serving-all (a .heads) (now (a .grants)) (c .before .loop .i) (c .before .loop .inv) (omega arith)
+returns-2 c = serving-all _ _ _ (c .before .loop .inv) (omega arith)
 
 pub grants-refusal-spec : {M : Type 1} → statement M
 grants-refusal-spec =

@@ -1,40 +1,42 @@
 -- `checks::numbers_refusal`: one check a line of the definition.
-use mathlib.Core.Path.{_∙_, sym}
+use mathlib.Core.Path.{_≡_, _∙_, sym}
 use native.Mathlib.Omega.{arith}
 use denote.Ref.{now}
 use borrow.Author.Needs.{needs}
 use borrow.Author.Tests.{ne-eqb}
 use Rattle.jobfile.specs.Format.{sizesRefusal}
-use Rattle.jobfile.specs.Draft.{fieldsOf, eachRefusal}
 use Rattle.writer.proofs.Requests.{count-refuses, count-passes}
 use Rattle.writer.proofs.checks.numbers_refusal.Statement.{statement}
 use Rattle.writer.proofs.checks.numbers_refusal.Tie as tie
+
+-- the places that the answers read
+abbrev start : tie.After-sizes-refusal → tie.Start
+start c = c .before .before .before
+
+sized : (c : tie.Else1) → sizesRefusal (start (c .before) .args .nodes) (start (c .before) .args .heads) ≡ 0
+sized c = sym (c .before .sizes-refusal .ensures) ∙ c .if1 .left
 
 sizes-refusal-requires : tie.Need-sizes-refusal-requires
 sizes-refusal-requires c κs = search needs
 
 returns : tie.Need-returns
-returns c =
-    let a = c .before .before .before .before .args in
-    let sizes = c .before .sizes-refusal .ensures in
-    simp (ne-eqb (sizesRefusal (a .nodes) (a .heads)) 0 (λ e. c .if1 .taken (sizes ∙ e))) sizes
+returns c = let sizes = c .before .sizes-refusal .ensures in simp (ne-eqb _ 0 (λ e. c .if1 .taken (sizes ∙ e))) sizes
 
 returns-2 : tie.Need-returns-2
-returns-2 c =
-    let requests = now (c .before .before .before .before .before .args .requests) in
-    simp (sym (c .before .before .sizes-refusal .ensures) ∙ c .before .if1 .left, count-refuses requests (omega arith))
+returns-2 c = simp (sized (c .before), count-refuses (now (start (c .before .before) .args .requests)) (omega arith))
 
 requests-refusal-requires : tie.Need-requests-refusal-requires
 requests-refusal-requires c κs = search needs
 
 returns-3 : tie.Need-returns-3
 returns-3 c =
-    let a = c .before .before .before .before .before .before .before .args in
-    let each = c .before .requests-refusal .ensures in
+    let told = c .before in
+    let many = told .before .before in
+    let each = told .requests-refusal .ensures in
     simp (
-      sym (c .before .before .before .before .sizes-refusal .ensures) ∙ c .before .before .before .if1 .left,
-      count-passes (now (a .requests)) (omega arith),
-      ne-eqb (eachRefusal (a .nodes) (a .heads) (fieldsOf (now (a .requests)))) 0 (λ e. c .if3 .taken (each ∙ e)),
+      sized many,
+      count-passes (now (start (many .before) .args .requests)) (omega arith),
+      ne-eqb _ 0 (λ e. c .if3 .taken (each ∙ e)),
     ) each
 
 grants-refusal-requires : tie.Need-grants-refusal-requires
@@ -42,11 +44,12 @@ grants-refusal-requires c κs = search needs
 
 returns-4 : tie.Need-returns-4
 returns-4 c =
-    let a = c .before .before .before .before .before .before .before .before .args in
+    let told = c .before .before in
+    let many = told .before .before in
     simp (
-      sym (c .before .before .before .before .before .sizes-refusal .ensures) ∙ c .before .before .before .before .if1 .left,
-      count-passes (now (a .requests)) (omega arith),
-      sym (c .before .before .requests-refusal .ensures) ∙ c .before .if3 .left,
+      sized many,
+      count-passes (now (start (many .before) .args .requests)) (omega arith),
+      sym (told .requests-refusal .ensures) ∙ c .before .if3 .left,
     ) (c .grants-refusal .ensures)
 
 pub numbers-refusal-spec : {M : Type 1} → statement M

@@ -2,7 +2,6 @@
 use mathlib.Core.Path.{refl}
 use Prim.Native.Nat.{_-_}
 use native.Mathlib.Omega.{arith}
-use denote.Ref.{now}
 use lib.ListN.{length}
 use borrow.Author.Needs.{needs}
 use Rattle.writer.proofs.Requests.{Passing, passing-stops, passing-on, passing-all}
@@ -14,6 +13,9 @@ Inv-loop nodes heads requests at₀ at = Passing nodes heads requests at
 
 abbrev μ-loop : tie.MeasureT-loop
 μ-loop nodes heads requests at₀ at = length requests - at
+
+abbrev looped : tie.After-fields-refusal Inv-loop μ-loop → tie.At-loop Inv-loop μ-loop
+looped c = c .before .before .before
 
 loop-holds : tie.Need-loop-holds Inv-loop μ-loop
 loop-holds c = record { within = omega arith; same = refl }
@@ -29,12 +31,8 @@ fields-refusal-requires c κs = search needs
 
 returns : tie.Need-returns Inv-loop μ-loop
 returns c =
-    let after-fields-refusal = c .before in
-    let looped = after-fields-refusal .before .before .before in
-    let start = looped .before .before in
-    let a = start .args in
-    passing-stops (a .nodes) (a .heads) (now (a .requests)) (looped .loop .at) (looped .loop .inv)
-    (after-fields-refusal .fields-refusal .result) (omega arith) (cc) (c .if1 .taken)
+    let told = c .before .fields-refusal in
+    passing-stops _ _ _ _ (looped (c .before) .loop .inv) (told .result) (omega arith) (cc) (c .if1 .taken)
 
 add-at : tie.Need-add-at Inv-loop μ-loop
 add-at c = search needs
@@ -44,17 +42,11 @@ loop-less c = search needs
 
 loop-again : tie.Need-loop-again Inv-loop μ-loop
 loop-again c =
-    let after-fields-refusal = c .before in
-    let looped = after-fields-refusal .before .before .before in
-    let start = looped .before .before in
-    let a = start .args in
-    passing-on (a .nodes) (a .heads) (now (a .requests)) (looped .loop .at) (looped .loop .inv)
-    (after-fields-refusal .fields-refusal .result) (omega arith) (cc) (omega arith)
+    let told = c .before .fields-refusal in
+    passing-on _ _ _ _ (looped (c .before) .loop .inv) (told .result) (omega arith) (cc) (omega arith)
 
 returns-2 : tie.Need-returns-2 Inv-loop μ-loop
-returns-2 c =
-    let a = c .before .before .before .args in
-    passing-all (a .nodes) (a .heads) (now (a .requests)) (c .before .loop .at) (c .before .loop .inv) (omega arith)
+returns-2 c = passing-all _ _ _ _ (c .before .loop .inv) (omega arith)
 
 pub requests-refusal-spec : {M : Type 1} → statement M
 requests-refusal-spec =

@@ -2,7 +2,6 @@
 use mathlib.Core.Path.{_∙_, sym}
 use Prim.Native.Nat.{_-_}
 use native.Mathlib.Omega.{arith}
-use denote.Ref.{now}
 use lib.ListN.{length}
 use borrow.Author.Needs.{needs}
 use borrow.Author.Tests.{not-true, not-false}
@@ -17,6 +16,9 @@ Inv-loop grants at run₀ i₀ run i = Growing grants at i run
 abbrev μ-loop : tie.MeasureT-loop
 μ-loop grants at run₀ i₀ run i = length grants - i
 
+abbrev looped : tie.After-does-extend Inv-loop μ-loop → tie.At-loop Inv-loop μ-loop
+looped c = c .before .before .before
+
 shared-slice-read-t6 : tie.Need-shared-slice-read-t6 Inv-loop μ-loop
 shared-slice-read-t6 c = search needs
 
@@ -24,7 +26,7 @@ add-i : tie.Need-add-i Inv-loop μ-loop
 add-i c = search needs
 
 loop-holds : tie.Need-loop-holds Inv-loop μ-loop
-loop-holds c = let a = c .before .before .args in growing-first (now (a .grants)) (a .at) (c .before .before .pre)
+loop-holds c = growing-first _ _ (c .before .before .pre)
 
 shared-slice-read-does-extend : tie.Need-shared-slice-read-does-extend Inv-loop μ-loop
 shared-slice-read-does-extend c = search needs
@@ -34,20 +36,14 @@ does-extend-requires c κs = search needs
 
 returns : tie.Need-returns Inv-loop μ-loop
 returns c =
-    let a = c .before .before .before .before .before .before .before .args in
-    let l = c .before .before .before .before .loop in
-    let extends = c .before .does-extend in
-    growing-stops (now (a .grants)) (a .at) (l .i) (l .run) (l .inv) (omega arith)
-    (sym (extends .ensures) ∙ not-true (extends .result) (c .if1 .taken))
+    let told = c .before .does-extend in
+    growing-stops _ _ _ _ (looped (c .before) .loop .inv) (omega arith) (sym (told .ensures) ∙ not-true (told .result) (c .if1 .taken))
 
 add-run : tie.Need-add-run Inv-loop μ-loop
 add-run c =
-    let extends = c .before .before .does-extend in
-    omega (
-      arith,
-      extended (c .before .before .before .before .before .loop .run)
-          _ (sym (extends .ensures) ∙ not-false (extends .result) (c .before .if1 .left)) .under,
-    )
+    let told = c .before .before in
+    let extends = sym (told .does-extend .ensures) ∙ not-false (told .does-extend .result) (c .before .if1 .left) in
+    omega (arith, extended (looped told .loop .run) _ extends .under)
 
 add-i-2 : tie.Need-add-i-2 Inv-loop μ-loop
 add-i-2 c = search needs
@@ -57,16 +53,12 @@ loop-less c = search needs
 
 loop-again : tie.Need-loop-again Inv-loop μ-loop
 loop-again c =
-    let a = c .before .before .before .before .before .before .before .before .args in
-    let l = c .before .before .before .before .before .loop in
-    let extends = c .before .before .does-extend in
-    growing-on (now (a .grants)) (a .at) (l .i) (l .run) (l .inv) (omega arith)
-    (sym (extends .ensures) ∙ not-false (extends .result) (c .before .if1 .left))
+    let told = c .before .before in
+    let extends = sym (told .does-extend .ensures) ∙ not-false (told .does-extend .result) (c .before .if1 .left) in
+    growing-on _ _ _ _ (looped told .loop .inv) (omega arith) extends
 
 returns-2 : tie.Need-returns-2 Inv-loop μ-loop
-returns-2 c =
-    let a = c .before .before .before .before .args in
-    growing-ends (now (a .grants)) (a .at) (c .before .loop .i) (c .before .loop .run) (c .before .loop .inv) (omega arith)
+returns-2 c = growing-ends _ _ _ _ (c .before .loop .inv) (omega arith)
 
 pub run-at-spec : {M : Type 1} → statement M
 run-at-spec =

@@ -1,7 +1,6 @@
 -- `checks::run_count` goes from run to run and counts them.
 use mathlib.Core.Path.{ap}
 use native.Mathlib.Omega.{arith}
-use denote.Ref.{now}
 use lib.ListN.{length, drop}
 use borrow.Author.Needs.{needs}
 use Rattle.jobfile.specs.Written.{longestRuns}
@@ -15,6 +14,9 @@ Inv-loop grants runs₀ i₀ runs i = Counted grants i runs
 abbrev μ-loop : tie.MeasureT-loop
 μ-loop grants runs₀ i₀ runs i = length (longestRuns (drop i grants))
 
+abbrev looped : tie.After-struct-known Inv-loop μ-loop → tie.At-loop Inv-loop μ-loop
+looped c = c .before .before .before
+
 loop-holds : tie.Need-loop-holds Inv-loop μ-loop
 loop-holds c = record { within = omega arith; same = omega arith }
 
@@ -25,36 +27,19 @@ cast-i : tie.Need-cast-i Inv-loop μ-loop
 cast-i c = search needs
 
 add-i : tie.Need-add-i Inv-loop μ-loop
-add-i c =
-    let run = c .before .run-at in
-    let l = c .before .before .before .loop in
-    omega (
-      arith,
-      run-taken (now (c .before .before .before .before .before .args .grants)) (l .i) (run .result) (omega arith)
-          (run .ensures),
-    )
+add-i c = omega (arith, run-taken _ (looped c .loop .i) _ (omega arith) (c .before .run-at .ensures))
 
 add-runs : tie.Need-add-runs Inv-loop μ-loop
-add-runs c =
-    let run = c .before .run-at in
-    let l = c .before .before .before .loop in
-    omega (
-      arith,
-      counted-few (now (c .before .before .before .before .before .args .grants)) (l .i) (l .runs) (l .inv)
-          (run .result) (run .ensures),
-    )
+add-runs c = omega (arith, counted-few _ _ _ (looped c .loop .inv) _ (c .before .run-at .ensures))
 
 loop-less : tie.Need-loop-less Inv-loop μ-loop
 loop-less c = omega (arith, ap length (c .before .run-at .ensures))
 
 loop-again : tie.Need-loop-again Inv-loop μ-loop
-loop-again c =
-    let run = c .before .run-at in
-    let l = c .before .before .before .loop in
-    counted-on (now (c .before .before .before .before .before .args .grants)) (l .i) (l .runs) (l .inv) (run .result) (run .ensures)
+loop-again c = counted-on _ _ _ (looped c .loop .inv) _ (c .before .run-at .ensures)
 
 returns : tie.Need-returns Inv-loop μ-loop
-returns c = let l = c .before .loop in counted-all (now (c .before .before .before .args .grants)) (l .i) (l .runs) (l .inv) (omega arith)
+returns c = counted-all _ _ _ (c .before .loop .inv) (omega arith)
 
 pub run-count-spec : {M : Type 1} → statement M
 run-count-spec =

@@ -3,76 +3,75 @@ use native.Mathlib.Omega.{arith}
 use denote.Ref.{now}
 use lib.ListN.{length}
 use borrow.Author.Needs.{needs}
+use Rattle.jobfile.specs.Draft.{Draft}
 use Rattle.writer.specs.Write.{given}
 use Rattle.writer.proofs.Requests.{fields-count}
-use Rattle.writer.proofs.Answers.{length-file, ready}
+use Rattle.writer.proofs.Answers.{length-file, Ready, ready}
 use Rattle.writer.proofs.File.{file-stored}
 use Rattle.writer.proofs.records.put_file.Statement.{statement}
 use Rattle.writer.proofs.records.put_file.Tie as tie
 
+-- the places that the answers read
+abbrev start : tie.After-put-header-arg → tie.Start
+start c = c .before .before .before .before
+
+abbrev after-header : tie.After-put-requests-arg → tie.After-put-header
+after-header c = c .before .before .before
+
+abbrev after-requests : tie.After-put-runs-arg → tie.After-put-requests
+after-requests c = c .before .before .before
+
+abbrev after-runs : tie.After-put-close-arg → tie.After-put-runs
+after-runs c = c .before .before .before
+
+-- the draft that is written, and what is known of it at the start
+abbrev draft : tie.Start → Draft
+draft s = given (s .args .nodes) (s .args .heads) (now (s .args .requests)) (now (s .args .grants))
+
+known : (s : tie.Start) → Ready (draft s) (length (now (s .args .out)))
+known s = ready (draft s) (length (now (s .args .out))) (s .pre)
+
 cast-put-header : tie.Need-cast-put-header
-cast-put-header c =
-    let a = c .before .before .before .before .args in
-    let d = given (a .nodes) (a .heads) (now (a .requests)) (now (a .grants)) in
-    omega (arith, ready d (length (now (a .out))) (c .before .before .before .before .pre))
+cast-put-header c = omega (arith, known (start c))
 
 cast-put-header-2 : tie.Need-cast-put-header-2
-cast-put-header-2 c =
-    let a = c .before .before .before .before .args in
-    let d = given (a .nodes) (a .heads) (now (a .requests)) (now (a .grants)) in
-    omega (arith, ready d (length (now (a .out))) (c .before .before .before .before .pre))
+cast-put-header-2 c = omega (arith, known (start c))
 
 put-header-requires : tie.Need-put-header-requires
-put-header-requires c κs =
-    let a = c .before .before .before .before .args in
-    let d = given (a .nodes) (a .heads) (now (a .requests)) (now (a .grants)) in
-    omega (arith, length-file d, ready d (length (now (a .out))) (c .before .before .before .before .pre))
+put-header-requires c κs = let s = start c in omega (arith, length-file (draft s), known s)
 
 put-requests-requires : tie.Need-put-requests-requires
 put-requests-requires c κs =
-    let a = c .before .before .before .before .before .before .before .before .args in
-    let d = given (a .nodes) (a .heads) (now (a .requests)) (now (a .grants)) in
-    let known = ready d (length (now (a .out))) (c .before .before .before .before .before .before .before .before .pre) in
-    (omega (arith, length-file d, fields-count (now (a .requests))), known .fits)
+    let s = start (after-header c .before) in
+    (omega (arith, length-file (draft s), fields-count (now (s .args .requests)), known s), known s .fits)
 
 put-runs-requires : tie.Need-put-runs-requires
 put-runs-requires c κs =
-    let after-put-requests = c .before .before .before in
-    let after-put-header = after-put-requests .before .before .before .before in
-    let start = after-put-header .before .before .before .before .before in
-    let a = start .args in
-    let d = given (a .nodes) (a .heads) (now (a .requests)) (now (a .grants)) in
-    let known = ready d (length (now (a .out))) (start .pre) in
-    omega (arith, length-file d, fields-count (now (a .requests)), after-put-requests .put-requests .ensures .0)
+    let requests = after-requests c in
+    let s = start (after-header (requests .before) .before) in
+    omega (arith, length-file (draft s), fields-count (now (s .args .requests)), known s, requests .put-requests .ensures .0)
 
 put-close-requires : tie.Need-put-close-requires
 put-close-requires c κs =
-    let after-put-runs = c .before .before .before in
-    let after-put-requests = after-put-runs .before .before .before .before in
-    let after-put-header = after-put-requests .before .before .before .before in
-    let start = after-put-header .before .before .before .before .before in
-    let a = start .args in
-    let d = given (a .nodes) (a .heads) (now (a .requests)) (now (a .grants)) in
-    let known = ready d (length (now (a .out))) (start .pre) in
-    let placed = after-put-requests .put-requests .ensures .0 in
-    omega (arith, length-file d, fields-count (now (a .requests)), after-put-runs .put-runs .ensures .0)
+    let runs = after-runs c in
+    let requests = after-requests (runs .before) in
+    let s = start (after-header (requests .before) .before) in
+    let placed = requests .put-requests .ensures .0 in
+    omega (arith, length-file (draft s), fields-count (now (s .args .requests)), known s, runs .put-runs .ensures .0)
 
 same-length : tie.Need-same-length
 same-length c = search needs
 
 returns : tie.Need-returns
 returns c =
-    let after-put-close = c .before .before in
-    let after-put-runs = after-put-close .before .before .before .before in
-    let after-put-requests = after-put-runs .before .before .before .before in
-    let after-put-header = after-put-requests .before .before .before .before in
-    let start = after-put-header .before .before .before .before .before in
-    let a = start .args in
-    let d = given (a .nodes) (a .heads) (now (a .requests)) (now (a .grants)) in
-    let requests = after-put-requests .put-requests .ensures in
-    let runs = after-put-runs .put-runs .ensures in
-    file-stored d (now (a .out)) _ _ _ _ _ _ (ready d (length (now (a .out))) (start .pre) .enough)
-    (after-put-header .put-header .ensures) (requests .0) (requests .1) (runs .0) (runs .1) (after-put-close .put-close .ensures)
+    let close = c .before .before in
+    let runs = after-runs (close .before) in
+    let requests = after-requests (runs .before) in
+    let header = after-header (requests .before) in
+    let s = start (header .before) in
+    file-stored (draft s) (now (s .args .out)) _ _ _ _ _ _ (known s .enough) (header .put-header .ensures)
+    (requests .put-requests .ensures .0) (requests .put-requests .ensures .1)
+    (runs .put-runs .ensures .0) (runs .put-runs .ensures .1) (close .put-close .ensures)
 
 pub put-file-spec : {M : Type 1} → statement M
 put-file-spec =

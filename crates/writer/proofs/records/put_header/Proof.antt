@@ -8,6 +8,13 @@ use Rattle.writer.proofs.Stores.{stored-on}
 use Rattle.writer.proofs.records.put_header.Statement.{statement}
 use Rattle.writer.proofs.records.put_header.Tie as tie
 
+-- the places that the answer reads
+abbrev after-put-word : tie.After-put-word2 → tie.After-put-word
+after-put-word c = c .before .before .before .before
+
+abbrev after-put-word2 : tie.After-put-word3 → tie.After-put-word2
+after-put-word2 c = c .before .before .before .before
+
 put-word-requires : tie.Need-put-word-requires
 put-word-requires c κs = search needs
 
@@ -22,15 +29,14 @@ same-length c = search needs
 
 returns : tie.Need-returns
 returns c =
-    let after-put-word3 = c .before .before in
-    let after-put-word2 = after-put-word3 .before .before .before .before in
-    let after-put-word = after-put-word2 .before .before .before .before in
-    let start = after-put-word .before .before .before in
-    let a = start .args in
+    let word3 = c .before .before in
+    let word2 = after-put-word2 word3 in
+    let word = after-put-word word2 in
+    let a = word .before .before .before .args in
     let two = stored-on (now (a .out)) _ _ (wordBytes jobMark) (wordBytes (a .nodes)) 0 2 (omega arith)
-    (after-put-word .put-word .ensures) (after-put-word2 .put-word2 .ensures) in
+    (word .put-word .ensures) (word2 .put-word2 .ensures) in
     stored-on (now (a .out)) _ _ (wordBytes jobMark ++ wordBytes (a .nodes))
-    (wordBytes (a .heads)) 0 4 (omega arith) two (after-put-word3 .put-word3 .ensures)
+    (wordBytes (a .heads)) 0 4 (omega arith) two (word3 .put-word3 .ensures)
 
 pub put-header-spec : {M : Type 1} → statement M
 put-header-spec =

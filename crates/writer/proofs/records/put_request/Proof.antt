@@ -3,10 +3,26 @@ use native.Mathlib.Omega.{arith}
 use denote.Ref.{now}
 use borrow.Author.Needs.{needs}
 use Rattle.job.specs.Job.{mostNodes, mostHeads}
-use Rattle.jobfile.proofs.Refusals.{fit}
+use Rattle.jobfile.proofs.Refusals.{Fit, fit}
 use Rattle.writer.proofs.Stores.{request-stored}
 use Rattle.writer.proofs.records.put_request.Statement.{statement}
 use Rattle.writer.proofs.records.put_request.Tie as tie
+
+-- the places that the answers read
+abbrev after-put-word : tie.After-struct-known → tie.After-put-word
+after-put-word c = c .before .before .before .before
+
+abbrev after-put-bytes : tie.After-struct-known3 → tie.After-put-bytes
+after-put-bytes c = c .before .before .before .before
+
+abbrev after-put-word2 : tie.After-struct-known4 → tie.After-put-word2
+after-put-word2 c = c .before .before .before .before
+
+abbrev start : tie.After-struct-known → tie.Start
+start c = after-put-word c .before .before .before
+
+fits : (c : tie.After-struct-known) → Fit mostNodes mostHeads (start c .args .fields)
+fits c = fit mostNodes mostHeads (start c .args .fields) (start c .pre .1)
 
 put-word-requires : tie.Need-put-word-requires
 put-word-requires c κs = search needs
@@ -15,17 +31,10 @@ add-put-bytes : tie.Need-add-put-bytes
 add-put-bytes c = search needs
 
 cast-put-bytes : tie.Need-cast-put-bytes
-cast-put-bytes c =
-    omega (
-      arith,
-      fit mostNodes mostHeads (c .before .before .before .before .before .before .before .args .fields)
-          (c .before .before .before .before .before .before .before .pre .1),
-    )
+cast-put-bytes c = omega (arith, fits c)
 
 cast-put-bytes-2 : tie.Need-cast-put-bytes-2
-cast-put-bytes-2 c =
-    let start = c .before .before .before .before .before .before .before .before in
-    omega (arith, fit mostNodes mostHeads (start .args .fields) (start .pre .1))
+cast-put-bytes-2 c = omega (arith, fits (c .before))
 
 put-bytes-requires : tie.Need-put-bytes-requires
 put-bytes-requires c κs = search needs
@@ -34,9 +43,7 @@ add-put-word : tie.Need-add-put-word
 add-put-word c = search needs
 
 cast-put-word : tie.Need-cast-put-word
-cast-put-word c =
-    let start = c .before .before .before .before .before .before .before .before .before .before .before .before .before in
-    omega (arith, fit mostNodes mostHeads (start .args .fields) (start .pre .1))
+cast-put-word c = omega (arith, fits (after-put-bytes c .before .before))
 
 put-word-requires-2 : tie.Need-put-word-requires-2
 put-word-requires-2 c κs = search needs
@@ -45,11 +52,7 @@ add-put-word-2 : tie.Need-add-put-word-2
 add-put-word-2 c = search needs
 
 cast-put-word-2 : tie.Need-cast-put-word-2
-cast-put-word-2 c =
-    let start =
-    c .before .before .before .before .before .before .before .before .before
-    .before .before .before .before .before .before .before .before .before in
-    omega (arith, fit mostNodes mostHeads (start .args .fields) (start .pre .1))
+cast-put-word-2 c = omega (arith, fits (after-put-bytes (after-put-word2 c .before) .before .before))
 
 put-word-requires-3 : tie.Need-put-word-requires-3
 put-word-requires-3 c κs = search needs
@@ -59,15 +62,12 @@ same-length c = search needs
 
 returns : tie.Need-returns
 returns c =
-    let after-put-word3 = c .before .before in
-    let after-put-word2 = after-put-word3 .before .before .before .before .before in
-    let after-put-bytes = after-put-word2 .before .before .before .before .before in
-    let after-put-word = after-put-bytes .before .before .before .before .before .before in
-    let start = after-put-word .before .before .before in
-    let a = start .args in
-    request-stored (now (a .out)) _ _ _ _ (a .at) (a .fields) (start .pre .1)
-    (after-put-word .put-word .ensures) (after-put-bytes .put-bytes .ensures) (after-put-word2 .put-word2 .ensures)
-    (after-put-word3 .put-word3 .ensures)
+    let word3 = c .before .before in
+    let word2 = after-put-word2 (word3 .before) in
+    let bytes = after-put-bytes (word2 .before) in
+    let both = bytes .before .before in
+    request-stored (now (start both .args .out)) _ _ _ _ _ _ (start both .pre .1) (after-put-word both .put-word .ensures)
+    (bytes .put-bytes .ensures) (word2 .put-word2 .ensures) (word3 .put-word3 .ensures)
 
 pub put-request-spec : {M : Type 1} → statement M
 put-request-spec =

@@ -1,10 +1,11 @@
 -- `records::put_requests` stores one request after the other.
 use mathlib.Core.Path.{refl}
-use Prim.Native.Nat.{_-_}
+use Prim.Native.Nat.{_+_, _-_, _≤_}
 use native.Mathlib.Omega.{arith}
 use denote.Ref.{now}
 use lib.ListN.{length, length-map}
 use borrow.Author.Needs.{needs}
+use Rattle.jobfile.specs.Format.{requestSize}
 use Rattle.writer.proofs.Stores.{RequestsStored, request-fits, request-room, requests-stored-on, stored, stored-end, requests-over}
 use Rattle.writer.proofs.records.put_requests.Statement.{statement}
 use Rattle.writer.proofs.records.put_requests.Tie as tie
@@ -14,6 +15,19 @@ Inv-loop out₀ start requests at₀ i₀ out at i = RequestsStored out₀ start
 
 abbrev μ-loop : tie.MeasureT-loop
 μ-loop out₀ start requests at₀ i₀ out at i = length requests - i
+
+-- the places that the answers read
+abbrev after-fields-at : tie.After-slice-known2 Inv-loop μ-loop → tie.After-fields-at Inv-loop μ-loop
+after-fields-at c = c .before .before .before
+
+abbrev looped : tie.After-fields-at Inv-loop μ-loop → tie.At-loop Inv-loop μ-loop
+looped c = c .before .before .before
+
+abbrev start : tie.At-loop Inv-loop μ-loop → tie.Start Inv-loop μ-loop
+start c = c .before .before .before
+
+room : (c : tie.After-fields-at Inv-loop μ-loop) → looped c .loop .at + requestSize ≤ length (looped c .loop .out)
+room c = request-room (looped c .loop .inv) _ (c .fields-at .ensures) (omega arith) (start (looped c) .pre .0)
 
 loop-holds : tie.Need-loop-holds Inv-loop μ-loop
 loop-holds c =
@@ -26,39 +40,30 @@ fields-at-requires : tie.Need-fields-at-requires Inv-loop μ-loop
 fields-at-requires c κs = search needs
 
 put-request-requires : tie.Need-put-request-requires Inv-loop μ-loop
-put-request-requires c κs =
-    let looped = c .before .before .before in
-    let inv = looped .loop .inv in
-    let is = c .fields-at .ensures in
-    (request-room inv _ is (omega arith) (looped .before .before .before .pre .0), request-fits inv _ is (omega arith))
+put-request-requires c κs = (room c, request-fits (looped c .loop .inv) _ (c .fields-at .ensures) (omega arith))
 
 add-i : tie.Need-add-i Inv-loop μ-loop
 add-i c = search needs
 
 add-at : tie.Need-add-at Inv-loop μ-loop
-add-at c =
-    let after-fields-at = c .before .before .before in
-    let looped = after-fields-at .before .before .before in
-    let room = request-room (looped .loop .inv) _ (after-fields-at .fields-at .ensures) (omega arith) in
-    omega (arith, room (looped .before .before .before .pre .0))
+add-at c = omega (arith, room (after-fields-at c))
 
 loop-less : tie.Need-loop-less Inv-loop μ-loop
 loop-less c = search needs
 
 loop-again : tie.Need-loop-again Inv-loop μ-loop
 loop-again c =
-    let after-fields-at = c .before .before .before in
-    let inv = after-fields-at .before .before .before .loop .inv in
-    requests-stored-on inv _ (after-fields-at .fields-at .ensures) (omega arith) _ (c .before .before .put-request .ensures)
+    let read = after-fields-at c in
+    requests-stored-on (looped read .loop .inv) _ (read .fields-at .ensures) (omega arith) _ (c .before .before .put-request .ensures)
 
 same-length : tie.Need-same-length Inv-loop μ-loop
 same-length c = c .before .loop .inv .storing .size
 
 returns : tie.Need-returns Inv-loop μ-loop
 returns c =
-    let l = c .before .loop in
-    let over = requests-over (now (c .before .before .before .before .args .requests)) (l .i) (omega arith) in
-    (rw length-map at (stored-end (l .inv .storing) over), stored (l .inv .storing) over)
+    let storing = c .before .loop .inv .storing in
+    let over = requests-over (now (start (c .before) .args .requests)) (c .before .loop .i) (omega arith) in
+    (rw length-map at (stored-end storing over), stored storing over)
 
 pub put-requests-spec : {M : Type 1} → statement M
 put-requests-spec =
