@@ -114,7 +114,8 @@ module _ (played : Played) (table report linearization out : List ℕ) (printabl
       }
 
 -- the text of the play is what the program prints
-pub put-output : (file : List ℕ) (left : Left) → left ≡ playedOf file (replicate mostNodes 0) (replicate (4 * mostRequests) 0) (replicate (2 * mostRequests) 0)
+pub put-output : (file : List ℕ) (left : Left)
+    → left ≡ playedOf file (replicate mostNodes 0) (replicate (4 * mostRequests) 0) (replicate (2 * mostRequests) 0)
     → {before after : List ℕ} {bytes : ℕ} → Put (textOf left) before after bytes → Put (output file) before after bytes
 unfolding output
 put-output file left is {before} {after} {bytes} put = subst (λ text. Put text before after bytes) (ap textOf is) put

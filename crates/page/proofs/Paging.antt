@@ -21,7 +21,6 @@ use Rattle.word.specs.Word.{decode}
 use Rattle.table.specs.Admitted.{tableRefusal, Admitted}
 use Rattle.table.proofs.Admitted.{passed, table-admitted}
 use Rattle.page.specs.declared.Row.{Row}
-use Rattle.page.specs.declared.Paged.{Paged}
 use Rattle.page.specs.declared.plan.Plan.{Plan}
 use Rattle.page.specs.Rows.{noRow, groupRows, Numbered}
 use Rattle.page.specs.Page.{linesTo, pageOf, pageRefusal, writtenAnswer, refusedAnswer, pagedOf}

@@ -30,7 +30,8 @@ pub record Indexed (qs : List Request) (firsts index : List ℕ) (q : ℕ) : Typ
   pub first : (h : ℕ) → h < mostHeads → getD firsts h 0 ≡ seek qs h q
   pub successor : (p : ℕ) → q ≤ p → p < length qs → getD index p 0 ≡ seek qs (requestAt qs p .head) (suc p)
 
-pub indexed-none : (qs : List Request) (count : ℕ) → count ≡ length qs → Indexed qs (replicate mostHeads count) (replicate indexRoom 0) count
+pub indexed-none : (qs : List Request) (count : ℕ) → count ≡ length qs
+    → Indexed qs (replicate mostHeads count) (replicate indexRoom 0) count
 indexed-none qs count all =
     record {
       within = omega (arith, all);

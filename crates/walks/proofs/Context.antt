@@ -51,6 +51,12 @@ module _ {M : Type 1} {𝓤 : URA M} {H : Heap 𝓤} {A : Atoms 𝓤} {K : Type 
       cut Δ (later (such (λ (x : X). raw (⋆ 𝓤 H A (Δ′ x)))) ∷ []) Γ law $ await t soaks $ pick t (λ x.
       cut (raw (⋆ 𝓤 H A (Δ′ x)) ∷ []) (Δ′ x) Γ (id⊢ 𝓤 (⋆ 𝓤 H A (Δ′ x))) $ k x)
 
+  pub becomes-given : K → Soaks G → (Δ : List (Item 𝓤)) {φ : Type 0} (Δ′ Γ : List (Item 𝓤))
+      → ent 𝓤 (⋆ 𝓤 H A Δ) (H .⇛ (guard 𝓤 φ (⋆ 𝓤 H A Δ′))) → (φ → Seq K W (Δ′ ++ Γ) G) → Seq K W (Δ ++ Γ) G
+  becomes-given t soaks Δ {φ} Δ′ Γ law k =
+      cut Δ (later (given φ (raw (⋆ 𝓤 H A Δ′))) ∷ []) Γ law $ await t soaks $ learn t (λ e.
+      cut (raw (⋆ 𝓤 H A Δ′) ∷ []) Δ′ Γ (id⊢ 𝓤 (⋆ 𝓤 H A Δ′)) $ k e)
+
   pub becomes-such : K → Soaks G → (Δ : List (Item 𝓤)) {X : Type 0} (φ : X → Type 0) (Δ′ : X → List (Item 𝓤)) (Γ : List (Item 𝓤))
       → ent 𝓤 (⋆ 𝓤 H A Δ) (H .⇛ (ex 𝓤 (λ (x : X). guard 𝓤 (φ x) (⋆ 𝓤 H A (Δ′ x)))))
       → ((x : X) → φ x → Seq K W (Δ′ x ++ Γ) G) → Seq K W (Δ ++ Γ) G
@@ -122,3 +128,17 @@ paired n = zipped (every n n 1) (every n 0 1)
 
 abbrev pub unpaired : ℕ → List ℕ
 unpaired n = every n 1 2 ++ every n 0 2
+
+-- ---- an entry taken out of its place, true standing there meanwhile
+
+-- n numbers from k on
+abbrev counting : ℕ → ℕ → List ℕ
+counting k zero = []
+counting k (suc n) = k ∷ counting (suc k) n
+
+-- the order in which entry k comes first, where a new first entry takes its place; and in which the first entry stands at k again
+abbrev pub taken-out : ℕ → List ℕ
+taken-out k = suc k ∷ counting 1 k ++ (0 ∷ [])
+
+abbrev pub put-back : ℕ → List ℕ
+put-back k = counting 1 k ++ (0 ∷ [])

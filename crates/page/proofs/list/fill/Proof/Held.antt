@@ -23,11 +23,9 @@ use ghost.Atoms.{sem}
 use contract.Monad.{fact}
 use types.Kit.{Item, ‵, raw, ⋆, _⊛_, some as such, later, _$_, _∵_, !, qed, move, keep, use1, split, join, pick, check, fjoin, feqI}
 use types.Kit.{suffices, frame, await, updating, now as at-once, show, done}
-use denote.RattleType.{RattleType}
 use denote.Laws.{Is}
 use denote.Plain.{uint-makes}
-use denote.Array.{Array}
-use denote.Builtin.{u16, usize}
+use denote.Builtin.{usize}
 use denote.Ref.{RefT, ShrRef}
 use denote.Slice.{Room}
 use denote.Signature.{plain}

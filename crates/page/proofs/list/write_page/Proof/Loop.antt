@@ -164,7 +164,8 @@ module _ (w : Setting) (P : Parameters) where
             assigned ! (addr ! (behind-slice ! refl refl refl)) refl refl (tt, tt) $
             assigned ! (agg ! (and-then ! (copied ! refl)
             (and-then ! (copied-field ! refl refl refl) (no-more !)))) refl refl (tt, (tt, (record { fits = P .page-room .0 }, tt))) $
-            assigned ! (bin ! (copied ! refl) (lit ! tt) (record { fits = distance-fits })) refl refl (tt, record { fits = distance-fits }) $
+            assigned ! (bin ! (copied ! refl) (lit ! tt) (record { fits = distance-fits })) refl refl
+            (tt, record { fits = distance-fits }) $
             assigned ! (bin ! (copied-field ! refl refl refl) (copied ! refl) tt) refl refl (tt, tt) $
             element-out ! tt row-struct (P .rows) i noRow below (λ q is.
             -- [the row's cell; what is beside it; the page; its token; the locals]
@@ -183,7 +184,8 @@ module _ (w : Setting) (P : Parameters) where
             -- [the list; its token; the page; its token; the locals]
             replaced-last ! (bin ! (copied ! refl) (lit ! tt) (record { fits = fits })) (ap (vint w64) (add-one i)) refl
             (tt, record { fits = fits }) $
-            forgets ! En place.goes-on (_ ∷ []) refl $ forgets ! En place.put (_ ∷ []) refl $ forgets ! En place.page-to-put (_ ∷ _ ∷ []) refl $
+            forgets ! En place.goes-on (_ ∷ []) refl $ forgets ! En place.put (_ ∷ []) refl $
+            forgets ! En place.page-to-put (_ ∷ _ ∷ []) refl $
             forgets ! En place.distance (_ ∷ []) refl $ forgets ! En place.element (_ ∷ []) refl $ forgets ! En place.row (_ ∷ []) refl $
             again ! Nearer At s (suc i, more) nearer)))))
 
