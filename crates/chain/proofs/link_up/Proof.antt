@@ -31,20 +31,11 @@ loop-holds c = linking-start _ _ (simp length-set (c .pre .1)) (simp length-set 
 cast-table-2 : tie.Need-cast-table-2 Inv-loop μ-loop
 cast-table-2 c = omega (arith, c .before .loop .inv .inside, c .before .loop .inv .few)
 
-sub-table : tie.Need-sub-table Inv-loop μ-loop
-sub-table c = search needs
-
 mul-table-2 : tie.Need-mul-table-2 Inv-loop μ-loop
 mul-table-2 c = omega (arith, c .before .loop .inv .inside, c .before .loop .inv .few)
 
 slice-write-table-2 : tie.Need-slice-write-table-2 Inv-loop μ-loop
 slice-write-table-2 c = omega (arith, c .before .loop .inv .inside, c .before .loop .inv .kept)
-
-sub-i : tie.Need-sub-i Inv-loop μ-loop
-sub-i c = search needs
-
-loop-less : tie.Need-loop-less Inv-loop μ-loop
-loop-less c = search needs
 
 loop-again : tie.Need-loop-again Inv-loop μ-loop
 loop-again c = linking-on _ _ _ _ (c .before .loop .inv) (omega arith)
@@ -58,4 +49,5 @@ returns c = linking-end _ _ _ _ (c .before .loop .inv) (omega arith)
 pub link-up-spec : {M : Type 1} → statement M
 link-up-spec =
     tie.close (tie.spec Inv-loop μ-loop sub-last cast-table mul-table slice-write-table loop-holds cast-table-2
-    sub-table mul-table-2 slice-write-table-2 sub-i loop-less loop-again same-length returns)
+    (λ c. search needs) mul-table-2 slice-write-table-2 (λ c. search needs) (λ c. search needs) loop-again same-length
+    returns)

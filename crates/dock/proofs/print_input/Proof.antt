@@ -14,12 +14,6 @@ start c = c .before .before .before
 slice-aggregate-print-job : tie.Need-slice-aggregate-print-job
 slice-aggregate-print-job c = let s = start c in sym (length-take-le (s .args .bytes) (now (s .args .buffer)) (s .pre .1 .0))
 
-print-job-requires : tie.Need-print-job-requires
-print-job-requires c κs = search needs
-
-same-length : tie.Need-same-length
-same-length c = search needs
-
 returns : tie.Need-returns
 returns c =
     let printed = c .before .before in
@@ -28,4 +22,5 @@ returns c =
     (put-input (now (s .args .buffer)) (s .args .bytes) (s .pre .0) put, (put-within put, put-part put))
 
 pub print-input-spec : {M : Type 1} → statement M
-print-input-spec = tie.close (tie.spec slice-aggregate-print-job print-job-requires same-length returns)
+print-input-spec =
+    tie.close (tie.spec slice-aggregate-print-job (λ c κs. search needs) (λ c. search needs) returns)

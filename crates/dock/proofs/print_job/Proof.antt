@@ -15,36 +15,12 @@ after-play c = c .before .before .before .before .before .before .before
 abbrev known : tie.After-play → tie.After-shared-slice-known
 known c = c .before .before .before .before .before
 
-slice-aggregate-play : tie.Need-slice-aggregate-play
-slice-aggregate-play c = search needs
-
-slice-aggregate-play-2 : tie.Need-slice-aggregate-play-2
-slice-aggregate-play-2 c = search needs
-
-slice-aggregate-play-3 : tie.Need-slice-aggregate-play-3
-slice-aggregate-play-3 c = search needs
-
-play-requires : tie.Need-play-requires
-play-requires c κs = search needs
-
-slice-aggregate-put-text : tie.Need-slice-aggregate-put-text
-slice-aggregate-put-text c = search needs
-
-slice-aggregate-put-text-2 : tie.Need-slice-aggregate-put-text-2
-slice-aggregate-put-text-2 c = search needs
-
-slice-aggregate-put-text-3 : tie.Need-slice-aggregate-put-text-3
-slice-aggregate-put-text-3 c = search needs
-
 put-text-requires : tie.Need-put-text-requires
 put-text-requires c κs =
     let played = after-play c in
     let start = known played .before in
     let bytes : Bytes (now (start .args .file)) = λ i. omega (arith, known played .shared-slice-known .given i) in
     (subst PrintableLeft (sym (played .play .ensures .0)) (printable _ _ _ _ bytes), start .pre)
-
-same-length : tie.Need-same-length
-same-length c = search needs
 
 returns : tie.Need-returns
 returns c =
@@ -54,6 +30,5 @@ returns c =
 
 pub print-job-spec : {M : Type 1} → statement M
 print-job-spec =
-    tie.close (tie.spec slice-aggregate-play slice-aggregate-play-2 slice-aggregate-play-3 play-requires
-    slice-aggregate-put-text slice-aggregate-put-text-2 slice-aggregate-put-text-3 put-text-requires same-length
-    returns)
+    tie.close (tie.spec (λ c. search needs) (λ c. search needs) (λ c. search needs) (λ c κs. search needs)
+    (λ c. search needs) (λ c. search needs) (λ c. search needs) put-text-requires (λ c. search needs) returns)

@@ -7,12 +7,6 @@ use borrow.Author.Needs.{needs}
 use Rattle.dock.proofs.put_text.Statement.{statement}
 use Rattle.dock.proofs.put_text.Tie as tie
 
-list-requires : tie.Need-list-requires
-list-requires c κs = search needs
-
-same-length : tie.Need-same-length
-same-length c = search needs
-
 returns : tie.Need-returns
 returns c =
     let start = c .before .before .before .before .before .before .before .before in
@@ -33,4 +27,5 @@ returns c =
     _ _ (list .ensures .0) (list .ensures .1)
 
 pub put-text-spec : {M : Type 1} → statement M
-put-text-spec = tie.close (tie.spec list-requires same-length returns)
+put-text-spec =
+    tie.close (tie.spec (λ c κs. search needs) (λ c. search needs) returns)

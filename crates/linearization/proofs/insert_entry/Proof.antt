@@ -19,15 +19,6 @@ found c = c .before .before .before .before
 within : (c : tie.After-position) → c .position .result ≤ 2 * start c .args .entries
 within c = let a = start c .args in omega (arith, position-within (now (a .linearization)) (a .entries) (a .point) (omega arith))
 
-position-requires : tie.Need-position-requires
-position-requires c κs = search needs
-
-mul-end : tie.Need-mul-end
-mul-end c = search needs
-
-add-end : tie.Need-add-end
-add-end c = search needs
-
 mul-move-up : tie.Need-mul-move-up
 mul-move-up c = omega (arith, within c)
 
@@ -36,9 +27,6 @@ sub-move-up c = omega (arith, within c)
 
 part-move-up-start : tie.Need-part-move-up-start
 part-move-up-start c = omega (arith, within c)
-
-part-move-up-end : tie.Need-part-move-up-end
-part-move-up-end c = search needs
 
 move-up-requires : tie.Need-move-up-requires
 move-up-requires c κs =
@@ -51,17 +39,11 @@ mul-linearization c = omega (arith, within (found c))
 slice-write-linearization : tie.Need-slice-write-linearization
 slice-write-linearization c = omega (arith, within (found c))
 
-add-linearization : tie.Need-add-linearization
-add-linearization c = search needs
-
 mul-linearization-2 : tie.Need-mul-linearization-2
 mul-linearization-2 c = omega (arith, within (found c))
 
 slice-write-linearization-2 : tie.Need-slice-write-linearization-2
 slice-write-linearization-2 c = simp length-set (omega (arith, within (found c)))
-
-same-length : tie.Need-same-length
-same-length c = search needs
 
 returns : tie.Need-returns
 returns c =
@@ -71,6 +53,6 @@ returns c =
 
 pub insert-entry-spec : {M : Type 1} → statement M
 insert-entry-spec =
-    tie.close (tie.spec position-requires mul-end add-end mul-move-up sub-move-up part-move-up-start part-move-up-end
-    move-up-requires mul-linearization slice-write-linearization add-linearization mul-linearization-2
-    slice-write-linearization-2 same-length returns)
+    tie.close (tie.spec (λ c κs. search needs) (λ c. search needs) (λ c. search needs) mul-move-up sub-move-up
+    part-move-up-start (λ c. search needs) move-up-requires mul-linearization slice-write-linearization
+    (λ c. search needs) mul-linearization-2 slice-write-linearization-2 (λ c. search needs) returns)

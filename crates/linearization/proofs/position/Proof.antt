@@ -18,29 +18,8 @@ looped c = c .before .before
 loop-holds : tie.Need-loop-holds Inv-loop μ-loop
 loop-holds c = record { within = omega arith; rising = c .pre .rising; same = refl }
 
-mul-if1 : tie.Need-mul-if1 Inv-loop μ-loop
-mul-if1 c = search needs
-
-sub-if1 : tie.Need-sub-if1 Inv-loop μ-loop
-sub-if1 c = search needs
-
-mul-if1-2 : tie.Need-mul-if1-2 Inv-loop μ-loop
-mul-if1-2 c = search needs
-
-shared-slice-read-if1 : tie.Need-shared-slice-read-if1 Inv-loop μ-loop
-shared-slice-read-if1 c = search needs
-
-mul-result : tie.Need-mul-result Inv-loop μ-loop
-mul-result c = search needs
-
 returns : tie.Need-returns Inv-loop μ-loop
 returns c = scanned-here _ _ _ (omega arith) _ (omega arith) (looped (c .before) .loop .inv) (omega arith)
-
-sub-at : tie.Need-sub-at Inv-loop μ-loop
-sub-at c = search needs
-
-loop-less : tie.Need-loop-less Inv-loop μ-loop
-loop-less c = search needs
 
 loop-again : tie.Need-loop-again Inv-loop μ-loop
 loop-again c = scanned-on _ _ _ (omega arith) _ (omega arith) (looped (c .before) .loop .inv) (omega arith)
@@ -50,5 +29,5 @@ returns-2 c = scanned-none _ _ _ (omega arith) _ (omega arith) (c .before .loop 
 
 pub position-spec : {M : Type 1} → statement M
 position-spec =
-    tie.close (tie.spec Inv-loop μ-loop loop-holds mul-if1 sub-if1 mul-if1-2 shared-slice-read-if1 mul-result returns
-    sub-at loop-less loop-again returns-2)
+    tie.close (tie.spec Inv-loop μ-loop loop-holds (λ c. search needs) (λ c. search needs) (λ c. search needs)
+    (λ c. search needs) (λ c. search needs) returns (λ c. search needs) (λ c. search needs) loop-again returns-2)

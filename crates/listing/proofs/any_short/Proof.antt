@@ -3,22 +3,13 @@ use borrow.Author.Needs.{needs}
 use Rattle.listing.proofs.any_short.Statement.{statement}
 use Rattle.listing.proofs.any_short.Tie as tie
 
-is-short-requires : tie.Need-is-short-requires
-is-short-requires c κs = search needs
-
 returns : tie.Need-returns
 returns c = simp (← c .before .is-short .ensures, c .if1 .taken)
-
-is-short-requires-2 : tie.Need-is-short-requires-2
-is-short-requires-2 c κs = search needs
 
 returns-2 : tie.Need-returns-2
 returns-2 c =
     let first = c .before .before in
     simp (← first .before .is-short .ensures, first .if1 .left, ← c .before .is-short2 .ensures, c .if2 .taken)
-
-is-short-requires-3 : tie.Need-is-short-requires-3
-is-short-requires-3 c κs = search needs
 
 returns-3 : tie.Need-returns-3
 returns-3 c =
@@ -34,4 +25,4 @@ returns-3 c =
 
 pub any-short-spec : {M : Type 1} → statement M
 any-short-spec =
-    tie.close (tie.spec is-short-requires returns is-short-requires-2 returns-2 is-short-requires-3 returns-3)
+    tie.close (tie.spec (λ c κs. search needs) returns (λ c κs. search needs) returns-2 (λ c κs. search needs) returns-3)

@@ -9,9 +9,6 @@ use borrow.Author.Needs.{needs}
 use Rattle.listing.proofs.list.Statement.{statement}
 use Rattle.listing.proofs.list.Tie as tie
 
-any-short-requires : tie.Need-any-short-requires
-any-short-requires c κs = search needs
-
 returns : tie.Need-returns
 unfolding listed printed
 returns c = simp (← c .before .any-short .ensures, c .if1 .taken) (refl, refl)
@@ -32,9 +29,6 @@ put-listing-requires c κs =
     let checked = c .before .before .before in
     enough _ _ _ _ (checked .before .any-short .ensures) (checked .if1 .left)
 
-same-length : tie.Need-same-length
-same-length c = search needs
-
 returns-3 : tie.Need-returns-3
 unfolding listed printed
 returns-3 c =
@@ -47,5 +41,5 @@ returns-3 c =
 
 pub list-spec : {M : Type 1} → statement M
 list-spec =
-    tie.close (tie.spec any-short-requires returns listing-length-requires returns-2 put-listing-requires same-length
-    returns-3)
+    tie.close (tie.spec (λ c κs. search needs) returns listing-length-requires returns-2 put-listing-requires
+    (λ c. search needs) returns-3)

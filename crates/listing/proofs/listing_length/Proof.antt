@@ -7,12 +7,6 @@ use borrow.Author.Needs.{needs}
 use Rattle.listing.proofs.listing_length.Statement.{statement}
 use Rattle.listing.proofs.listing_length.Tie as tie
 
-slice-aggregate-put-listing : tie.Need-slice-aggregate-put-listing
-slice-aggregate-put-listing c = search needs
-
-put-listing-requires : tie.Need-put-listing-requires
-put-listing-requires c κs = search needs
-
 returns : tie.Need-returns
 returns c =
     let put = c .before in
@@ -39,4 +33,5 @@ returns c =
     (listing-counted (a .played) (now (a .table)) (now (a .report)) (now (a .linearization)) fitting)
 
 pub listing-length-spec : {M : Type 1} → statement M
-listing-length-spec = tie.close (tie.spec slice-aggregate-put-listing put-listing-requires returns)
+listing-length-spec =
+    tie.close (tie.spec (λ c. search needs) (λ c κs. search needs) returns)

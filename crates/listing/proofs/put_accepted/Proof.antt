@@ -11,18 +11,6 @@ after-job c = c .before .before .before .before
 abbrev after-sections : tie.After-put-tally → tie.After-put-sections
 after-sections c = c .before .before .before .before
 
-put-job-requires : tie.Need-put-job-requires
-put-job-requires c κs = search needs
-
-put-sections-requires : tie.Need-put-sections-requires
-put-sections-requires c κs = search needs
-
-put-tally-requires : tie.Need-put-tally-requires
-put-tally-requires c κs = search needs
-
-same-length : tie.Need-same-length
-same-length c = search needs
-
 returns : tie.Need-returns
 returns c =
     let tally = c .before .before in
@@ -31,5 +19,4 @@ returns c =
 
 pub put-accepted-spec : {M : Type 1} → statement M
 put-accepted-spec =
-    tie.close
-    (tie.spec put-job-requires put-sections-requires put-tally-requires same-length returns)
+    tie.close (tie.spec (λ c κs. search needs) (λ c κs. search needs) (λ c κs. search needs) (λ c. search needs) returns)

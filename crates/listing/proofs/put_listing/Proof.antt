@@ -9,24 +9,12 @@ use Rattle.listing.proofs.put_listing.Tie as tie
 abbrev start : tie.After-slice-known → tie.Start
 start c = c .before .before .before .before
 
-put-refused-requires : tie.Need-put-refused-requires
-put-refused-requires c κs = search needs
-
-same-length : tie.Need-same-length
-same-length c = search needs
-
 returns : tie.Need-returns
 unfolding listing
 returns c =
     let put = c .before .before in
     let test = put .before .before in
     rw (ne-eqb (start (test .before) .args .played .number) 0 (omega arith)) (put .put-refused .ensures)
-
-put-accepted-requires : tie.Need-put-accepted-requires
-put-accepted-requires c κs = search needs
-
-same-length-2 : tie.Need-same-length-2
-same-length-2 c = search needs
 
 returns-2 : tie.Need-returns-2
 unfolding listing
@@ -37,4 +25,5 @@ returns-2 c =
 
 pub put-listing-spec : {M : Type 1} → statement M
 put-listing-spec =
-    tie.close (tie.spec put-refused-requires same-length returns put-accepted-requires same-length-2 returns-2)
+    tie.close (tie.spec (λ c κs. search needs) (λ c. search needs) returns (λ c κs. search needs) (λ c. search needs)
+    returns-2)

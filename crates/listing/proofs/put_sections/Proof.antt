@@ -11,18 +11,6 @@ after-words c = c .before .before .before .before
 abbrev after-requests : tie.After-put-rows3 → tie.After-put-rows2
 after-requests c = c .before .before .before .before
 
-put-rows-requires : tie.Need-put-rows-requires
-put-rows-requires c κs = search needs
-
-put-rows-requires-2 : tie.Need-put-rows-requires-2
-put-rows-requires-2 c κs = search needs
-
-put-rows-requires-3 : tie.Need-put-rows-requires-3
-put-rows-requires-3 c κs = search needs
-
-same-length : tie.Need-same-length
-same-length c = search needs
-
 returns : tie.Need-returns
 returns c =
     let entries = c .before .before in
@@ -31,5 +19,4 @@ returns c =
 
 pub put-sections-spec : {M : Type 1} → statement M
 put-sections-spec =
-    tie.close
-    (tie.spec put-rows-requires put-rows-requires-2 put-rows-requires-3 same-length returns)
+    tie.close (tie.spec (λ c κs. search needs) (λ c κs. search needs) (λ c κs. search needs) (λ c. search needs) returns)

@@ -27,12 +27,6 @@ tabled c = c .before .before
 
 -- ---- the needs
 
-check-requires : tie.Need-check-requires
-check-requires c κs = search needs
-
-refuse-requires : tie.Need-refuse-requires
-refuse-requires c κs = search needs
-
 returns : tie.Need-returns
 returns c =
     let known = c .before .before .before in
@@ -40,12 +34,6 @@ returns c =
     let k = known .check .ensures in
     c .refuse .ensures ∙ admission-file (a .file .now) (a .table) (a .report) (a .linearization) _ (ap (λ n. n .number) k)
     (c .before .if1 .taken)
-
-cast-if2 : tie.Need-cast-if2
-cast-if2 c = search needs
-
-refuse-requires-2 : tie.Need-refuse-requires-2
-refuse-requires-2 c κs = search needs
 
 returns-2 : tie.Need-returns-2
 returns-2 c =
@@ -55,15 +43,6 @@ returns-2 c =
     c .refuse2 .ensures ∙ admission-short (a .file .now) (a .table) (a .report) (a .linearization)
     (sym (ap (λ n. n .number) k) ∙ file .if1 .left)
     (short-table (meaning (a .file .now) .job) _ _ _ (omega (arith, c .before .if2 .taken, ap (λ n. n .nodes) k)))
-
-cast-if3 : tie.Need-cast-if3
-cast-if3 c = search needs
-
-mul-if3 : tie.Need-mul-if3
-mul-if3 c = search needs
-
-refuse-requires-3 : tie.Need-refuse-requires-3
-refuse-requires-3 c κs = search needs
 
 returns-3 : tie.Need-returns-3
 returns-3 c =
@@ -75,15 +54,6 @@ returns-3 c =
     (sym (ap (λ n. n .number) k) ∙ file .if1 .left)
     (short-report (meaning (a .file .now) .job) _ _ _ (omega (arith, table .if2 .left, ap (λ n. n .nodes) k))
     (omega (arith, c .before .if3 .taken, ap (λ n. n .requests) k)))
-
-cast-if4 : tie.Need-cast-if4
-cast-if4 c = search needs
-
-mul-if4 : tie.Need-mul-if4
-mul-if4 c = search needs
-
-refuse-requires-4 : tie.Need-refuse-requires-4
-refuse-requires-4 c κs = search needs
 
 returns-4 : tie.Need-returns-4
 returns-4 c =
@@ -112,5 +82,6 @@ returns-5 c =
 
 pub admission-spec : {M : Type 1} → statement M
 admission-spec =
-    tie.close (tie.spec check-requires refuse-requires returns cast-if2 refuse-requires-2 returns-2 cast-if3 mul-if3
-    refuse-requires-3 returns-3 cast-if4 mul-if4 refuse-requires-4 returns-4 returns-5)
+    tie.close (tie.spec (λ c κs. search needs) (λ c κs. search needs) returns (λ c. search needs) (λ c κs. search needs)
+    returns-2 (λ c. search needs) (λ c. search needs) (λ c κs. search needs) returns-3 (λ c. search needs)
+    (λ c. search needs) (λ c κs. search needs) returns-4 returns-5)

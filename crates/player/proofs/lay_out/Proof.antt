@@ -24,18 +24,6 @@ cleared c = c .before .before
 
 -- ---- the needs
 
-cast-nodes : tie.Need-cast-nodes
-cast-nodes c = search needs
-
-cast-rows : tie.Need-cast-rows
-cast-rows c = search needs
-
-mul-rows : tie.Need-mul-rows
-mul-rows c = search needs
-
-slice-relend-prefix-fresh-table : tie.Need-slice-relend-prefix-fresh-table
-slice-relend-prefix-fresh-table c = search needs
-
 slice-aggregate-fresh-table : tie.Need-slice-aggregate-fresh-table
 slice-aggregate-fresh-table c =
     let k = start c in
@@ -50,34 +38,13 @@ fresh-table-requires c κs =
       playing-admitted (k .pre .0) .few-nodes,
     )
 
-slice-relend-prefix-clear-report : tie.Need-slice-relend-prefix-clear-report
-slice-relend-prefix-clear-report c = search needs
-
 slice-aggregate-clear-report : tie.Need-slice-aggregate-clear-report
 slice-aggregate-clear-report c =
     let k = start (tabled c .before) in
     sym (length-take-le (4 * k .args .counts .requests) (k .args .report .now) (k .pre .1 .1))
 
-clear-report-requires : tie.Need-clear-report-requires
-clear-report-requires c κs = search needs
-
 first-requests-requires : tie.Need-first-requests-requires
 first-requests-requires c κs = start (tabled (cleared c .before) .before) .pre .0
-
-resting-heads-requires : tie.Need-resting-heads-requires
-resting-heads-requires c κs = search needs
-
-first-mask-requires : tie.Need-first-mask-requires
-first-mask-requires c κs = search needs
-
-first-progress-requires : tie.Need-first-progress-requires
-first-progress-requires c κs = search needs
-
-same-length : tie.Need-same-length
-same-length c = search needs
-
-same-length-2 : tie.Need-same-length-2
-same-length-2 c = search needs
 
 returns : tie.Need-returns
 returns c =
@@ -94,7 +61,7 @@ returns c =
 
 pub lay-out-spec : {M : Type 1} → statement M
 lay-out-spec =
-    tie.close (tie.spec cast-nodes cast-rows mul-rows slice-relend-prefix-fresh-table slice-aggregate-fresh-table
-    fresh-table-requires slice-relend-prefix-clear-report slice-aggregate-clear-report clear-report-requires
-    first-requests-requires resting-heads-requires first-mask-requires first-progress-requires same-length
-    same-length-2 returns)
+    tie.close (tie.spec (λ c. search needs) (λ c. search needs) (λ c. search needs) (λ c. search needs)
+    slice-aggregate-fresh-table fresh-table-requires (λ c. search needs) slice-aggregate-clear-report
+    (λ c κs. search needs) first-requests-requires (λ c κs. search needs) (λ c κs. search needs) (λ c κs. search needs)
+    (λ c. search needs) (λ c. search needs) returns)

@@ -76,21 +76,6 @@ here c = c .loop .inv .3 _ _ _ (begun (indexed c .before) (c .before .first-tall
 
 -- ---- the needs
 
-prepare-requires : tie.Need-prepare-requires Inv-loop μ-loop
-prepare-requires c κs = search needs
-
-refused-requires : tie.Need-refused-requires Inv-loop μ-loop
-refused-requires c κs = search needs
-
-same-length : tie.Need-same-length Inv-loop μ-loop
-same-length c = search needs
-
-same-length-2 : tie.Need-same-length-2 Inv-loop μ-loop
-same-length-2 c = search needs
-
-same-length-3 : tie.Need-same-length-3 Inv-loop μ-loop
-same-length-3 c = search needs
-
 returns : tie.Need-returns Inv-loop μ-loop
 returns c =
     let made = prepared (c .before .before) in
@@ -102,14 +87,8 @@ returns c =
 successors-requires : tie.Need-successors-requires Inv-loop μ-loop
 successors-requires c κs = begun c (firstTally _) refl .going .playing
 
-first-tally-requires : tie.Need-first-tally-requires Inv-loop μ-loop
-first-tally-requires c κs = search needs
-
 loop-holds : tie.Need-loop-holds Inv-loop μ-loop
 loop-holds c = (refl, refl, refl, λ t r l begun. begun)
-
-slice-aggregate-turn-on : tie.Need-slice-aggregate-turn-on Inv-loop μ-loop
-slice-aggregate-turn-on c = search needs
 
 turn-on-requires : tie.Need-turn-on-requires Inv-loop μ-loop
 turn-on-requires c κs =
@@ -142,9 +121,6 @@ loop-again c =
           same-table same-report same-linearization (made .ensures) (c .counted .ensures) .lending,
     )
 
-closed-requires : tie.Need-closed-requires Inv-loop μ-loop
-closed-requires c κs = search needs
-
 same-length-4 : tie.Need-same-length-4 Inv-loop μ-loop
 same-length-4 c = here (looped (c .before .before)) .table-long
 
@@ -162,6 +138,7 @@ returns-2 c =
 
 pub play-spec : {M : Type 1} → statement M
 play-spec =
-    tie.close (tie.spec Inv-loop μ-loop prepare-requires refused-requires same-length same-length-2 same-length-3
-    returns successors-requires first-tally-requires loop-holds slice-aggregate-turn-on turn-on-requires
-    counted-requires loop-less loop-again closed-requires same-length-4 same-length-5 same-length-6 returns-2)
+    tie.close (tie.spec Inv-loop μ-loop (λ c κs. search needs) (λ c κs. search needs) (λ c. search needs)
+    (λ c. search needs) (λ c. search needs) returns successors-requires (λ c κs. search needs) loop-holds
+    (λ c. search needs) turn-on-requires counted-requires loop-less loop-again (λ c κs. search needs) same-length-4
+    same-length-5 same-length-6 returns-2)

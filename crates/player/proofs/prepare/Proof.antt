@@ -27,12 +27,6 @@ bytes c i = omega (arith, c .shared-slice-known .given i)
 
 -- ---- the needs
 
-admission-requires : tie.Need-admission-requires
-admission-requires c κs = search needs
-
-turned-down-requires : tie.Need-turned-down-requires
-turned-down-requires c κs = search needs
-
 returns : tie.Need-returns
 returns c =
     let judged = c .before .before .before in
@@ -51,12 +45,6 @@ lay-out-requires c κs =
     (judged .admission .ensures) (bytes (known judged)) (accepted c .if1 .left) in
     (roomy .playing, (omega (arith, nodes-are (roomy .playing), roomy .nodes), omega (arith, rows-are (roomy .playing), roomy .rows)))
 
-same-length : tie.Need-same-length
-same-length c = search needs
-
-same-length-2 : tie.Need-same-length-2
-same-length-2 c = search needs
-
 returns-2 : tie.Need-returns-2
 returns-2 c =
     let tested = accepted (laid c .before) in
@@ -69,5 +57,5 @@ returns-2 c =
 
 pub prepare-spec : {M : Type 1} → statement M
 prepare-spec =
-    tie.close (tie.spec admission-requires turned-down-requires returns lay-out-requires same-length same-length-2
-    returns-2)
+    tie.close (tie.spec (λ c κs. search needs) (λ c κs. search needs) returns lay-out-requires (λ c. search needs)
+    (λ c. search needs) returns-2)

@@ -22,25 +22,10 @@ turned c = c .before .before .before .before .before .before
 
 -- ---- the needs
 
-cast-nodes : tie.Need-cast-nodes
-cast-nodes c = search needs
-
-cast-rows : tie.Need-cast-rows
-cast-rows c = search needs
-
-mul-rows : tie.Need-mul-rows
-mul-rows c = search needs
-
-slice-relend-prefix-turn : tie.Need-slice-relend-prefix-turn
-slice-relend-prefix-turn c = search needs
-
 slice-aggregate-turn : tie.Need-slice-aggregate-turn
 slice-aggregate-turn c =
     let k = start c in
     sym (length-take-le (k .args .counts .nodes) (k .args .table .now) (k .pre .0 .nodes))
-
-slice-relend-prefix-turn-2 : tie.Need-slice-relend-prefix-turn-2
-slice-relend-prefix-turn-2 c = search needs
 
 slice-aggregate-turn-2 : tie.Need-slice-aggregate-turn-2
 slice-aggregate-turn-2 c =
@@ -49,15 +34,6 @@ slice-aggregate-turn-2 c =
 
 turn-requires : tie.Need-turn-requires
 turn-requires c κs = let asked = start (parted c) .pre in (asked .0 .turnable, asked .1)
-
-same-length : tie.Need-same-length
-same-length c = search needs
-
-same-length-2 : tie.Need-same-length-2
-same-length-2 c = search needs
-
-same-length-3 : tie.Need-same-length-3
-same-length-3 c = search needs
 
 returns : tie.Need-returns
 returns c =
@@ -68,5 +44,6 @@ returns c =
 
 pub turn-on-spec : {M : Type 1} → statement M
 turn-on-spec =
-    tie.close (tie.spec cast-nodes cast-rows mul-rows slice-relend-prefix-turn slice-aggregate-turn
-    slice-relend-prefix-turn-2 slice-aggregate-turn-2 turn-requires same-length same-length-2 same-length-3 returns)
+    tie.close (tie.spec (λ c. search needs) (λ c. search needs) (λ c. search needs) (λ c. search needs)
+    slice-aggregate-turn (λ c. search needs) slice-aggregate-turn-2 turn-requires (λ c. search needs) (λ c. search needs)
+    (λ c. search needs) returns)

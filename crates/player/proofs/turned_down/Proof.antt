@@ -5,12 +5,6 @@ use Rattle.turns.specs.Turns.{firstProgress}
 use Rattle.player.proofs.turned_down.Statement.{statement}
 use Rattle.player.proofs.turned_down.Tie as tie
 
-resting-heads-requires : tie.Need-resting-heads-requires
-resting-heads-requires c κs = search needs
-
-first-progress-requires : tie.Need-first-progress-requires
-first-progress-requires c κs = search needs
-
 returns : tie.Need-returns
 returns c =
     λ i. record {
@@ -19,4 +13,5 @@ returns c =
     }
 
 pub turned-down-spec : {M : Type 1} → statement M
-turned-down-spec = tie.close (tie.spec resting-heads-requires first-progress-requires returns)
+turned-down-spec =
+    tie.close (tie.spec (λ c κs. search needs) (λ c κs. search needs) returns)

@@ -3,11 +3,9 @@ use borrow.Author.Needs.{needs}
 use Rattle.process.proofs.begin.Statement.{statement}
 use Rattle.process.proofs.begin.Tie as tie
 
-first-errand-requires : tie.Need-first-errand-requires
-first-errand-requires c κs = search needs
-
 returns : tie.Need-returns
 returns c = rw (c .first-errand .ensures)
 
 pub begin-spec : {M : Type 1} → statement M
-begin-spec = tie.close (tie.spec first-errand-requires returns)
+begin-spec =
+    tie.close (tie.spec (λ c κs. search needs) returns)

@@ -17,24 +17,6 @@ abbrev μ-loop : tie.MeasureT-loop
 loop-holds : tie.Need-loop-holds Inv-loop μ-loop
 loop-holds c = copying-start _ _
 
-mul-nodes : tie.Need-mul-nodes Inv-loop μ-loop
-mul-nodes c = search needs
-
-shared-slice-read-nodes : tie.Need-shared-slice-read-nodes Inv-loop μ-loop
-shared-slice-read-nodes c = search needs
-
-mul-nodes-2 : tie.Need-mul-nodes-2 Inv-loop μ-loop
-mul-nodes-2 c = search needs
-
-element-write-nodes : tie.Need-element-write-nodes Inv-loop μ-loop
-element-write-nodes c = search needs
-
-add-i : tie.Need-add-i Inv-loop μ-loop
-add-i c = search needs
-
-loop-less : tie.Need-loop-less Inv-loop μ-loop
-loop-less c = search needs
-
 loop-again : tie.Need-loop-again Inv-loop μ-loop
 loop-again c = copying-on (c .before .before .loop .inv) _ (omega arith) refl
 
@@ -43,5 +25,5 @@ returns c = copying-done (c .before .loop .inv) (omega arith)
 
 pub copy-in-spec : {M : Type 1} → statement M
 copy-in-spec =
-    tie.close (tie.spec Inv-loop μ-loop loop-holds mul-nodes shared-slice-read-nodes mul-nodes-2 element-write-nodes
-    add-i loop-less loop-again returns)
+    tie.close (tie.spec Inv-loop μ-loop loop-holds (λ c. search needs) (λ c. search needs) (λ c. search needs)
+    (λ c. search needs) (λ c. search needs) (λ c. search needs) loop-again returns)

@@ -19,20 +19,8 @@ abbrev μ-loop : tie.MeasureT-loop
 loop-holds : tie.Need-loop-holds Inv-loop μ-loop
 loop-holds c = copying-start _ _
 
-mul-table : tie.Need-mul-table Inv-loop μ-loop
-mul-table c = search needs
-
 element-copy-out-table : tie.Need-element-copy-out-table Inv-loop μ-loop
 element-copy-out-table c = omega (arith, c .before .before .pre, c .before .loop .inv .size)
-
-mul-table-2 : tie.Need-mul-table-2 Inv-loop μ-loop
-mul-table-2 c = search needs
-
-slice-write-table : tie.Need-slice-write-table Inv-loop μ-loop
-slice-write-table c = search needs
-
-add-i : tie.Need-add-i Inv-loop μ-loop
-add-i c = search needs
 
 loop-less : tie.Need-loop-less Inv-loop μ-loop
 loop-less c = omega (arith, c .before .before .loop .inv .size)
@@ -60,5 +48,5 @@ returns c =
 
 pub copy-out-spec : {M : Type 1} → statement M
 copy-out-spec =
-    tie.close (tie.spec Inv-loop μ-loop loop-holds mul-table element-copy-out-table mul-table-2 slice-write-table add-i
-    loop-less loop-again same-length returns)
+    tie.close (tie.spec Inv-loop μ-loop loop-holds (λ c. search needs) element-copy-out-table (λ c. search needs)
+    (λ c. search needs) (λ c. search needs) loop-less loop-again same-length returns)

@@ -41,9 +41,6 @@ copy-out-requires c κs =
       enquiry-size (now (s .args .table)) _ _ (s .pre) (s .args .budget) _ (array pad) _ _ (look .look .ensures),
     )
 
-same-length : tie.Need-same-length
-same-length c = search needs
-
 returns : tie.Need-returns
 returns c =
     let out = c .before .before in
@@ -53,4 +50,5 @@ returns c =
     ∙ enquired _ _ _ (start (pad .before) .pre) _ _ (array pad) _ _ (look .look .ensures)
 
 pub enquire-spec : {M : Type 1} → statement M
-enquire-spec = tie.close (tie.spec copy-in-requires pad-requires look-requires copy-out-requires same-length returns)
+enquire-spec =
+    tie.close (tie.spec copy-in-requires pad-requires look-requires copy-out-requires (λ c. search needs) returns)

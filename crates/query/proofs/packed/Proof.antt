@@ -5,17 +5,12 @@ use Rattle.query.proofs.Grants.{answer-small}
 use Rattle.query.proofs.packed.Statement.{statement}
 use Rattle.query.proofs.packed.Tie as tie
 
-answer-number-requires : tie.Need-answer-number-requires
-answer-number-requires c κs = search needs
-
 mul-result : tie.Need-mul-result
 mul-result c = omega (arith, c .answer-number .ensures, answer-small (c .before .args .answer))
 
 add-result : tie.Need-add-result
 add-result c = omega (arith, c .answer-number .ensures, answer-small (c .before .args .answer), c .before .pre)
 
-returns : tie.Need-returns
-returns c = search needs
-
 pub packed-spec : {M : Type 1} → statement M
-packed-spec = tie.close (tie.spec answer-number-requires mul-result add-result returns)
+packed-spec =
+    tie.close (tie.spec (λ c κs. search needs) mul-result add-result (λ c. search needs))

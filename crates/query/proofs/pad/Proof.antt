@@ -16,21 +16,6 @@ abbrev μ-loop : tie.MeasureT-loop
 loop-holds : tie.Need-loop-holds Inv-loop μ-loop
 loop-holds c = padding-start _ _ (c .pre)
 
-cast-nodes : tie.Need-cast-nodes Inv-loop μ-loop
-cast-nodes c = search needs
-
-mul-nodes : tie.Need-mul-nodes Inv-loop μ-loop
-mul-nodes c = search needs
-
-element-write-nodes : tie.Need-element-write-nodes Inv-loop μ-loop
-element-write-nodes c = search needs
-
-add-i : tie.Need-add-i Inv-loop μ-loop
-add-i c = search needs
-
-loop-less : tie.Need-loop-less Inv-loop μ-loop
-loop-less c = search needs
-
 loop-again : tie.Need-loop-again Inv-loop μ-loop
 loop-again c = padding-on (c .before .loop .inv) (omega arith)
 
@@ -39,5 +24,5 @@ returns c = padding-done (c .before .loop .inv) (omega arith)
 
 pub pad-spec : {M : Type 1} → statement M
 pad-spec =
-    tie.close (tie.spec Inv-loop μ-loop loop-holds cast-nodes mul-nodes element-write-nodes add-i loop-less loop-again
-    returns)
+    tie.close (tie.spec Inv-loop μ-loop loop-holds (λ c. search needs) (λ c. search needs) (λ c. search needs)
+    (λ c. search needs) (λ c. search needs) loop-again returns)

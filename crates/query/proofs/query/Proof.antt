@@ -6,24 +6,12 @@ use Rattle.query.proofs.Faithful.{told-faithful}
 use Rattle.query.proofs.query.Statement.{statement}
 use Rattle.query.proofs.query.Tie as tie
 
-refusal-of-requires : tie.Need-refusal-of-requires
-refusal-of-requires c κs = search needs
-
-same-length : tie.Need-same-length
-same-length c = search needs
-
 returns : tie.Need-returns
 returns c =
     (query-refused _ _ _ _ _ (c .before .refusal-of .ensures) (c .if1 .taken), λ none. absurd (c .if1 .taken none))
 
 enquire-requires : tie.Need-enquire-requires
 enquire-requires c κs = sym (c .before .before .refusal-of .ensures) ∙ c .before .if1 .left
-
-told-requires : tie.Need-told-requires
-told-requires c κs = search needs
-
-same-length-2 : tie.Need-same-length-2
-same-length-2 c = search needs
 
 returns-2 : tie.Need-returns-2
 returns-2 c =
@@ -33,4 +21,5 @@ returns-2 c =
 
 pub query-spec : {M : Type 1} → statement M
 query-spec =
-    tie.close (tie.spec refusal-of-requires same-length returns enquire-requires told-requires same-length-2 returns-2)
+    tie.close (tie.spec (λ c κs. search needs) (λ c. search needs) returns enquire-requires (λ c κs. search needs)
+    (λ c. search needs) returns-2)

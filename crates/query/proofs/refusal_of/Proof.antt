@@ -13,9 +13,6 @@ returns-2 : tie.Need-returns-2
 unfolding refusal
 returns-2 c = simp (lt-leb _ _ (c .before .if1 .left), le-leb _ _ (c .if2 .taken))
 
-table-refusal-requires : tie.Need-table-refusal-requires
-table-refusal-requires c κs = search needs
-
 returns-3 : tie.Need-returns-3
 unfolding refusal
 returns-3 c =
@@ -23,4 +20,5 @@ returns-3 c =
     simp (lt-leb _ _ (tested .before .if1 .left), lt-leb _ _ (tested .if2 .left), c .table-refusal .ensures)
 
 pub refusal-of-spec : {M : Type 1} → statement M
-refusal-of-spec = tie.close (tie.spec returns returns-2 table-refusal-requires returns-3)
+refusal-of-spec =
+    tie.close (tie.spec returns returns-2 (λ c κs. search needs) returns-3)

@@ -42,51 +42,24 @@ close : (c : tie.After-close-refusal) → let ran = after-runs c in let read = a
 close c =
     close-told (runs (after-runs c)) (c .before .before .if2 .left) (c .before .run-place .ensures) (c .close-refusal .ensures)
 
-word-at-requires : tie.Need-word-at-requires
-word-at-requires c κs = search needs
-
-cast-nodes : tie.Need-cast-nodes
-cast-nodes c = search needs
-
-word-at-requires-2 : tie.Need-word-at-requires-2
-word-at-requires-2 c κs = search needs
-
-cast-heads : tie.Need-cast-heads
-cast-heads c = search needs
-
 read-requests-requires : tie.Need-read-requests-requires
 read-requests-requires c κs = (header-passed _ (start c .pre .1) .whole, start c .pre .0)
 
-refuse-requires : tie.Need-refuse-requires
-refuse-requires c κs = search needs
-
 returns : tie.Need-returns
 returns c = c .refuse .ensures ∙ requests-answer (requests (c .before .before)) (c .before .if1 .taken)
-
-request-place-requires : tie.Need-request-place-requires
-request-place-requires c κs = search needs
 
 read-runs-requires : tie.Need-read-runs-requires
 read-runs-requires c κs =
     let read = requests (c .before .before) in
     (rw (c .request-place .ensures) (runs-room read (c .before .if1 .left)), read .short)
 
-refuse-requires-2 : tie.Need-refuse-requires-2
-refuse-requires-2 c κs = search needs
-
 returns-2 : tie.Need-returns-2
 returns-2 c = c .refuse2 .ensures ∙ runs-answer (runs (c .before .before)) (c .before .if2 .taken)
-
-run-place-requires : tie.Need-run-place-requires
-run-place-requires c κs = search needs
 
 close-refusal-requires : tie.Need-close-refusal-requires
 close-refusal-requires c κs =
     let ran = runs (c .before .before) in
     (rw (c .run-place .ensures) (close-room ran (c .before .if2 .left)), ran .before .short)
-
-refuse-requires-3 : tie.Need-refuse-requires-3
-refuse-requires-3 c κs = search needs
 
 returns-3 : tie.Need-returns-3
 returns-3 c = c .refuse3 .ensures ∙ close-answers (close (c .before .before)) (c .before .if3 .taken)
@@ -99,6 +72,6 @@ returns-4 c =
 
 pub check-records-spec : {M : Type 1} → statement M
 check-records-spec =
-    tie.close (tie.spec word-at-requires cast-nodes word-at-requires-2 cast-heads read-requests-requires
-    refuse-requires returns request-place-requires read-runs-requires refuse-requires-2 returns-2 run-place-requires
-    close-refusal-requires refuse-requires-3 returns-3 returns-4)
+    tie.close (tie.spec (λ c κs. search needs) (λ c. search needs) (λ c κs. search needs) (λ c. search needs)
+    read-requests-requires (λ c κs. search needs) returns (λ c κs. search needs) read-runs-requires (λ c κs. search needs)
+    returns-2 (λ c κs. search needs) close-refusal-requires (λ c κs. search needs) returns-3 returns-4)

@@ -8,9 +8,6 @@ use Rattle.jobfile.specs.Admitted.{Bytes}
 use Rattle.reader.proofs.request_at.Statement.{statement}
 use Rattle.reader.proofs.request_at.Tie as tie
 
-request-place-requires : tie.Need-request-place-requires
-request-place-requires c κs = search needs
-
 request-here-requires : tie.Need-request-here-requires
 request-here-requires c κs =
     let s = now (c .before .before .args .file) in
@@ -26,4 +23,5 @@ returns c = λ none.
     rw (stands, ← c .before .request-place .ensures) (c .request-here .ensures)
 
 pub request-at-spec : {M : Type 1} → statement M
-request-at-spec = tie.close (tie.spec request-place-requires request-here-requires returns)
+request-at-spec =
+    tie.close (tie.spec (λ c κs. search needs) request-here-requires returns)

@@ -7,9 +7,6 @@ use Rattle.jobfile.specs.Admitted.{Bytes}
 use Rattle.reader.proofs.run_at.Statement.{statement}
 use Rattle.reader.proofs.run_at.Tie as tie
 
-run-place-requires : tie.Need-run-place-requires
-run-place-requires c κs = search needs
-
 run-here-requires : tie.Need-run-here-requires
 run-here-requires c κs =
     let start = c .before .before in
@@ -26,4 +23,5 @@ returns c = λ none.
     rw (stands, ← start .pre .1 .0, ← c .before .run-place .ensures) (c .run-here .ensures)
 
 pub run-at-spec : {M : Type 1} → statement M
-run-at-spec = tie.close (tie.spec run-place-requires run-here-requires returns)
+run-at-spec =
+    tie.close (tie.spec (λ c κs. search needs) run-here-requires returns)

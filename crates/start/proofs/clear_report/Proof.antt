@@ -18,18 +18,6 @@ abbrev μ-loop : tie.MeasureT-loop
 loop-holds : tie.Need-loop-holds Inv-loop μ-loop
 loop-holds c = filled-none 0 (λ j. 0) (length (now (c .args .report))) (now (c .args .report)) refl
 
-mul-report : tie.Need-mul-report Inv-loop μ-loop
-mul-report c = search needs
-
-slice-write-report : tie.Need-slice-write-report Inv-loop μ-loop
-slice-write-report c = search needs
-
-add-i : tie.Need-add-i Inv-loop μ-loop
-add-i c = search needs
-
-loop-less : tie.Need-loop-less Inv-loop μ-loop
-loop-less c = search needs
-
 loop-again : tie.Need-loop-again Inv-loop μ-loop
 loop-again c =
     let l = c .before .loop in
@@ -47,5 +35,5 @@ returns c =
 
 pub clear-report-spec : {M : Type 1} → statement M
 clear-report-spec =
-    tie.close (tie.spec Inv-loop μ-loop loop-holds mul-report slice-write-report add-i loop-less loop-again
-    same-length returns)
+    tie.close (tie.spec Inv-loop μ-loop loop-holds (λ c. search needs) (λ c. search needs) (λ c. search needs)
+    (λ c. search needs) loop-again same-length returns)

@@ -16,26 +16,11 @@ abbrev μ-loop : tie.MeasureT-loop
 loop-holds : tie.Need-loop-holds Inv-loop μ-loop
 loop-holds c = gathered-none (isRequest (c .args .requests)) (c .args .t1) mostHeads (search needs)
 
-sub-h : tie.Need-sub-h Inv-loop μ-loop
-sub-h c = search needs
-
-mul-pushed : tie.Need-mul-pushed Inv-loop μ-loop
-mul-pushed c = search needs
-
-array-read-pushed : tie.Need-array-read-pushed Inv-loop μ-loop
-array-read-pushed c = search needs
-
-cast-pushed : tie.Need-cast-pushed Inv-loop μ-loop
-cast-pushed c = search needs
-
 pushed-requires : tie.Need-pushed-requires Inv-loop μ-loop
 pushed-requires c κs =
     let l = c .before .loop in
     let k = c .before .before in
     gathered-small (isRequest (k .args .requests)) (k .args .t1) (l .h) (l .mask) (omega arith) (l .inv)
-
-loop-less : tie.Need-loop-less Inv-loop μ-loop
-loop-less c = search needs
 
 loop-again : tie.Need-loop-again Inv-loop μ-loop
 loop-again c =
@@ -50,5 +35,5 @@ returns c =
 
 pub first-mask-spec : {M : Type 1} → statement M
 first-mask-spec =
-    tie.close (tie.spec Inv-loop μ-loop loop-holds sub-h mul-pushed array-read-pushed cast-pushed pushed-requires
-    loop-less loop-again returns)
+    tie.close (tie.spec Inv-loop μ-loop loop-holds (λ c. search needs) (λ c. search needs) (λ c. search needs)
+    (λ c. search needs) pushed-requires (λ c. search needs) loop-again returns)

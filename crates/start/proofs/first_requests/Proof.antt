@@ -25,9 +25,6 @@ start c = c .before .before
 loop-holds : tie.Need-loop-holds Inv-loop μ-loop
 loop-holds c = filled-none 0 (firstRequest (requestsIn (now (c .before .args .file)))) mostHeads _ refl
 
-cast-next-request : tie.Need-cast-next-request Inv-loop μ-loop
-cast-next-request c = search needs
-
 next-request-requires : tie.Need-next-request-requires Inv-loop μ-loop
 next-request-requires c κs = (start (c .before) .pre, omega arith)
 
@@ -35,18 +32,6 @@ cast-firsts : tie.Need-cast-firsts Inv-loop μ-loop
 cast-firsts c =
     let looped = c .before .before in
     omega (arith, c .next-request .ensures, next-small (start looped .pre) (looped .loop .h) 0 (omega arith))
-
-mul-firsts : tie.Need-mul-firsts Inv-loop μ-loop
-mul-firsts c = search needs
-
-array-write-firsts : tie.Need-array-write-firsts Inv-loop μ-loop
-array-write-firsts c = search needs
-
-add-h : tie.Need-add-h Inv-loop μ-loop
-add-h c = search needs
-
-loop-less : tie.Need-loop-less Inv-loop μ-loop
-loop-less c = search needs
 
 loop-again : tie.Need-loop-again Inv-loop μ-loop
 loop-again c =
@@ -63,5 +48,5 @@ returns c =
 
 pub first-requests-spec : {M : Type 1} → statement M
 first-requests-spec =
-    tie.close (tie.spec Inv-loop μ-loop loop-holds cast-next-request next-request-requires cast-firsts mul-firsts
-    array-write-firsts add-h loop-less loop-again returns)
+    tie.close (tie.spec Inv-loop μ-loop loop-holds (λ c. search needs) next-request-requires cast-firsts
+    (λ c. search needs) (λ c. search needs) (λ c. search needs) (λ c. search needs) loop-again returns)

@@ -19,32 +19,8 @@ Inv-loop firsts first heads₀ h₀ heads h = Filled (resting 0) (λ j. resting 
 abbrev μ-loop : tie.MeasureT-loop
 μ-loop firsts first heads₀ h₀ heads h = mostHeads - h
 
-resting-task-requires : tie.Need-resting-task-requires Inv-loop μ-loop
-resting-task-requires c κs = search needs
-
 loop-holds : tie.Need-loop-holds Inv-loop μ-loop
 loop-holds c = filled-none (resting 0) (λ j. resting (getD (c .before .args .t1) j 0)) mostHeads _ refl
-
-mul-resting-task : tie.Need-mul-resting-task Inv-loop μ-loop
-mul-resting-task c = search needs
-
-array-read-resting-task : tie.Need-array-read-resting-task Inv-loop μ-loop
-array-read-resting-task c = search needs
-
-resting-task-requires-2 : tie.Need-resting-task-requires-2 Inv-loop μ-loop
-resting-task-requires-2 c κs = search needs
-
-mul-heads : tie.Need-mul-heads Inv-loop μ-loop
-mul-heads c = search needs
-
-array-set-from-heads : tie.Need-array-set-from-heads Inv-loop μ-loop
-array-set-from-heads c = search needs
-
-add-h : tie.Need-add-h Inv-loop μ-loop
-add-h c = search needs
-
-loop-less : tie.Need-loop-less Inv-loop μ-loop
-loop-less c = search needs
 
 loop-again : tie.Need-loop-again Inv-loop μ-loop
 loop-again c =
@@ -63,5 +39,6 @@ returns c =
 
 pub resting-heads-spec : {M : Type 1} → statement M
 resting-heads-spec =
-    tie.close (tie.spec Inv-loop μ-loop resting-task-requires loop-holds mul-resting-task array-read-resting-task
-    resting-task-requires-2 mul-heads array-set-from-heads add-h loop-less loop-again returns)
+    tie.close (tie.spec Inv-loop μ-loop (λ c κs. search needs) loop-holds (λ c. search needs) (λ c. search needs)
+    (λ c κs. search needs) (λ c. search needs) (λ c. search needs) (λ c. search needs) (λ c. search needs) loop-again
+    returns)

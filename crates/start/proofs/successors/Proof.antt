@@ -36,14 +36,8 @@ cast-firsts c = omega (arith, few-requests (c .before .pre))
 loop-holds : tie.Need-loop-holds Inv-loop μ-loop
 loop-holds c = indexed-none _ _ (playing-count (c .before .pre))
 
-sub-q : tie.Need-sub-q Inv-loop μ-loop
-sub-q c = search needs
-
 request-at-requires : tie.Need-request-at-requires Inv-loop μ-loop
 request-at-requires c κs = (start c .pre .accepted, omega (arith, within c))
-
-cast-h : tie.Need-cast-h Inv-loop μ-loop
-cast-h c = search needs
 
 mul-index : tie.Need-mul-index Inv-loop μ-loop
 mul-index c = omega (arith, head (c .before))
@@ -69,9 +63,6 @@ mul-firsts c = omega (arith, head (c .before))
 array-write-firsts : tie.Need-array-write-firsts Inv-loop μ-loop
 array-write-firsts c = omega (arith, head (c .before))
 
-loop-less : tie.Need-loop-less Inv-loop μ-loop
-loop-less c = search needs
-
 loop-again : tie.Need-loop-again Inv-loop μ-loop
 loop-again c =
     let tested = c .before .before in
@@ -83,6 +74,6 @@ returns c = indexed-all (omega arith) (c .before .loop .inv)
 
 pub successors-spec : {M : Type 1} → statement M
 successors-spec =
-    tie.close (tie.spec Inv-loop μ-loop cast-firsts loop-holds sub-q request-at-requires cast-h mul-index
-    array-read-index cast-index mul-index-2 array-write-index cast-firsts-2 mul-firsts array-write-firsts loop-less
-    loop-again returns)
+    tie.close (tie.spec Inv-loop μ-loop cast-firsts loop-holds (λ c. search needs) request-at-requires (λ c. search needs)
+    mul-index array-read-index cast-index mul-index-2 array-write-index cast-firsts-2 mul-firsts array-write-firsts
+    (λ c. search needs) loop-again returns)

@@ -26,15 +26,6 @@ serve-requires c κs =
     let asked = start (tested .before) .pre in
     (asked .0, (asked .1, sym (tested .is-set .ensures) ∙ taken c .if1 .taken))
 
-same-length : tie.Need-same-length
-same-length c = search needs
-
-same-length-2 : tie.Need-same-length-2
-same-length-2 c = search needs
-
-same-length-3 : tie.Need-same-length-3
-same-length-3 c = search needs
-
 returns : tie.Need-returns
 returns c = c .before .before .before .before .before .before .serve .ensures
 
@@ -47,4 +38,5 @@ returns-2 c =
 
 pub grant-spec : {M : Type 1} → statement M
 grant-spec =
-    tie.close (tie.spec is-set-requires serve-requires same-length same-length-2 same-length-3 returns returns-2)
+    tie.close (tie.spec is-set-requires serve-requires (λ c. search needs) (λ c. search needs) (λ c. search needs) returns
+    returns-2)

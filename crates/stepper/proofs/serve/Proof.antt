@@ -34,12 +34,6 @@ entered c = c .before .before
 
 -- ---- the needs
 
-mul-ready-head : tie.Need-mul-ready-head
-mul-ready-head c = search needs
-
-array-copy-out-ready-head : tie.Need-array-copy-out-ready-head
-array-copy-out-ready-head c = search needs
-
 ready-head-requires : tie.Need-ready-head-requires
 ready-head-requires c κs = let asked = start c .pre in (asked .0 .playing, ready-next (asked .0) (asked .1 .1))
 
@@ -79,9 +73,6 @@ charge-row-requires c κs =
       ready-used (asked .0) bit (head .result) (head .ensures) (omega (arith, start (known .before) .fits .number)),
     )
 
-cast-enter : tie.Need-cast-enter
-cast-enter c = search needs
-
 enter-requires : tie.Need-enter-requires
 enter-requires c κs =
     let made = stepped (settled (charged c .before) .before) in
@@ -96,15 +87,6 @@ work-left-requires c κs =
     let made = stepped (settled (charged (entered c .before) .before) .before) in
     let asked = start (found made .before) .pre in
     (omega (arith, asked .0 .head), ready-mask (asked .0) (asked .1 .1))
-
-same-length : tie.Need-same-length
-same-length c = search needs
-
-same-length-2 : tie.Need-same-length-2
-same-length-2 c = search needs
-
-same-length-3 : tie.Need-same-length-3
-same-length-3 c = search needs
 
 returns : tie.Need-returns
 returns c =
@@ -128,6 +110,6 @@ returns c =
 
 pub serve-spec : {M : Type 1} → statement M
 serve-spec =
-    tie.close (tie.spec mul-ready-head array-copy-out-ready-head ready-head-requires stepped-requires
-    settled-head-requires mul-heads array-set-from-heads charge-row-requires cast-enter enter-requires
-    work-left-requires same-length same-length-2 same-length-3 returns)
+    tie.close (tie.spec (λ c. search needs) (λ c. search needs) ready-head-requires stepped-requires settled-head-requires
+    mul-heads array-set-from-heads charge-row-requires (λ c. search needs) enter-requires work-left-requires
+    (λ c. search needs) (λ c. search needs) (λ c. search needs) returns)

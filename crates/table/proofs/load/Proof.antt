@@ -5,9 +5,6 @@ use borrow.Author.Needs.{needs}
 use Rattle.table.proofs.load.Statement.{statement}
 use Rattle.table.proofs.load.Tie as tie
 
-mul-decoded : tie.Need-mul-decoded
-mul-decoded c = search needs
-
 shared-slice-read-decoded : tie.Need-shared-slice-read-decoded
 shared-slice-read-decoded c =
     let start = c .before .before in
@@ -24,4 +21,5 @@ returns c =
     node-found (now (start .args .table)) (start .pre .worded) (start .args .node) (start .pre .node) _ (c .decoded .ensures)
 
 pub load-spec : {M : Type 1} → statement M
-load-spec = tie.close (tie.spec mul-decoded shared-slice-read-decoded decoded-requires returns)
+load-spec =
+    tie.close (tie.spec (λ c. search needs) shared-slice-read-decoded decoded-requires returns)

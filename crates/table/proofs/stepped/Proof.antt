@@ -36,65 +36,26 @@ link c = c .before .before
 abbrev raise : tie.After-swap-arg2 → tie.After-stage5
 raise c = c .before .before
 
-enum-told : tie.Need-enum-told
-enum-told c = search needs
-
-go-on-requires : tie.Need-go-on-requires
-go-on-requires c κs = search needs
-
-enum-known-stage : tie.Need-enum-known-stage
-enum-known-stage c = search needs
-
 walk-requires : tie.Need-walk-requires
 walk-requires c κs = let arm = find c in able (arm .before .before) (arm .stage .given .1)
-
-enum-known-stage-2 : tie.Need-enum-known-stage-2
-enum-known-stage-2 c = search needs
 
 load-requires : tie.Need-load-requires
 load-requires c κs = let arm = reread-x c in able (arm .before .before) (arm .stage2 .given .1)
 
-reread-requires : tie.Need-reread-requires
-reread-requires c κs = search needs
-
-enum-told-2 : tie.Need-enum-told-2
-enum-told-2 c = search needs
-
 load-requires-2 : tie.Need-load-requires-2
 load-requires-2 c κs = let arm = c .before in able (arm .before .before) (arm .enum-told2 .given .1)
-
-go-on-requires-2 : tie.Need-go-on-requires-2
-go-on-requires-2 c κs = search needs
-
-enum-known-stage-3 : tie.Need-enum-known-stage-3
-enum-known-stage-3 c = search needs
 
 load-requires-3 : tie.Need-load-requires-3
 load-requires-3 c κs = let arm = read-rank-y c in able (arm .before .before) (arm .stage3 .given .1)
 
-rank-both-requires : tie.Need-rank-both-requires
-rank-both-requires c κs = search needs
-
-enum-known-stage-4 : tie.Need-enum-known-stage-4
-enum-known-stage-4 c = search needs
-
 swap-requires : tie.Need-swap-requires
 swap-requires c κs = let arm = link c in able (arm .before .before) (arm .stage4 .given .1)
-
-link-requires : tie.Need-link-requires
-link-requires c κs = search needs
-
-enum-known-stage-5 : tie.Need-enum-known-stage-5
-enum-known-stage-5 c = search needs
 
 add-t38 : tie.Need-add-t38
 add-t38 c = let arm = raise c in omega (arith, rw (arm .stage5 .given .1) at (start (arm .before .before) .pre .1))
 
 swap-requires-2 : tie.Need-swap-requires-2
 swap-requires-2 c κs = let arm = raise c in able (arm .before .before) (arm .stage5 .given .1)
-
-raise-requires : tie.Need-raise-requires
-raise-requires c κs = search needs
 
 returns : tie.Need-returns
 returns c =
@@ -103,17 +64,11 @@ returns c =
     moves (now (start m .args .table)) _ (arm .enum-told .given .1) _ _ _ _
     (sees-idle _ (able m (arm .enum-told .given .1) .worded)) (c .go-on .ensures)
 
-same-length : tie.Need-same-length
-same-length c = search needs
-
 returns-2 : tie.Need-returns-2
 returns-2 c =
     let walked = c .before .before in
     let arm = find (walked .before) in
     moves-find (now (start (arm .before .before) .args .table)) _ _ _ (arm .stage .given .1) _ _ _ (walked .walk .ensures)
-
-same-length-2 : tie.Need-same-length-2
-same-length-2 c = search needs
 
 returns-3 : tie.Need-returns-3
 returns-3 c =
@@ -122,9 +77,6 @@ returns-3 c =
     let able = able m (arm .stage2 .given .1) in
     moves (now (start m .args .table)) _ (arm .stage2 .given .1) _ _ _ _
     (sees-load _ (able .worded) _ (able .node) _ (c .before .load .ensures)) (c .reread .ensures)
-
-same-length-3 : tie.Need-same-length-3
-same-length-3 c = search needs
 
 returns-4 : tie.Need-returns-4
 returns-4 c =
@@ -135,9 +87,6 @@ returns-4 c =
     moves (now (start m .args .table)) _ (arm .enum-told2 .given .1) _ _ _ _
     (sees-load _ (able .worded) _ (able .node) _ (loaded .load2 .ensures)) (c .go-on2 .ensures)
 
-same-length-4 : tie.Need-same-length-4
-same-length-4 c = search needs
-
 returns-5 : tie.Need-returns-5
 returns-5 c =
     let arm = read-rank-y (c .before .before) in
@@ -146,18 +95,12 @@ returns-5 c =
     moves (now (start m .args .table)) _ (arm .stage3 .given .1) _ _ _ _
     (sees-load _ (able .worded) _ (able .node) _ (c .before .load3 .ensures)) (c .rank-both .ensures)
 
-same-length-5 : tie.Need-same-length-5
-same-length-5 c = search needs
-
 returns-6 : tie.Need-returns-6
 returns-6 c =
     let back = c .before .before in
     let arm = link (back .before .before) in
     moves (now (start (arm .before .before) .args .table)) _ (arm .stage4 .given .1) _ _ _ _
     (back .before .swap .ensures) (c .link .ensures)
-
-same-length-6 : tie.Need-same-length-6
-same-length-6 c = search needs
 
 returns-7 : tie.Need-returns-7
 returns-7 c =
@@ -168,8 +111,9 @@ returns-7 c =
 
 pub stepped-spec : {M : Type 1} → statement M
 stepped-spec =
-    tie.close (tie.spec enum-told go-on-requires enum-known-stage walk-requires enum-known-stage-2 load-requires
-    reread-requires enum-told-2 load-requires-2 go-on-requires-2 enum-known-stage-3 load-requires-3 rank-both-requires
-    enum-known-stage-4 swap-requires link-requires enum-known-stage-5 add-t38 swap-requires-2 raise-requires returns
-    same-length returns-2 same-length-2 returns-3 same-length-3 returns-4 same-length-4 returns-5 same-length-5
-    returns-6 same-length-6 returns-7)
+    tie.close (tie.spec (λ c. search needs) (λ c κs. search needs) (λ c. search needs) walk-requires (λ c. search needs)
+    load-requires (λ c κs. search needs) (λ c. search needs) load-requires-2 (λ c κs. search needs) (λ c. search needs)
+    load-requires-3 (λ c κs. search needs) (λ c. search needs) swap-requires (λ c κs. search needs) (λ c. search needs)
+    add-t38 swap-requires-2 (λ c κs. search needs) returns (λ c. search needs) returns-2 (λ c. search needs) returns-3
+    (λ c. search needs) returns-4 (λ c. search needs) returns-5 (λ c. search needs) returns-6 (λ c. search needs)
+    returns-7)

@@ -9,9 +9,6 @@ use Rattle.table.proofs.swap.Tie as tie
 abbrev start : tie.After-is-same → tie.Start
 start c = c .before .before .before .before
 
-mul-decoded : tie.Need-mul-decoded
-mul-decoded c = search needs
-
 slice-read-decoded : tie.Need-slice-read-decoded
 slice-read-decoded c =
     let a = c .before .before .args in
@@ -22,22 +19,10 @@ decoded-requires c κs =
     let a = c .before .before .args in
     node-rank (now (a .table)) (c .before .before .pre .worded) (a .node) (c .before .before .pre .node)
 
-is-same-requires : tie.Need-is-same-requires
-is-same-requires c κs = search needs
-
-encoded-requires : tie.Need-encoded-requires
-encoded-requires c κs = search needs
-
-mul-table : tie.Need-mul-table
-mul-table c = search needs
-
 slice-write-table : tie.Need-slice-write-table
 slice-write-table c =
     let s = start (c .before .before) in
     node-inside (now (s .args .table)) (s .pre .worded) (s .args .node) (s .pre .node)
-
-same-length : tie.Need-same-length
-same-length c = search needs
 
 returns : tie.Need-returns
 returns c =
@@ -55,5 +40,5 @@ returns-2 c =
 
 pub swap-spec : {M : Type 1} → statement M
 swap-spec =
-    tie.close (tie.spec mul-decoded slice-read-decoded decoded-requires is-same-requires encoded-requires mul-table
-    slice-write-table same-length returns returns-2)
+    tie.close (tie.spec (λ c. search needs) slice-read-decoded decoded-requires (λ c κs. search needs)
+    (λ c κs. search needs) (λ c. search needs) slice-write-table (λ c. search needs) returns returns-2)

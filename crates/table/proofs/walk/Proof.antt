@@ -36,20 +36,8 @@ swapped c = c .before .before .before
 abbrev read-again : tie.After-load-arg3 → tie.After-step3
 read-again c = c .before .before
 
-node-at-requires : tie.Need-node-at-requires
-node-at-requires c κs = search needs
-
-enum-told : tie.Need-enum-told
-enum-told c = search needs
-
 load-requires : tie.Need-load-requires
 load-requires c κs = let arm = c .before in able (arm .before .before) (arm .enum-told .given .1)
-
-ended-requires : tie.Need-ended-requires
-ended-requires c κs = search needs
-
-same-length : tie.Need-same-length
-same-length c = search needs
 
 returns : tie.Need-returns
 returns c =
@@ -61,32 +49,11 @@ returns c =
     walks (now (a .table)) (a .task) (a .errand) _ (found .node-at .ensures) (arm .enum-told .given .1) _ (a .number) _ _
     (sees-load _ (able .worded) _ (able .node) _ (seen .load .ensures)) (simp (eq-eqb _ _ (c .before .if1 .taken), c .ended .ensures))
 
-go-on-requires : tie.Need-go-on-requires
-go-on-requires c κs = search needs
-
-enum-known-step : tie.Need-enum-known-step
-enum-known-step c = search needs
-
 load-requires-2 : tie.Need-load-requires-2
 load-requires-2 c κs = let arm = read-parent c in able (arm .before .before) (arm .step .given .1)
 
-go-on-requires-2 : tie.Need-go-on-requires-2
-go-on-requires-2 c κs = search needs
-
-enum-known-step-2 : tie.Need-enum-known-step-2
-enum-known-step-2 c = search needs
-
 swap-requires : tie.Need-swap-requires
 swap-requires c κs = let arm = halve c in able (arm .before .before) (arm .step2 .given .1)
-
-is-same-requires : tie.Need-is-same-requires
-is-same-requires c κs = search needs
-
-go-on-requires-3 : tie.Need-go-on-requires-3
-go-on-requires-3 c κs = search needs
-
-same-length-2 : tie.Need-same-length-2
-same-length-2 c = search needs
 
 returns-2 : tie.Need-returns-2
 returns-2 c =
@@ -97,23 +64,8 @@ returns-2 c =
     walks (now (a .table)) (a .task) (a .errand) _ (found .node-at .ensures) (arm .step2 .given .1) _ (a .number) _ _
     (after .swap .ensures) (simp (← c .before .before .is-same .ensures, c .before .if2 .taken, c .go-on3 .ensures))
 
-retry-requires : tie.Need-retry-requires
-retry-requires c κs = search needs
-
-enum-known-step-3 : tie.Need-enum-known-step-3
-enum-known-step-3 c = search needs
-
 load-requires-3 : tie.Need-load-requires-3
 load-requires-3 c κs = let arm = read-again c in able (arm .before .before) (arm .step3 .given .1)
-
-moved-to-requires : tie.Need-moved-to-requires
-moved-to-requires c κs = search needs
-
-go-on-requires-4 : tie.Need-go-on-requires-4
-go-on-requires-4 c κs = search needs
-
-same-length-3 : tie.Need-same-length-3
-same-length-3 c = search needs
 
 returns-3 : tie.Need-returns-3
 returns-3 c =
@@ -125,9 +77,6 @@ returns-3 c =
     walks (now (a .table)) (a .task) (a .errand) _ (found .node-at .ensures) (arm .enum-told .given .1) _ (a .number) _ _
     (sees-load _ (able .worded) _ (able .node) _ (seen .load .ensures)) (simp (ne-eqb _ _ (c .before .if1 .left), c .go-on .ensures))
 
-same-length-4 : tie.Need-same-length-4
-same-length-4 c = search needs
-
 returns-4 : tie.Need-returns-4
 returns-4 c =
     let arm = read-parent (c .before .before) in
@@ -137,9 +86,6 @@ returns-4 c =
     walks (now (a .table)) (a .task) (a .errand) _ (found .node-at .ensures) (arm .step .given .1) _ (a .number) _ _
     (sees-load _ (able .worded) _ (able .node) _ (c .before .load2 .ensures)) (c .go-on2 .ensures)
 
-same-length-5 : tie.Need-same-length-5
-same-length-5 c = search needs
-
 returns-5 : tie.Need-returns-5
 returns-5 c =
     let after = swapped (c .before .before) in
@@ -148,9 +94,6 @@ returns-5 c =
     let a = start found .args in
     walks (now (a .table)) (a .task) (a .errand) _ (found .node-at .ensures) (arm .step2 .given .1) _ (a .number) _ _
     (after .swap .ensures) (simp (← c .before .before .is-same .ensures, c .before .if2 .left, c .retry .ensures))
-
-same-length-6 : tie.Need-same-length-6
-same-length-6 c = search needs
 
 returns-6 : tie.Need-returns-6
 returns-6 c =
@@ -164,7 +107,9 @@ returns-6 c =
 
 pub walk-spec : {M : Type 1} → statement M
 walk-spec =
-    tie.close (tie.spec node-at-requires enum-told load-requires ended-requires same-length returns go-on-requires
-    enum-known-step load-requires-2 go-on-requires-2 enum-known-step-2 swap-requires is-same-requires go-on-requires-3
-    same-length-2 returns-2 retry-requires enum-known-step-3 load-requires-3 moved-to-requires go-on-requires-4
-    same-length-3 returns-3 same-length-4 returns-4 same-length-5 returns-5 same-length-6 returns-6)
+    tie.close (tie.spec (λ c κs. search needs) (λ c. search needs) load-requires (λ c κs. search needs)
+    (λ c. search needs) returns (λ c κs. search needs) (λ c. search needs) load-requires-2 (λ c κs. search needs)
+    (λ c. search needs) swap-requires (λ c κs. search needs) (λ c κs. search needs) (λ c. search needs) returns-2
+    (λ c κs. search needs) (λ c. search needs) load-requires-3 (λ c κs. search needs) (λ c κs. search needs)
+    (λ c. search needs) returns-3 (λ c. search needs) returns-4 (λ c. search needs) returns-5 (λ c. search needs)
+    returns-6)

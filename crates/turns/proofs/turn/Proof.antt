@@ -38,15 +38,6 @@ taken-requires c κs =
     let at = opened (granted c .before) in
     turn-left (start (at .before) .pre .0) (at .open-run .result) (at .open-run .ensures)
 
-same-length : tie.Need-same-length
-same-length c = search needs
-
-same-length-2 : tie.Need-same-length-2
-same-length-2 c = search needs
-
-same-length-3 : tie.Need-same-length-3
-same-length-3 c = search needs
-
 returns : tie.Need-returns
 returns c =
     let made = granted (c .before) in
@@ -57,5 +48,5 @@ returns c =
 
 pub turn-spec : {M : Type 1} → statement M
 turn-spec =
-    tie.close (tie.spec open-run-requires add-number grant-requires taken-requires same-length same-length-2
-    same-length-3 returns)
+    tie.close (tie.spec open-run-requires add-number grant-requires taken-requires (λ c. search needs) (λ c. search needs)
+    (λ c. search needs) returns)

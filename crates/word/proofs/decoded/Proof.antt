@@ -10,12 +10,10 @@ cast-t3 : tie.Need-cast-t3
 unfolding rankOf
 cast-t3 c = omega arith
 
-cast-t5 : tie.Need-cast-t5
-cast-t5 c = search needs
-
 returns : tie.Need-returns
 unfolding rankOf parentOf
 returns c = refl
 
 pub decoded-spec : {M : Type 1} → statement M
-decoded-spec = tie.close (tie.spec cast-t3 cast-t5 returns)
+decoded-spec =
+    tie.close (tie.spec cast-t3 (λ c. search needs) returns)

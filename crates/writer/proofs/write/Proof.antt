@@ -14,9 +14,6 @@ start c = c .before .before .before .before
 abbrev draft : tie.After-checked → Draft
 draft c = let a = start c .args in given (a .nodes) (a .heads) (now (a .requests)) (now (a .grants))
 
-checked-requires : tie.Need-checked-requires
-checked-requires c κs = search needs
-
 returns : tie.Need-returns
 returns c = left-refused _ _ _ (c .before .before .checked .ensures) (c .if1 .taken)
 
@@ -24,9 +21,6 @@ put-file-requires : tie.Need-put-file-requires
 put-file-requires c κs =
     let told = c .before .before .before in
     none-refused (draft told) (now (start told .args .out)) _ (told .checked .ensures) (c .before .if1 .left)
-
-same-length : tie.Need-same-length
-same-length c = search needs
 
 returns-2 : tie.Need-returns-2
 returns-2 c =
@@ -36,4 +30,5 @@ returns-2 c =
     left-written (draft told) (now (start told .args .out)) _ (told .checked .ensures) _ (passed .if1 .left) (put .put-file .ensures)
 
 pub write-spec : {M : Type 1} → statement M
-write-spec = tie.close (tie.spec checked-requires returns put-file-requires same-length returns-2)
+write-spec =
+    tie.close (tie.spec (λ c κs. search needs) returns put-file-requires (λ c. search needs) returns-2)

@@ -22,9 +22,6 @@ add-loop c = omega (arith, c .before .before .good .0 .1, c .loop .inv .within)
 whole-word-requires : tie.Need-whole-word-requires Inv-loop μ-loop
 whole-word-requires c κs = omega arith
 
-wrapping-add-u16-requires : tie.Need-wrapping-add-u16-requires Inv-loop μ-loop
-wrapping-add-u16-requires c κs = search needs
-
 add-at : tie.Need-add-at Inv-loop μ-loop
 add-at c = omega (arith, c .before .before .before .before .before .good .0 .1)
 
@@ -37,12 +34,6 @@ loop-again c =
     sum-next (read .before .before .loop .inv) _ (rw (← read .whole-word .ensures) (c .wrapping-add-u16 .ensures))
     (read .before .loop-test .taken)
 
-word-at-requires : tie.Need-word-at-requires Inv-loop μ-loop
-word-at-requires c κs = search needs
-
-wrapping-add-u16-requires-2 : tie.Need-wrapping-add-u16-requires-2 Inv-loop μ-loop
-wrapping-add-u16-requires-2 c κs = search needs
-
 returns : tie.Need-returns Inv-loop μ-loop
 returns c =
     let read = c .before in
@@ -51,5 +42,5 @@ returns c =
 
 pub sum-words-spec : {M : Type 1} → statement M
 sum-words-spec =
-    tie.close (tie.spec Inv-loop μ-loop loop-holds add-loop whole-word-requires wrapping-add-u16-requires add-at
-    loop-less loop-again word-at-requires wrapping-add-u16-requires-2 returns)
+    tie.close (tie.spec Inv-loop μ-loop loop-holds add-loop whole-word-requires (λ c κs. search needs) add-at loop-less
+    loop-again (λ c κs. search needs) (λ c κs. search needs) returns)

@@ -10,21 +10,6 @@ use Rattle.jobfile.proofs.bytes.whole_word.Tie as tie
 abbrev start : tie.After-wide2 → tie.Start
 start c = c .before .before .before .before .before
 
-shared-slice-read-wide : tie.Need-shared-slice-read-wide
-shared-slice-read-wide c = search needs
-
-wide-requires : tie.Need-wide-requires
-wide-requires c κs = search needs
-
-add-wide : tie.Need-add-wide
-add-wide c = search needs
-
-shared-slice-read-wide-2 : tie.Need-shared-slice-read-wide-2
-shared-slice-read-wide-2 c = search needs
-
-wide-requires-2 : tie.Need-wide-requires-2
-wide-requires-2 c κs = search needs
-
 mul-result : tie.Need-mul-result
 mul-result c = omega (arith, c .before .shared-slice-known3 .given (start c .args .at + 1))
 
@@ -38,5 +23,5 @@ returns c = simp (c .wide2 .ensures, c .before .before .wide .ensures, getD-drop
 
 pub whole-word-spec : {M : Type 1} → statement M
 whole-word-spec =
-    tie.close (tie.spec shared-slice-read-wide wide-requires add-wide shared-slice-read-wide-2 wide-requires-2
-    mul-result add-result returns)
+    tie.close (tie.spec (λ c. search needs) (λ c κs. search needs) (λ c. search needs) (λ c. search needs)
+    (λ c κs. search needs) mul-result add-result returns)

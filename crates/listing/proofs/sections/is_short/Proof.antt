@@ -4,9 +4,6 @@ use borrow.Author.Needs.{needs}
 use Rattle.listing.proofs.sections.is_short.Statement.{statement}
 use Rattle.listing.proofs.sections.is_short.Tie as tie
 
-row-size-requires : tie.Need-row-size-requires
-row-size-requires c κs = search needs
-
 mul-result : tie.Need-mul-result
 mul-result c =
     let a = c .before .before .args in
@@ -16,4 +13,5 @@ returns : tie.Need-returns
 returns c = rw (c .row-size .ensures)
 
 pub is-short-spec : {M : Type 1} → statement M
-is-short-spec = tie.close (tie.spec row-size-requires mul-result returns)
+is-short-spec =
+    tie.close (tie.spec (λ c κs. search needs) mul-result returns)

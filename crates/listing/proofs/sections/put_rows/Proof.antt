@@ -31,12 +31,6 @@ put-row-requires c κs =
     let start = looped .before .before .before in
     le-trans (mul-le-mul-left (rowSize (start .args .section)) (omega arith)) (start .pre)
 
-add-i : tie.Need-add-i Inv-loop μ-loop
-add-i c = search needs
-
-loop-less : tie.Need-loop-less Inv-loop μ-loop
-loop-less c = search needs
-
 loop-again : tie.Need-loop-again Inv-loop μ-loop
 loop-again c =
     let put = c .before .before in
@@ -51,4 +45,5 @@ returns c = through-end (c .before .loop .inv) (c .loop-test .left)
 
 pub put-rows-spec : {M : Type 1} → statement M
 put-rows-spec =
-    tie.close (tie.spec Inv-loop μ-loop loop-holds put-row-requires add-i loop-less loop-again same-length returns)
+    tie.close (tie.spec Inv-loop μ-loop loop-holds put-row-requires (λ c. search needs) (λ c. search needs) loop-again
+    same-length returns)

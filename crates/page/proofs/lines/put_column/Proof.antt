@@ -22,12 +22,6 @@ add-digit c = omega arith
 cast-digit : tie.Need-cast-digit Inv-loop μ-loop
 cast-digit c = omega arith
 
-slice-aggregate-put-bytes : tie.Need-slice-aggregate-put-bytes Inv-loop μ-loop
-slice-aggregate-put-bytes c = search needs
-
-put-bytes-requires : tie.Need-put-bytes-requires Inv-loop μ-loop
-put-bytes-requires c κs = search needs
-
 same-length : tie.Need-same-length Inv-loop μ-loop
 same-length c = wrote-length (c .before .before .put-bytes .ensures)
 
@@ -37,16 +31,10 @@ returns c =
     let start = written .before .before .before .before .before in
     rw (decimal-digit (start .args .n) (omega arith)) (written .put-bytes .ensures)
 
-digits-requires : tie.Need-digits-requires Inv-loop μ-loop
-digits-requires c κs = search needs
-
 loop-holds : tie.Need-loop-holds Inv-loop μ-loop
 loop-holds c =
     let start = c .before .before .before in
     padding-start (c .digits .result) (start .args .at) (now (start .args .page)) (search needs) (search needs)
-
-put-byte-requires : tie.Need-put-byte-requires Inv-loop μ-loop
-put-byte-requires c κs = search needs
 
 add-filled : tie.Need-add-filled Inv-loop μ-loop
 add-filled c = omega arith
@@ -58,9 +46,6 @@ loop-again : tie.Need-loop-again Inv-loop μ-loop
 loop-again c =
     let written = c .before .before in
     padding-next (written .before .before .before .loop .inv) (omega arith) (written .put-byte .ensures)
-
-put-decimal-requires : tie.Need-put-decimal-requires Inv-loop μ-loop
-put-decimal-requires c κs = search needs
 
 same-length-2 : tie.Need-same-length-2 Inv-loop μ-loop
 same-length-2 c =
@@ -75,5 +60,6 @@ returns-2 c =
 
 pub put-column-spec : {M : Type 1} → statement M
 put-column-spec =
-    tie.close (tie.spec Inv-loop μ-loop add-digit cast-digit slice-aggregate-put-bytes put-bytes-requires same-length returns
-    digits-requires loop-holds put-byte-requires add-filled loop-less loop-again put-decimal-requires same-length-2 returns-2)
+    tie.close (tie.spec Inv-loop μ-loop add-digit cast-digit (λ c. search needs) (λ c κs. search needs) same-length
+    returns (λ c κs. search needs) loop-holds (λ c κs. search needs) add-filled loop-less loop-again
+    (λ c κs. search needs) same-length-2 returns-2)

@@ -27,21 +27,6 @@ loop-holds c =
       wrote = wrote-nothing (c .before .before .args .at) (now (c .before .before .args .page)) (search needs) (search needs);
     }
 
-mul-put-column : tie.Need-mul-put-column Inv-loop μ-loop
-mul-put-column c = search needs
-
-shared-slice-read-put-column : tie.Need-shared-slice-read-put-column Inv-loop μ-loop
-shared-slice-read-put-column c = search needs
-
-put-column-requires : tie.Need-put-column-requires Inv-loop μ-loop
-put-column-requires c κs = search needs
-
-add-i : tie.Need-add-i Inv-loop μ-loop
-add-i c = search needs
-
-loop-less : tie.Need-loop-less Inv-loop μ-loop
-loop-less c = search needs
-
 loop-again : tie.Need-loop-again Inv-loop μ-loop
 loop-again c =
     let written = c .before .before in
@@ -59,5 +44,5 @@ returns c =
 
 pub put-columns-spec : {M : Type 1} → statement M
 put-columns-spec =
-    tie.close (tie.spec Inv-loop μ-loop loop-holds mul-put-column shared-slice-read-put-column put-column-requires add-i loop-less
-    loop-again same-length returns)
+    tie.close (tie.spec Inv-loop μ-loop loop-holds (λ c. search needs) (λ c. search needs) (λ c κs. search needs)
+    (λ c. search needs) (λ c. search needs) loop-again same-length returns)

@@ -3,9 +3,6 @@ use borrow.Author.Needs.{needs}
 use Rattle.process.proofs.finding.moved_to.Statement.{statement}
 use Rattle.process.proofs.finding.moved_to.Tie as tie
 
-serves-x-requires : tie.Need-serves-x-requires
-serves-x-requires c κs = search needs
-
 returns : tie.Need-returns
 returns c = simp (← c .before .serves-x .ensures, c .if1 .taken)
 
@@ -13,4 +10,5 @@ returns-2 : tie.Need-returns-2
 returns-2 c = simp (← c .before .serves-x .ensures, c .if1 .left)
 
 pub moved-to-spec : {M : Type 1} → statement M
-moved-to-spec = tie.close (tie.spec serves-x-requires returns returns-2)
+moved-to-spec =
+    tie.close (tie.spec (λ c κs. search needs) returns returns-2)

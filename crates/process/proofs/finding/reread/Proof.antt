@@ -7,11 +7,9 @@ use Rattle.process.proofs.finding.reread.Tie as tie
 returns : tie.Need-returns
 returns c = simp (eq-eqb _ _ (c .if1 .taken))
 
-go-on-requires : tie.Need-go-on-requires
-go-on-requires c κs = search needs
-
 returns-2 : tie.Need-returns-2
 returns-2 c = simp (ne-eqb _ _ (c .before .if1 .left), c .go-on .ensures)
 
 pub reread-spec : {M : Type 1} → statement M
-reread-spec = tie.close (tie.spec returns go-on-requires returns-2)
+reread-spec =
+    tie.close (tie.spec returns (λ c κs. search needs) returns-2)

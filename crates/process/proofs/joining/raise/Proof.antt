@@ -3,11 +3,9 @@ use borrow.Author.Needs.{needs}
 use Rattle.process.proofs.joining.raise.Statement.{statement}
 use Rattle.process.proofs.joining.raise.Tie as tie
 
-is-same-requires : tie.Need-is-same-requires
-is-same-requires c κs = search needs
-
 returns : tie.Need-returns
 returns c = simp (c .is-same .ensures)
 
 pub raise-spec : {M : Type 1} → statement M
-raise-spec = tie.close (tie.spec is-same-requires returns)
+raise-spec =
+    tie.close (tie.spec (λ c κs. search needs) returns)

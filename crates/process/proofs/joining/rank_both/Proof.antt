@@ -3,21 +3,12 @@ use borrow.Author.Needs.{needs}
 use Rattle.process.proofs.joining.rank_both.Statement.{statement}
 use Rattle.process.proofs.joining.rank_both.Tie as tie
 
-comes-before-requires : tie.Need-comes-before-requires
-comes-before-requires c κs = search needs
-
-go-on-requires : tie.Need-go-on-requires
-go-on-requires c κs = search needs
-
 returns : tie.Need-returns
 returns c = simp (← c .before .before .comes-before .ensures, c .before .if1 .taken, c .go-on .ensures)
-
-go-on-requires-2 : tie.Need-go-on-requires-2
-go-on-requires-2 c κs = search needs
 
 returns-2 : tie.Need-returns-2
 returns-2 c = simp (← c .before .before .comes-before .ensures, c .before .if1 .left, c .go-on2 .ensures)
 
 pub rank-both-spec : {M : Type 1} → statement M
 rank-both-spec =
-    tie.close (tie.spec comes-before-requires go-on-requires returns go-on-requires-2 returns-2)
+    tie.close (tie.spec (λ c κs. search needs) (λ c κs. search needs) returns (λ c κs. search needs) returns-2)

@@ -7,12 +7,6 @@ use Rattle.reader.proofs.Fields.{narrow, request-read}
 use Rattle.reader.proofs.records.request_here.Statement.{statement}
 use Rattle.reader.proofs.records.request_here.Tie as tie
 
-fields-here-requires : tie.Need-fields-here-requires
-fields-here-requires c κs = search needs
-
-kind-of-requires : tie.Need-kind-of-requires
-kind-of-requires c κs = search needs
-
 cast-t5 : tie.Need-cast-t5
 cast-t5 c =
     let read = c .before .before in
@@ -43,5 +37,4 @@ returns c =
 
 pub request-here-spec : {M : Type 1} → statement M
 request-here-spec =
-    tie.close
-    (tie.spec fields-here-requires kind-of-requires cast-t5 cast-t6 cast-t7 returns)
+    tie.close (tie.spec (λ c κs. search needs) (λ c κs. search needs) cast-t5 cast-t6 cast-t7 returns)

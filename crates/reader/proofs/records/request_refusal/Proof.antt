@@ -6,9 +6,6 @@ use Rattle.jobfile.specs.Meaning.{requestRefusal}
 use Rattle.reader.proofs.records.request_refusal.Statement.{statement}
 use Rattle.reader.proofs.records.request_refusal.Tie as tie
 
-sub-if1 : tie.Need-sub-if1
-sub-if1 c = search needs
-
 returns : tie.Need-returns
 unfolding requestRefusal
 returns c = simp (length-drop, lt-ltb _ _ (c .if1 .taken))
@@ -16,12 +13,6 @@ returns c = simp (length-drop, lt-ltb _ _ (c .if1 .taken))
 returns-2 : tie.Need-returns-2
 unfolding requestRefusal
 returns-2 c = simp (length-drop, le-ltb _ _ (c .before .if1 .left), le-leb _ _ (c .if2 .taken))
-
-fields-here-requires : tie.Need-fields-here-requires
-fields-here-requires c κs = search needs
-
-fields-refusal-requires : tie.Need-fields-refusal-requires
-fields-refusal-requires c κs = search needs
 
 returns-3 : tie.Need-returns-3
 unfolding requestRefusal
@@ -36,5 +27,4 @@ returns-3 c =
 
 pub request-refusal-spec : {M : Type 1} → statement M
 request-refusal-spec =
-    tie.close
-    (tie.spec sub-if1 returns returns-2 fields-here-requires fields-refusal-requires returns-3)
+    tie.close (tie.spec (λ c. search needs) returns returns-2 (λ c κs. search needs) (λ c κs. search needs) returns-3)

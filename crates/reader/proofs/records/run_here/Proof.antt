@@ -5,18 +5,6 @@ use Rattle.reader.proofs.Fields.{run-read}
 use Rattle.reader.proofs.records.run_here.Statement.{statement}
 use Rattle.reader.proofs.records.run_here.Tie as tie
 
-add-byte-at : tie.Need-add-byte-at
-add-byte-at c = search needs
-
-byte-at-requires : tie.Need-byte-at-requires
-byte-at-requires c κs = search needs
-
-add-byte-at-2 : tie.Need-add-byte-at-2
-add-byte-at-2 c = search needs
-
-byte-at-requires-2 : tie.Need-byte-at-requires-2
-byte-at-requires-2 c κs = search needs
-
 returns : tie.Need-returns
 returns c =
     let a = c .before .before .before .args in
@@ -24,4 +12,4 @@ returns c =
 
 pub run-here-spec : {M : Type 1} → statement M
 run-here-spec =
-    tie.close (tie.spec add-byte-at byte-at-requires add-byte-at-2 byte-at-requires-2 returns)
+    tie.close (tie.spec (λ c. search needs) (λ c κs. search needs) (λ c. search needs) (λ c κs. search needs) returns)

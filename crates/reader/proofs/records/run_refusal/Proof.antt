@@ -8,18 +8,9 @@ use Rattle.reader.proofs.Fields.{run-numbers}
 use Rattle.reader.proofs.records.run_refusal.Statement.{statement}
 use Rattle.reader.proofs.records.run_refusal.Tie as tie
 
-sub-if1 : tie.Need-sub-if1
-sub-if1 c = search needs
-
 returns : tie.Need-returns
 unfolding runRefusal
 returns c = simp (length-drop, lt-ltb _ _ (c .if1 .taken))
-
-run-here-requires : tie.Need-run-here-requires
-run-here-requires c κs = search needs
-
-cast-if2 : tie.Need-cast-if2
-cast-if2 c = search needs
 
 returns-2 : tie.Need-returns-2
 returns-2 c =
@@ -40,9 +31,6 @@ returns-3 c =
     rw (run-numbers (a .heads) (a .before) (after-run-here .run-here .result) t (after-run-here .run-here .ensures)
     (rw length-drop (tested .if1 .left)))
     (simp (lt-leb _ _ (after-if2 .if2 .left), eq-eqb _ _ (c .if3 .taken)))
-
-does-extend-requires : tie.Need-does-extend-requires
-does-extend-requires c κs = search needs
 
 returns-4 : tie.Need-returns-4
 returns-4 c =
@@ -74,5 +62,5 @@ returns-5 c =
 
 pub run-refusal-spec : {M : Type 1} → statement M
 run-refusal-spec =
-    tie.close (tie.spec sub-if1 returns run-here-requires cast-if2 returns-2 returns-3 does-extend-requires returns-4
-    returns-5)
+    tie.close (tie.spec (λ c. search needs) returns (λ c κs. search needs) (λ c. search needs) returns-2 returns-3
+    (λ c κs. search needs) returns-4 returns-5)

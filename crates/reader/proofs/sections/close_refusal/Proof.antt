@@ -7,15 +7,9 @@ use Rattle.jobfile.specs.Meaning.{closeRefusal, balanceRefusal}
 use Rattle.reader.proofs.sections.close_refusal.Statement.{statement}
 use Rattle.reader.proofs.sections.close_refusal.Tie as tie
 
-sub-left : tie.Need-sub-left
-sub-left c = search needs
-
 returns : tie.Need-returns
 unfolding closeRefusal balanceRefusal
 returns c = simp (length-drop, lt-ltb _ _ (c .if1 .taken))
-
-word-at-requires : tie.Need-word-at-requires
-word-at-requires c κs = search needs
 
 returns-2 : tie.Need-returns-2
 unfolding closeRefusal balanceRefusal
@@ -45,9 +39,6 @@ returns-4 c =
       le-ltb _ _ (after-if3 .if3 .left),
       lt-ltb _ _ (c .if4 .taken),
     )
-
-sum-words-requires : tie.Need-sum-words-requires
-sum-words-requires c κs = search needs
 
 returns-5 : tie.Need-returns-5
 unfolding closeRefusal balanceRefusal
@@ -89,5 +80,5 @@ returns-6 c =
 
 pub close-refusal-spec : {M : Type 1} → statement M
 close-refusal-spec =
-    tie.close (tie.spec sub-left returns word-at-requires returns-2 returns-3 returns-4 sum-words-requires returns-5
-    returns-6)
+    tie.close (tie.spec (λ c. search needs) returns (λ c κs. search needs) returns-2 returns-3 returns-4
+    (λ c κs. search needs) returns-5 returns-6)

@@ -10,9 +10,6 @@ returns : tie.Need-returns
 unfolding headerRefusal
 returns c = simp (lt-ltb _ _ (c .if1 .taken))
 
-word-at-requires : tie.Need-word-at-requires
-word-at-requires c κs = search needs
-
 returns-2 : tie.Need-returns-2
 unfolding headerRefusal
 returns-2 c = simp (le-ltb _ _ (c .before .before .if1 .left), ne-eqb _ _ (c .if2 .taken), ← c .before .word-at .ensures)
@@ -25,21 +22,6 @@ returns-3 c =
       eq-eqb _ _ (sym (c .before .before .word-at .ensures) ∙ c .before .if2 .left),
       lt-ltb _ _ (c .if3 .taken),
     )
-
-word-at-requires-2 : tie.Need-word-at-requires-2
-word-at-requires-2 c κs = search needs
-
-cast-sizes-refusal : tie.Need-cast-sizes-refusal
-cast-sizes-refusal c = search needs
-
-word-at-requires-3 : tie.Need-word-at-requires-3
-word-at-requires-3 c κs = search needs
-
-cast-sizes-refusal-2 : tie.Need-cast-sizes-refusal-2
-cast-sizes-refusal-2 c = search needs
-
-sizes-refusal-requires : tie.Need-sizes-refusal-requires
-sizes-refusal-requires c κs = search needs
 
 returns-4 : tie.Need-returns-4
 unfolding headerRefusal
@@ -61,5 +43,5 @@ returns-4 c =
 
 pub header-refusal-spec : {M : Type 1} → statement M
 header-refusal-spec =
-    tie.close (tie.spec returns word-at-requires returns-2 returns-3 word-at-requires-2 cast-sizes-refusal
-    word-at-requires-3 cast-sizes-refusal-2 sizes-refusal-requires returns-4)
+    tie.close (tie.spec returns (λ c κs. search needs) returns-2 returns-3 (λ c κs. search needs) (λ c. search needs)
+    (λ c κs. search needs) (λ c. search needs) (λ c κs. search needs) returns-4)

@@ -19,12 +19,6 @@ abbrev μ-loop : tie.MeasureT-loop
 loop-holds : tie.Need-loop-holds Inv-loop μ-loop
 loop-holds c = read-start _ _ _ _ (c .before .pre .0)
 
-word-at-requires : tie.Need-word-at-requires Inv-loop μ-loop
-word-at-requires c κs = search needs
-
-request-refusal-requires : tie.Need-request-refusal-requires Inv-loop μ-loop
-request-refusal-requires c κs = search needs
-
 returns : tie.Need-returns Inv-loop μ-loop
 returns c = requests-refused _ _ (c .before .before .before .before .loop .inv) _ (cc) (c .before .request-refusal .ensures) (c .if2 .taken)
 
@@ -45,5 +39,5 @@ returns-2 c = requests-end _ _ (c .before .before .loop .inv) (λ e. c .if1 .lef
 
 pub read-requests-spec : {M : Type 1} → statement M
 read-requests-spec =
-    tie.close (tie.spec Inv-loop μ-loop loop-holds word-at-requires request-refusal-requires returns add-at add-count
+    tie.close (tie.spec Inv-loop μ-loop loop-holds (λ c κs. search needs) (λ c κs. search needs) returns add-at add-count
     loop-less loop-again returns-2)

@@ -18,12 +18,6 @@ abbrev μ-loop : tie.MeasureT-loop
 loop-holds : tie.Need-loop-holds Inv-loop μ-loop
 loop-holds c = runs-start _ _ _ (c .before .pre .0)
 
-word-at-requires : tie.Need-word-at-requires Inv-loop μ-loop
-word-at-requires c κs = search needs
-
-run-refusal-requires : tie.Need-run-refusal-requires Inv-loop μ-loop
-run-refusal-requires c κs = search needs
-
 returns : tie.Need-returns Inv-loop μ-loop
 returns c = runs-refused (c .before .before .before .before .loop .inv) _ (cc) (c .before .run-refusal .ensures) (c .if2 .taken)
 
@@ -35,9 +29,6 @@ add-at c = omega arith
 
 add-count : tie.Need-add-count Inv-loop μ-loop
 add-count c = omega arith
-
-cast-grants : tie.Need-cast-grants Inv-loop μ-loop
-cast-grants c = search needs
 
 add-grants : tie.Need-add-grants Inv-loop μ-loop
 add-grants c = omega arith
@@ -55,5 +46,5 @@ returns-2 c = runs-end (c .before .before .loop .inv) (λ e. c .if1 .left (c .be
 
 pub read-runs-spec : {M : Type 1} → statement M
 read-runs-spec =
-    tie.close (tie.spec Inv-loop μ-loop loop-holds word-at-requires run-refusal-requires returns run-here-requires
-    add-at add-count cast-grants add-grants loop-less loop-again returns-2)
+    tie.close (tie.spec Inv-loop μ-loop loop-holds (λ c κs. search needs) (λ c κs. search needs) returns run-here-requires
+    add-at add-count (λ c. search needs) add-grants loop-less loop-again returns-2)

@@ -7,28 +7,17 @@ use Rattle.stepper.proofs.Seek.{playing-count}
 use Rattle.stepper.proofs.heads.ready_head.Statement.{statement}
 use Rattle.stepper.proofs.heads.ready_head.Tie as tie
 
-is-resting-requires : tie.Need-is-resting-requires
-is-resting-requires c κs = search needs
-
-cast-request-at : tie.Need-cast-request-at
-cast-request-at c = search needs
-
 request-at-requires : tie.Need-request-at-requires
 request-at-requires c κs =
     let p = c .before .before .before .pre in
     (p .0 .accepted, omega (arith, p .1, playing-count (p .0)))
-
-begin-requires : tie.Need-begin-requires
-begin-requires c κs = search needs
 
 returns : tie.Need-returns
 returns c =
     let t = sym (c .before .before .before .is-resting .ensures) ∙ c .before .before .if1 .taken in
     c .begin .ensures ∙ simp (t, c .before .request-at .ensures noRequest)
 
-returns-2 : tie.Need-returns-2
-returns-2 c = search needs
-
 pub ready-head-spec : {M : Type 1} → statement M
 ready-head-spec =
-    tie.close (tie.spec is-resting-requires cast-request-at request-at-requires begin-requires returns returns-2)
+    tie.close (tie.spec (λ c κs. search needs) (λ c. search needs) request-at-requires (λ c κs. search needs) returns
+    (λ c. search needs))

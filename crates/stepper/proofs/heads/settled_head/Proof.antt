@@ -6,9 +6,6 @@ use borrow.Author.Needs.{needs}
 use Rattle.stepper.proofs.heads.settled_head.Statement.{statement}
 use Rattle.stepper.proofs.heads.settled_head.Tie as tie
 
-is-final-requires : tie.Need-is-final-requires
-is-final-requires c κs = search needs
-
 successor-requires : tie.Need-successor-requires
 successor-requires c κs = c .before .before .before .before .before .before .before .pre
 
@@ -23,4 +20,5 @@ returns-2 : tie.Need-returns-2
 returns-2 c = simp (sym (c .before .is-final .ensures) ∙ c .if1 .left)
 
 pub settled-head-spec : {M : Type 1} → statement M
-settled-head-spec = tie.close (tie.spec is-final-requires successor-requires returns returns-2)
+settled-head-spec =
+    tie.close (tie.spec (λ c κs. search needs) successor-requires returns returns-2)

@@ -21,9 +21,6 @@ loop-holds c = record { within = omega (arith, c .before .pre .1, playing-count 
 request-at-requires : tie.Need-request-at-requires Inv-loop μ-loop
 request-at-requires c κs = let p = c .before .before .before .pre .0 in (p .accepted, omega (arith, playing-count p))
 
-cast-if1 : tie.Need-cast-if1 Inv-loop μ-loop
-cast-if1 c = search needs
-
 returns : tie.Need-returns Inv-loop μ-loop
 returns c =
     let l = c .before .before .before .before .loop in
@@ -50,5 +47,5 @@ returns-2 c =
 
 pub next-request-spec : {M : Type 1} → statement M
 next-request-spec =
-    tie.close (tie.spec Inv-loop μ-loop loop-holds request-at-requires cast-if1 returns add-q loop-less loop-again
-    returns-2)
+    tie.close (tie.spec Inv-loop μ-loop loop-holds request-at-requires (λ c. search needs) returns add-q loop-less
+    loop-again returns-2)

@@ -7,20 +7,8 @@ use borrow.Author.Needs.{needs}
 use Rattle.stepper.proofs.requests.successor.Statement.{statement}
 use Rattle.stepper.proofs.requests.successor.Tie as tie
 
-mul-result : tie.Need-mul-result
-mul-result c = search needs
-
-shared-slice-read-result : tie.Need-shared-slice-read-result
-shared-slice-read-result c = search needs
-
 returns : tie.Need-returns
 returns c = successor-indexed (c .before .before .before .before .pre) (omega (arith, c .before .if1 .taken))
-
-add-next-request : tie.Need-add-next-request
-add-next-request c = search needs
-
-next-request-requires : tie.Need-next-request-requires
-next-request-requires c κs = search needs
 
 cast-result : tie.Need-cast-result
 cast-result c =
@@ -28,10 +16,7 @@ cast-result c =
     let a = start .args in
     omega (arith, c .next-request .ensures, next-small (start .pre .playing) (a .h) (a .request + 1) (omega (arith, start .pre .within)))
 
-returns-2 : tie.Need-returns-2
-returns-2 c = search needs
-
 pub successor-spec : {M : Type 1} → statement M
 successor-spec =
-    tie.close (tie.spec mul-result shared-slice-read-result returns add-next-request next-request-requires cast-result
-    returns-2)
+    tie.close (tie.spec (λ c. search needs) (λ c. search needs) returns (λ c. search needs) (λ c κs. search needs)
+    cast-result (λ c. search needs))

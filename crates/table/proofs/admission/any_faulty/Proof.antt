@@ -18,9 +18,6 @@ cast-i c = omega (arith, c .before .pre)
 loop-holds : tie.Need-loop-holds Inv-loop μ-loop
 loop-holds c = record { within = omega arith; same = refl }
 
-sub-i : tie.Need-sub-i Inv-loop μ-loop
-sub-i c = search needs
-
 is-faulty-requires : tie.Need-is-faulty-requires Inv-loop μ-loop
 is-faulty-requires c κs = omega (arith, c .before .loop .inv .within)
 
@@ -28,9 +25,6 @@ returns : tie.Need-returns Inv-loop μ-loop
 returns c =
     let tested = c .before .before in
     looked-faulty (tested .before .loop .inv) (omega arith) (sym (c .before .is-faulty .ensures) ∙ c .if1 .taken)
-
-loop-less : tie.Need-loop-less Inv-loop μ-loop
-loop-less c = search needs
 
 loop-again : tie.Need-loop-again Inv-loop μ-loop
 loop-again c =
@@ -42,4 +36,5 @@ returns-2 c = looked-all (c .before .loop .inv) (omega arith)
 
 pub any-faulty-spec : {M : Type 1} → statement M
 any-faulty-spec =
-    tie.close (tie.spec Inv-loop μ-loop cast-i loop-holds sub-i is-faulty-requires returns loop-less loop-again returns-2)
+    tie.close (tie.spec Inv-loop μ-loop cast-i loop-holds (λ c. search needs) is-faulty-requires returns
+    (λ c. search needs) loop-again returns-2)

@@ -10,9 +10,6 @@ returns c = simp (eq-eqb _ _ (c .if1 .taken))
 returns-2 : tie.Need-returns-2
 returns-2 c = simp (ne-eqb _ _ (c .before .if1 .left), lt-ltb _ _ (c .if2 .taken))
 
-any-faulty-requires : tie.Need-any-faulty-requires
-any-faulty-requires c κs = search needs
-
 returns-3 : tie.Need-returns-3
 returns-3 c =
     let tested = c .before .before in
@@ -34,4 +31,5 @@ returns-4 c =
     )
 
 pub table-refusal-spec : {M : Type 1} → statement M
-table-refusal-spec = tie.close (tie.spec returns returns-2 any-faulty-requires returns-3 returns-4)
+table-refusal-spec =
+    tie.close (tie.spec returns returns-2 (λ c κs. search needs) returns-3 returns-4)

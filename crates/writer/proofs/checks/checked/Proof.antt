@@ -20,32 +20,14 @@ few c =
     let a = start c .args in
     few-requests (given (a .nodes) (a .heads) (now (a .requests)) (now (a .grants))) _ (c .before .numbers-refusal .ensures) (c .if1 .left)
 
-numbers-refusal-requires : tie.Need-numbers-refusal-requires
-numbers-refusal-requires c κs = search needs
-
-refusal-requires : tie.Need-refusal-requires
-refusal-requires c κs = search needs
-
 returns : tie.Need-returns
 returns c = c .refusal .ensures ∙ answer-numbers _ _ _ (c .before .before .numbers-refusal .ensures) (c .before .if1 .taken)
 
 cast-request-place : tie.Need-cast-request-place
 cast-request-place c = omega (arith, few c)
 
-request-place-requires : tie.Need-request-place-requires
-request-place-requires c κs = search needs
-
-add-others : tie.Need-add-others
-add-others c = search needs
-
-run-count-requires : tie.Need-run-count-requires
-run-count-requires c κs = search needs
-
 sub-if2 : tie.Need-sub-if2
 sub-if2 c = omega (arith, c .before .request-place .ensures, few (c .before .before))
-
-refusal-requires-2 : tie.Need-refusal-requires-2
-refusal-requires-2 c κs = search needs
 
 returns-2 : tie.Need-returns-2
 returns-2 c =
@@ -54,15 +36,6 @@ returns-2 c =
     c .refusal2 .ensures
     ∙ answer-length _ _ (placed .before .before .numbers-refusal .ensures) (placed .before .if1 .left) _ _ _
     (placed .request-place .ensures) (counted .run-count .ensures) (omega arith)
-
-mul-bytes : tie.Need-mul-bytes
-mul-bytes c = search needs
-
-add-bytes : tie.Need-add-bytes
-add-bytes c = search needs
-
-refusal-requires-3 : tie.Need-refusal-requires-3
-refusal-requires-3 c κs = search needs
 
 returns-3 : tie.Need-returns-3
 returns-3 c =
@@ -84,6 +57,6 @@ returns-4 c =
 
 pub checked-spec : {M : Type 1} → statement M
 checked-spec =
-    tie.close (tie.spec numbers-refusal-requires refusal-requires returns cast-request-place request-place-requires
-    add-others run-count-requires sub-if2 refusal-requires-2 returns-2 mul-bytes add-bytes refusal-requires-3
-    returns-3 cast-t14 returns-4)
+    tie.close (tie.spec (λ c κs. search needs) (λ c κs. search needs) returns cast-request-place (λ c κs. search needs)
+    (λ c. search needs) (λ c κs. search needs) sub-if2 (λ c κs. search needs) returns-2 (λ c. search needs)
+    (λ c. search needs) (λ c κs. search needs) returns-3 cast-t14 returns-4)

@@ -16,17 +16,11 @@ start c = c .before .before .before
 sized : (c : tie.Else1) → sizesRefusal (start (c .before) .args .nodes) (start (c .before) .args .heads) ≡ 0
 sized c = sym (c .before .sizes-refusal .ensures) ∙ c .if1 .left
 
-sizes-refusal-requires : tie.Need-sizes-refusal-requires
-sizes-refusal-requires c κs = search needs
-
 returns : tie.Need-returns
 returns c = let sizes = c .before .sizes-refusal .ensures in simp (ne-eqb _ 0 (λ e. c .if1 .taken (sizes ∙ e))) sizes
 
 returns-2 : tie.Need-returns-2
 returns-2 c = simp (sized (c .before), count-refuses (now (start (c .before .before) .args .requests)) (omega arith))
-
-requests-refusal-requires : tie.Need-requests-refusal-requires
-requests-refusal-requires c κs = search needs
 
 returns-3 : tie.Need-returns-3
 returns-3 c =
@@ -38,9 +32,6 @@ returns-3 c =
       count-passes (now (start (many .before) .args .requests)) (omega arith),
       ne-eqb _ 0 (λ e. c .if3 .taken (each ∙ e)),
     ) each
-
-grants-refusal-requires : tie.Need-grants-refusal-requires
-grants-refusal-requires c κs = search needs
 
 returns-4 : tie.Need-returns-4
 returns-4 c =
@@ -54,5 +45,5 @@ returns-4 c =
 
 pub numbers-refusal-spec : {M : Type 1} → statement M
 numbers-refusal-spec =
-    tie.close (tie.spec sizes-refusal-requires returns returns-2 requests-refusal-requires returns-3
-    grants-refusal-requires returns-4)
+    tie.close (tie.spec (λ c κs. search needs) returns returns-2 (λ c κs. search needs) returns-3 (λ c κs. search needs)
+    returns-4)

@@ -20,25 +20,10 @@ looped c = c .before .before .before
 loop-holds : tie.Need-loop-holds Inv-loop μ-loop
 loop-holds c = record { within = omega arith; same = refl }
 
-sub-loop : tie.Need-sub-loop Inv-loop μ-loop
-sub-loop c = search needs
-
-fields-at-requires : tie.Need-fields-at-requires Inv-loop μ-loop
-fields-at-requires c κs = search needs
-
-fields-refusal-requires : tie.Need-fields-refusal-requires Inv-loop μ-loop
-fields-refusal-requires c κs = search needs
-
 returns : tie.Need-returns Inv-loop μ-loop
 returns c =
     let told = c .before .fields-refusal in
     passing-stops _ _ _ _ (looped (c .before) .loop .inv) (told .result) (omega arith) (cc) (c .if1 .taken)
-
-add-at : tie.Need-add-at Inv-loop μ-loop
-add-at c = search needs
-
-loop-less : tie.Need-loop-less Inv-loop μ-loop
-loop-less c = search needs
 
 loop-again : tie.Need-loop-again Inv-loop μ-loop
 loop-again c =
@@ -50,5 +35,5 @@ returns-2 c = passing-all _ _ _ _ (c .before .loop .inv) (omega arith)
 
 pub requests-refusal-spec : {M : Type 1} → statement M
 requests-refusal-spec =
-    tie.close (tie.spec Inv-loop μ-loop loop-holds sub-loop fields-at-requires fields-refusal-requires returns add-at
-    loop-less loop-again returns-2)
+    tie.close (tie.spec Inv-loop μ-loop loop-holds (λ c. search needs) (λ c κs. search needs) (λ c κs. search needs)
+    returns (λ c. search needs) (λ c. search needs) loop-again returns-2)

@@ -19,20 +19,8 @@ abbrev μ-loop : tie.MeasureT-loop
 abbrev looped : tie.After-does-extend Inv-loop μ-loop → tie.At-loop Inv-loop μ-loop
 looped c = c .before .before .before
 
-shared-slice-read-t6 : tie.Need-shared-slice-read-t6 Inv-loop μ-loop
-shared-slice-read-t6 c = search needs
-
-add-i : tie.Need-add-i Inv-loop μ-loop
-add-i c = search needs
-
 loop-holds : tie.Need-loop-holds Inv-loop μ-loop
 loop-holds c = growing-first _ _ (c .before .before .pre)
-
-shared-slice-read-does-extend : tie.Need-shared-slice-read-does-extend Inv-loop μ-loop
-shared-slice-read-does-extend c = search needs
-
-does-extend-requires : tie.Need-does-extend-requires Inv-loop μ-loop
-does-extend-requires c κs = search needs
 
 returns : tie.Need-returns Inv-loop μ-loop
 returns c =
@@ -45,12 +33,6 @@ add-run c =
     let extends = sym (told .does-extend .ensures) ∙ not-false (told .does-extend .result) (c .before .if1 .left) in
     omega (arith, extended (looped told .loop .run) _ extends .under)
 
-add-i-2 : tie.Need-add-i-2 Inv-loop μ-loop
-add-i-2 c = search needs
-
-loop-less : tie.Need-loop-less Inv-loop μ-loop
-loop-less c = search needs
-
 loop-again : tie.Need-loop-again Inv-loop μ-loop
 loop-again c =
     let told = c .before .before in
@@ -62,5 +44,5 @@ returns-2 c = growing-ends _ _ _ _ (c .before .loop .inv) (omega arith)
 
 pub run-at-spec : {M : Type 1} → statement M
 run-at-spec =
-    tie.close (tie.spec Inv-loop μ-loop shared-slice-read-t6 add-i loop-holds shared-slice-read-does-extend
-    does-extend-requires returns add-run add-i-2 loop-less loop-again returns-2)
+    tie.close (tie.spec Inv-loop μ-loop (λ c. search needs) (λ c. search needs) loop-holds (λ c. search needs)
+    (λ c κs. search needs) returns add-run (λ c. search needs) (λ c. search needs) loop-again returns-2)

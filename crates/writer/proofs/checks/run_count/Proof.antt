@@ -20,12 +20,6 @@ looped c = c .before .before .before
 loop-holds : tie.Need-loop-holds Inv-loop μ-loop
 loop-holds c = record { within = omega arith; same = omega arith }
 
-run-at-requires : tie.Need-run-at-requires Inv-loop μ-loop
-run-at-requires c κs = search needs
-
-cast-i : tie.Need-cast-i Inv-loop μ-loop
-cast-i c = search needs
-
 add-i : tie.Need-add-i Inv-loop μ-loop
 add-i c = omega (arith, run-taken _ (looped c .loop .i) _ (omega arith) (c .before .run-at .ensures))
 
@@ -43,4 +37,5 @@ returns c = counted-all _ _ _ (c .before .loop .inv) (omega arith)
 
 pub run-count-spec : {M : Type 1} → statement M
 run-count-spec =
-    tie.close (tie.spec Inv-loop μ-loop loop-holds run-at-requires cast-i add-i add-runs loop-less loop-again returns)
+    tie.close (tie.spec Inv-loop μ-loop loop-holds (λ c κs. search needs) (λ c. search needs) add-i add-runs loop-less
+    loop-again returns)

@@ -6,20 +6,12 @@ use borrow.Author.Needs.{needs}
 use Rattle.writer.proofs.records.put_bytes.Statement.{statement}
 use Rattle.writer.proofs.records.put_bytes.Tie as tie
 
-slice-write-out : tie.Need-slice-write-out
-slice-write-out c = search needs
-
-add-out : tie.Need-add-out
-add-out c = search needs
-
 slice-write-out-2 : tie.Need-slice-write-out-2
 slice-write-out-2 c = simp length-set (omega arith)
-
-same-length : tie.Need-same-length
-same-length c = search needs
 
 returns : tie.Need-returns
 returns c = simp add-one
 
 pub put-bytes-spec : {M : Type 1} → statement M
-put-bytes-spec = tie.close (tie.spec slice-write-out add-out slice-write-out-2 same-length returns)
+put-bytes-spec =
+    tie.close (tie.spec (λ c. search needs) (λ c. search needs) slice-write-out-2 (λ c. search needs) returns)

@@ -7,29 +7,8 @@ use Rattle.writer.proofs.Close.{close-stored}
 use Rattle.writer.proofs.records.put_close.Statement.{statement}
 use Rattle.writer.proofs.records.put_close.Tie as tie
 
-put-word-requires : tie.Need-put-word-requires
-put-word-requires c κs = search needs
-
-add-end : tie.Need-add-end
-add-end c = search needs
-
-slice-reshare-prefix-sum-words : tie.Need-slice-reshare-prefix-sum-words
-slice-reshare-prefix-sum-words c = search needs
-
 slice-aggregate-sum-words : tie.Need-slice-aggregate-sum-words
 slice-aggregate-sum-words c = simp length-take (omega arith)
-
-sum-words-requires : tie.Need-sum-words-requires
-sum-words-requires c κs = search needs
-
-wrapping-sub-u16-requires : tie.Need-wrapping-sub-u16-requires
-wrapping-sub-u16-requires c κs = search needs
-
-put-word-requires-2 : tie.Need-put-word-requires-2
-put-word-requires-2 c κs = search needs
-
-same-length : tie.Need-same-length
-same-length c = search needs
 
 returns : tie.Need-returns
 returns c =
@@ -46,5 +25,5 @@ returns c =
 
 pub put-close-spec : {M : Type 1} → statement M
 put-close-spec =
-    tie.close (tie.spec put-word-requires add-end slice-reshare-prefix-sum-words slice-aggregate-sum-words
-    sum-words-requires wrapping-sub-u16-requires put-word-requires-2 same-length returns)
+    tie.close (tie.spec (λ c κs. search needs) (λ c. search needs) (λ c. search needs) slice-aggregate-sum-words
+    (λ c κs. search needs) (λ c κs. search needs) (λ c κs. search needs) (λ c. search needs) returns)

@@ -59,9 +59,6 @@ put-close-requires c κs =
     let placed = requests .put-requests .ensures .0 in
     omega (arith, length-file (draft s), fields-count (now (s .args .requests)), known s, runs .put-runs .ensures .0)
 
-same-length : tie.Need-same-length
-same-length c = search needs
-
 returns : tie.Need-returns
 returns c =
     let close = c .before .before in
@@ -76,4 +73,4 @@ returns c =
 pub put-file-spec : {M : Type 1} → statement M
 put-file-spec =
     tie.close (tie.spec cast-put-header cast-put-header-2 put-header-requires put-requests-requires put-runs-requires
-    put-close-requires same-length returns)
+    put-close-requires (λ c. search needs) returns)

@@ -24,41 +24,17 @@ start c = after-put-word c .before .before .before
 fits : (c : tie.After-struct-known) → Fit mostNodes mostHeads (start c .args .fields)
 fits c = fit mostNodes mostHeads (start c .args .fields) (start c .pre .1)
 
-put-word-requires : tie.Need-put-word-requires
-put-word-requires c κs = search needs
-
-add-put-bytes : tie.Need-add-put-bytes
-add-put-bytes c = search needs
-
 cast-put-bytes : tie.Need-cast-put-bytes
 cast-put-bytes c = omega (arith, fits c)
 
 cast-put-bytes-2 : tie.Need-cast-put-bytes-2
 cast-put-bytes-2 c = omega (arith, fits (c .before))
 
-put-bytes-requires : tie.Need-put-bytes-requires
-put-bytes-requires c κs = search needs
-
-add-put-word : tie.Need-add-put-word
-add-put-word c = search needs
-
 cast-put-word : tie.Need-cast-put-word
 cast-put-word c = omega (arith, fits (after-put-bytes c .before .before))
 
-put-word-requires-2 : tie.Need-put-word-requires-2
-put-word-requires-2 c κs = search needs
-
-add-put-word-2 : tie.Need-add-put-word-2
-add-put-word-2 c = search needs
-
 cast-put-word-2 : tie.Need-cast-put-word-2
 cast-put-word-2 c = omega (arith, fits (after-put-bytes (after-put-word2 c .before) .before .before))
-
-put-word-requires-3 : tie.Need-put-word-requires-3
-put-word-requires-3 c κs = search needs
-
-same-length : tie.Need-same-length
-same-length c = search needs
 
 returns : tie.Need-returns
 returns c =
@@ -71,6 +47,6 @@ returns c =
 
 pub put-request-spec : {M : Type 1} → statement M
 put-request-spec =
-    tie.close (tie.spec put-word-requires add-put-bytes cast-put-bytes cast-put-bytes-2 put-bytes-requires
-    add-put-word cast-put-word put-word-requires-2 add-put-word-2 cast-put-word-2 put-word-requires-3 same-length
-    returns)
+    tie.close (tie.spec (λ c κs. search needs) (λ c. search needs) cast-put-bytes cast-put-bytes-2 (λ c κs. search needs)
+    (λ c. search needs) cast-put-word (λ c κs. search needs) (λ c. search needs) cast-put-word-2 (λ c κs. search needs)
+    (λ c. search needs) returns)

@@ -33,23 +33,11 @@ loop-holds : tie.Need-loop-holds Inv-loop μ-loop
 loop-holds c =
     record { within = omega arith; storing = record { size = refl; place = refl; same = refl }; fits = c .before .before .pre .1 }
 
-sub-loop : tie.Need-sub-loop Inv-loop μ-loop
-sub-loop c = search needs
-
-fields-at-requires : tie.Need-fields-at-requires Inv-loop μ-loop
-fields-at-requires c κs = search needs
-
 put-request-requires : tie.Need-put-request-requires Inv-loop μ-loop
 put-request-requires c κs = (room c, request-fits (looped c .loop .inv) _ (c .fields-at .ensures) (omega arith))
 
-add-i : tie.Need-add-i Inv-loop μ-loop
-add-i c = search needs
-
 add-at : tie.Need-add-at Inv-loop μ-loop
 add-at c = omega (arith, room (after-fields-at c))
-
-loop-less : tie.Need-loop-less Inv-loop μ-loop
-loop-less c = search needs
 
 loop-again : tie.Need-loop-again Inv-loop μ-loop
 loop-again c =
@@ -67,5 +55,5 @@ returns c =
 
 pub put-requests-spec : {M : Type 1} → statement M
 put-requests-spec =
-    tie.close (tie.spec Inv-loop μ-loop loop-holds sub-loop fields-at-requires put-request-requires add-i add-at
-    loop-less loop-again same-length returns)
+    tie.close (tie.spec Inv-loop μ-loop loop-holds (λ c. search needs) (λ c κs. search needs) put-request-requires
+    (λ c. search needs) add-at (λ c. search needs) loop-again same-length returns)

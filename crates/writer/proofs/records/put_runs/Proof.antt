@@ -38,14 +38,8 @@ taken c = run-taken _ _ _ (looped c .loop .inv .within) (c .run-at .ensures)
 loop-holds : tie.Need-loop-holds Inv-loop μ-loop
 loop-holds c = record { within = omega arith; storing = record { size = refl; place = refl; same = refl } }
 
-run-at-requires : tie.Need-run-at-requires Inv-loop μ-loop
-run-at-requires c κs = search needs
-
 put-run-requires : tie.Need-put-run-requires Inv-loop μ-loop
 put-run-requires c κs = room (c .before)
-
-cast-i : tie.Need-cast-i Inv-loop μ-loop
-cast-i c = search needs
 
 add-i : tie.Need-add-i Inv-loop μ-loop
 add-i c = omega (arith, taken (after-run-at c))
@@ -76,5 +70,5 @@ returns c =
 
 pub put-runs-spec : {M : Type 1} → statement M
 put-runs-spec =
-    tie.close (tie.spec Inv-loop μ-loop loop-holds run-at-requires put-run-requires cast-i add-i add-at loop-less
-    loop-again same-length returns)
+    tie.close (tie.spec Inv-loop μ-loop loop-holds (λ c κs. search needs) put-run-requires (λ c. search needs) add-i
+    add-at loop-less loop-again same-length returns)
