@@ -7,18 +7,23 @@ use Rattle.turns.proofs.Runs.{runs-few, opens, stays-open}
 use Rattle.turns.proofs.open_run.Statement.{statement}
 use Rattle.turns.proofs.open_run.Tie as tie
 
+-- where the run under way has no grant left
+abbrev start : tie.Then1 → tie.Start
+start c = c .before .before .before
+
 run-at-requires : tie.Need-run-at-requires
-run-at-requires c κs = let p = c .before .before .before .pre in (p .0 .accepted, (playing-count (p .0), p .1 .there (c .if1 .taken)))
+run-at-requires c κs = let p = start c .pre in (p .0 .accepted, (playing-count (p .0), p .1 .there (c .if1 .taken)))
 
 add-t6 : tie.Need-add-t6
 add-t6 c =
-    let p = c .before .before .before .before .before .pre in omega (arith, p .1 .there (c .before .before .if1 .taken), runs-few (p .0))
+    let spent = c .before .before in
+    omega (arith, start spent .pre .1 .there (spent .if1 .taken), runs-few (start spent .pre .0))
 
 returns : tie.Need-returns
 returns c =
-    let k = c .before .before .before .before .before .before .before in
-    opens (runsOf (k .args .file .now)) (k .args .cursor) (c .before .before .before .run-at .result)
-    (c .before .before .before .before .if1 .taken) (c .before .before .before .run-at .ensures noRun)
+    let read = c .before .before .before in
+    let k = start (read .before) .args in
+    opens (runsOf (k .file .now)) (k .cursor) (read .run-at .result) (read .before .if1 .taken) (read .run-at .ensures noRun)
 
 returns-2 : tie.Need-returns-2
 returns-2 c = let k = c .before .before .before in stays-open (runsOf (k .args .file .now)) (k .args .cursor) (c .if1 .left)

@@ -10,9 +10,6 @@ use Rattle.page.proofs.Gathering.{Gathering, gathering-start, gathering
 use Rattle.page.proofs.Gathering.{gathering-inside, gathering-few, gathering-other, gathering-lowest}
 use Rattle.page.proofs.groups.gathered.Statement.{statement}
 use Rattle.page.proofs.groups.gathered.Tie as tie
-use Rattle.page.proofs.groups.gathered.Reads as reads
-use Rattle.page.proofs.groups.gathered.Lts as lts
-use Rattle.table.proofs.admission.root_of.Reads as root-of-reads
 
 abbrev Inv-loop : tie.InvT-loop
 Inv-loop table lowest₀ roots₀ size₀ count₀ i₀ lowest roots size count i =
@@ -22,15 +19,13 @@ abbrev μ-loop : tie.MeasureT-loop
 μ-loop table lowest₀ roots₀ size₀ count₀ i₀ lowest roots size count i = length table - i
 
 -- where the root of place i is found, it is a node of the arrays
-found-inside : (c : lts.After-root-of (root-of-reads.Asked, root-of-reads.Learnt) reads.Pre reads.Post Inv-loop μ-loop)
-    → c .root-of .result < mostNodes
+found-inside : (c : tie.After-root-of Inv-loop μ-loop) → c .root-of .result < mostNodes
 found-inside c =
     let start = c .before .before .before .before in
     gathering-inside (c .before .before .loop .inv) (start .pre) (omega arith) (c .root-of .result) (c .root-of .ensures)
 
 -- where place i is the lowest of its group, there is room for the group
-group-inside : (c : lts.Else1 (root-of-reads.Asked, root-of-reads.Learnt) reads.Pre reads.Post Inv-loop μ-loop)
-    → c .before .before .before .loop .count < mostNodes
+group-inside : (c : tie.Else1 Inv-loop μ-loop) → c .before .before .before .loop .count < mostNodes
 group-inside c =
     let at = c .before .before .before in
     omega (arith, at .before .before .pre .few, gathering-room (at .loop .inv))

@@ -11,9 +11,6 @@ use Rattle.page.proofs.Rows.{groups-few, group-row, root-inside, rank-r
 use Rattle.page.proofs.Rows.{Numbering, numbering-start, numbering-next, numbering-done}
 use Rattle.page.proofs.groups.numbered.Statement.{statement}
 use Rattle.page.proofs.groups.numbered.Tie as tie
-use Rattle.page.proofs.groups.numbered.Reads as reads
-use Rattle.page.proofs.groups.numbered.Lts as lts
-use Rattle.word.proofs.rank.Reads as rank-reads
 
 abbrev Inv-loop : tie.InvT-loop
 Inv-loop table groups lowest roots size numbers₀ k₀ numbers k = Numbering (groupRows (map decode table)) (groups .count) k numbers
@@ -21,27 +18,24 @@ Inv-loop table groups lowest roots size numbers₀ k₀ numbers k = Numbering (g
 abbrev μ-loop : tie.MeasureT-loop
 μ-loop table groups lowest roots size numbers₀ k₀ numbers k = groups .count - k
 
--- what is known in a turn
+-- a turn, and where the loop started
 abbrev Turn : Type 0
-Turn = lts.Then1 (rank-reads.Asked, rank-reads.Learnt) reads.Pre reads.Post Inv-loop μ-loop
+Turn = tie.Then1 Inv-loop μ-loop
+
+abbrev start : Turn → tie.Start Inv-loop μ-loop
+start c = c .before .before .before .before .before .before .before
 
 -- the turn's group is one of the arrays'
 group-inside : (c : Turn) → c .before .before .loop .k < mostNodes
-group-inside c =
-    let start = c .before .before .before .before .before .before .before in
-    omega (arith, groups-few (start .pre .0) (start .pre .1))
+group-inside c = omega (arith, groups-few (start c .pre .0) (start c .pre .1))
 
 -- and its root is a node
 node-inside : (c : Turn)
-    → getD (c .before .before .before .before .before .before .before .args .groups .root) (c .before .before .loop .k) 0
-    < length (now (c .before .before .before .before .before .before .before .args .table))
-node-inside c =
-    let start = c .before .before .before .before .before .before .before in
-    root-inside (start .pre .0) (start .pre .1) (c .before .before .loop .k) (c .if1 .taken)
+    → getD (start c .args .groups .root) (c .before .before .loop .k) 0 < length (now (start c .args .table))
+node-inside c = root-inside (start c .pre .0) (start c .pre .1) (c .before .before .loop .k) (c .if1 .taken)
 
-node-few : (c : Turn)
-    → getD (c .before .before .before .before .before .before .before .args .groups .root) (c .before .before .loop .k) 0 < mostNodes
-node-few c = omega (arith, node-inside c, c .before .before .before .before .before .before .before .pre .0 .few)
+node-few : (c : Turn) → getD (start c .args .groups .root) (c .before .before .loop .k) 0 < mostNodes
+node-few c = omega (arith, node-inside c, start c .pre .0 .few)
 
 loop-holds : tie.Need-loop-holds Inv-loop μ-loop
 loop-holds c =
@@ -51,17 +45,15 @@ loop-holds c =
 cast-numbers-2 : tie.Need-cast-numbers-2 Inv-loop μ-loop
 cast-numbers-2 c =
     let turn = c .before .before in
-    let start = turn .before .before .before .before .before .before .before in
-    omega (arith, rank-small (now (start .args .table)) (start .pre .0) _ (c .rank .result) (node-inside turn) (c .rank .ensures))
+    omega (arith, rank-small (now (start turn .args .table)) (start turn .pre .0) _ (c .rank .result) (node-inside turn) (c .rank .ensures))
 
 loop-again : tie.Need-loop-again Inv-loop μ-loop
 loop-again c =
     let turn = c .before .before in
     let at = turn .before .before in
-    let start = at .before .before .before .before .before in
-    let ranked = rank-read (now (start .args .table)) (start .pre .0) _ (c .rank .result) (node-inside turn) (c .rank .ensures) in
+    let ranked = rank-read (now (start turn .args .table)) (start turn .pre .0) _ (c .rank .result) (node-inside turn) (c .rank .ensures) in
     numbering-next (at .loop .inv) _ _ _ _ (turn .if1 .taken) (group-inside turn)
-    (group-row (start .pre .0) (start .pre .1) (at .loop .k) (turn .if1 .taken) (c .rank .result) ranked)
+    (group-row (start turn .pre .0) (start turn .pre .1) (at .loop .k) (turn .if1 .taken) (c .rank .result) ranked)
 
 returns : tie.Need-returns Inv-loop μ-loop
 returns c = numbering-done (c .before .before .loop .inv) (omega arith)

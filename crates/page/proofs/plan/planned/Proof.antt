@@ -1,8 +1,8 @@
 -- `plan::planned`: one test a line of the refusals.
 use denote.Ref.{now}
 use mathlib.Core.Path.{refl}
-use mathlib.Core.List.{map}
-use Prim.Native.Nat.{_≤_}
+use mathlib.Core.List.{List, map}
+use Prim.Native.Nat.{ℕ, _≤_}
 use native.Mathlib.Omega.{arith}
 use lib.ListN.{length}
 use borrow.Author.Needs.{needs}
@@ -13,76 +13,57 @@ use Rattle.page.proofs.Planning.{plan-admitted, plan-few}
 use Rattle.page.proofs.Planning.{planned-table, planned-short-rows, planned-short-page, planned-written}
 use Rattle.page.proofs.plan.planned.Statement.{statement}
 use Rattle.page.proofs.plan.planned.Tie as tie
-use Rattle.page.proofs.plan.planned.Reads as reads
-use Rattle.page.proofs.plan.planned.Lts as lts
-use Rattle.page.proofs.groups.gathered.Reads as gathered-reads
-use Rattle.page.proofs.groups.numbered.Reads as numbered-reads
-use Rattle.page.proofs.lines.page_length.Reads as page-length-reads
-use Rattle.page.proofs.plan.refused.Reads as refused-reads
-use Rattle.table.proofs.admission.table_refusal.Reads as table-refusal-reads
 
--- what is claimed of the functions that it calls: their contracts
-abbrev claims : lts.Claims
-claims = (
-  table-refusal-reads.Asked,
-  table-refusal-reads.Learnt,
-  refused-reads.Asked,
-  refused-reads.Learnt,
-  gathered-reads.Asked,
-  gathered-reads.Learnt,
-  page-length-reads.Asked,
-  page-length-reads.Learnt,
-  numbered-reads.Asked,
-  numbered-reads.Learnt,
-)
+-- the places that the answers read: the table is checked, its groups are gathered, its page is measured
+abbrev args : tie.After-table-refusal → tie.Start
+args c = c .before .before
 
--- where the table has passed its check
-admitted-here : (c : lts.Else1 claims reads.Pre reads.Post)
-    → Admitted (length (now (c .before .before .before .args .table))) (map decode (now (c .before .before .before .args .table)))
-admitted-here c =
-    let checked = c .before in
-    plan-admitted (now (checked .before .before .args .table)) _ (checked .table-refusal .ensures) (c .if1 .left)
+abbrev checked : tie.After-gathered → tie.After-table-refusal
+checked c = c .before .before
 
--- where the groups are gathered
-few-here : (c : lts.After-gathered claims reads.Pre reads.Post) → c .gathered .result .count ≤ mostNodes
-few-here c =
-    let checked = c .before .before in
-    plan-few (now (checked .before .before .args .table)) _ (checked .table-refusal .ensures) (c .before .if1 .left) (c .gathered .ensures)
+abbrev gathered : tie.After-page-length → tie.After-gathered
+gathered c = c .before .before
+
+abbrev words : tie.After-table-refusal → List ℕ
+words c = now (args c .args .table)
+
+-- the table has passed its check
+admitted-here : (c : tie.Else1) → Admitted (length (words (c .before))) (map decode (words (c .before)))
+admitted-here c = plan-admitted (words (c .before)) _ (c .before .table-refusal .ensures) (c .if1 .left)
+
+few-here : (c : tie.After-gathered) → c .gathered .result .count ≤ mostNodes
+few-here c = plan-few (words (checked c)) _ (checked c .table-refusal .ensures) (c .before .if1 .left) (c .gathered .ensures)
 
 returns : tie.Need-returns
 returns c =
-    let checked = c .before .before in
-    let args = checked .before .before .args in
-    planned-table (now (args .table)) (args .rows) (args .page) _ (c .before .if1 .taken) (checked .table-refusal .ensures)
+    let table = c .before .before in
+    planned-table (words table) (args table .args .rows) (args table .args .page) _ (c .before .if1 .taken) (table .table-refusal .ensures)
     (c .refused .ensures)
 
 returns-2 : tie.Need-returns-2
 returns-2 c =
-    let gathered = c .before .before in
-    let checked = gathered .before .before in
-    let args = checked .before .before .args in
-    planned-short-rows (now (args .table)) _ (checked .table-refusal .ensures) (gathered .before .if1 .left) (gathered .gathered .ensures)
-    (args .rows) (args .page) (c .before .if2 .taken) (c .refused2 .ensures)
+    let groups = c .before .before in
+    let table = checked groups in
+    planned-short-rows (words table) _ (table .table-refusal .ensures) (groups .before .if1 .left) (groups .gathered .ensures)
+    (args table .args .rows) (args table .args .page) (c .before .if2 .taken) (c .refused2 .ensures)
 
 returns-3 : tie.Need-returns-3
 returns-3 c =
     let measured = c .before .before in
-    let gathered = measured .before .before in
-    let checked = gathered .before .before in
-    let args = checked .before .before .args in
-    planned-short-page (now (args .table)) _ (checked .table-refusal .ensures) (gathered .before .if1 .left) (gathered .gathered .ensures)
-    (args .rows) (args .page) (measured .before .if2 .left) _ (measured .page-length .ensures) (c .before .if3 .taken)
-    (c .refused3 .ensures)
+    let groups = gathered measured in
+    let table = checked groups in
+    planned-short-page (words table) _ (table .table-refusal .ensures) (groups .before .if1 .left) (groups .gathered .ensures)
+    (args table .args .rows) (args table .args .page) (measured .before .if2 .left) _ (measured .page-length .ensures)
+    (c .before .if3 .taken) (c .refused3 .ensures)
 
 returns-4 : tie.Need-returns-4
 returns-4 c =
     let measured = c .before .before in
-    let gathered = measured .before .before in
-    let checked = gathered .before .before in
-    let args = checked .before .before .args in
-    planned-written (now (args .table)) _ (checked .table-refusal .ensures) (gathered .before .if1 .left) (gathered .gathered .ensures)
-    (args .rows) (args .page) (measured .before .if2 .left) _ (measured .page-length .ensures) (c .before .if3 .left) refl refl
-    (c .numbered .ensures)
+    let groups = gathered measured in
+    let table = checked groups in
+    planned-written (words table) _ (table .table-refusal .ensures) (groups .before .if1 .left) (groups .gathered .ensures)
+    (args table .args .rows) (args table .args .page) (measured .before .if2 .left) _ (measured .page-length .ensures)
+    (c .before .if3 .left) refl refl (c .numbered .ensures)
 
 pub planned-spec : {M : Type 1} → statement M
 planned-spec =

@@ -15,18 +15,24 @@ Inv-loop file h from requests q₀ q = Sought (requestsIn file) h from q
 abbrev μ-loop : tie.MeasureT-loop
 μ-loop file h from requests q₀ q = requests - q
 
+-- where a request is looked at, and where the loop started
+abbrev looped : tie.After-request-at Inv-loop μ-loop → tie.At-loop Inv-loop μ-loop
+looped c = c .before .before
+
+abbrev start : tie.At-loop Inv-loop μ-loop → tie.Start Inv-loop μ-loop
+start c = c .before .before
+
 loop-holds : tie.Need-loop-holds Inv-loop μ-loop
 loop-holds c = record { within = omega (arith, c .before .pre .1, playing-count (c .before .pre .0)); same = refl }
 
 request-at-requires : tie.Need-request-at-requires Inv-loop μ-loop
-request-at-requires c κs = let p = c .before .before .before .pre .0 in (p .accepted, omega (arith, playing-count p))
+request-at-requires c κs = let p = start (c .before) .pre .0 in (p .accepted, omega (arith, playing-count p))
 
 returns : tie.Need-returns Inv-loop μ-loop
 returns c =
-    let l = c .before .before .before .before .loop in
-    let p = c .before .before .before .before .before .before .pre .0 in
-    sought-here (l .inv) (omega (arith, playing-count p))
-    (ap (λ r. r .head) (sym (c .before .before .request-at .ensures noRequest)) ∙ c .if1 .taken)
+    let read = c .before .before in
+    sought-here (looped read .loop .inv) (omega (arith, playing-count (start (looped read) .pre .0)))
+    (ap (λ r. r .head) (sym (read .request-at .ensures noRequest)) ∙ c .if1 .taken)
 
 add-q : tie.Need-add-q Inv-loop μ-loop
 add-q c = omega arith
@@ -36,14 +42,13 @@ loop-less c = omega arith
 
 loop-again : tie.Need-loop-again Inv-loop μ-loop
 loop-again c =
-    let l = c .before .before .before .before .loop in
-    let p = c .before .before .before .before .before .before .pre .0 in
-    sought-on (l .inv) (omega (arith, playing-count p))
-    (λ e. c .if1 .left (ap (λ r. r .head) (c .before .before .request-at .ensures noRequest) ∙ e))
+    let read = c .before .before in
+    sought-on (looped read .loop .inv) (omega (arith, playing-count (start (looped read) .pre .0)))
+    (λ e. c .if1 .left (ap (λ r. r .head) (read .request-at .ensures noRequest) ∙ e))
 
 returns-2 : tie.Need-returns-2 Inv-loop μ-loop
 returns-2 c =
-    let p = c .before .before .before .pre .0 in playing-count p ∙ sought-none (c .before .loop .inv) (omega (arith, playing-count p))
+    let p = start (c .before) .pre .0 in playing-count p ∙ sought-none (c .before .loop .inv) (omega (arith, playing-count p))
 
 pub next-request-spec : {M : Type 1} → statement M
 next-request-spec =
