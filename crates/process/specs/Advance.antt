@@ -22,13 +22,14 @@ use Rattle.word.specs.declared.Node.{Node}
 use Rattle.word.specs.Word.{same, before}
 use Rattle.process.specs.declared.Step.the-variants.{ReadNode}
 use Rattle.process.specs.declared.Errand.{Errand}
+use Rattle.process.specs.declared.Errand.the-variants.{UnionX, UnionY, SameX, SameY}
 use Rattle.process.specs.declared.Stage.{Stage}
 use Rattle.process.specs.declared.Stage.the-variants.{Resting, Find, RereadX, ReadRankX, ReadRankY, Link, Raise}
 use Rattle.process.specs.declared.Task.{Task}
 use Rattle.process.specs.declared.Head.{Head}
 use Rattle.process.specs.declared.Event.{Event}
 use Rattle.process.specs.declared.Advanced.{Advanced}
-use Rattle.process.specs.Process.{kindOf, servesX, nextErrand, nodeAt, movedTo, restart}
+use Rattle.process.specs.Process.{nodeAt, movedTo, restart}
 use Rattle.process.specs.Find.{Walked, walked}
 use Rattle.process.specs.Find.Walked.{On, Failed, Up, Ended}
 
@@ -75,7 +76,10 @@ compared k kind now =
 
 -- A find ended: find from x, then from y, keeping each root as the new x and y.
 abbrev pub ended : Task → Errand → ℕ → Advanced
-ended k e now = cond (servesX e) (goOn k (Find (nextErrand e) ReadNode)) (compared k (kindOf e) now)
+ended k UnionX now = goOn k (Find UnionY ReadNode)
+ended k UnionY now = compared k Union now
+ended k SameX now = goOn k (Find SameY ReadNode)
+ended k SameY now = compared k SameSet now
 
 -- The find goes on, fails to swap and goes on, moves up and starts over, or ends.
 abbrev pub followed : Task → Errand → ℕ → Walked → Advanced

@@ -10,7 +10,7 @@ use job::Answer;
 use job::Kind;
 use word::Node;
 ghost use mathlib.Core.Path.{_≡_};
-ghost use Rattle.process.specs.Process.{kindOf, servesX, nextErrand, nodeAt, movedTo};
+ghost use Rattle.process.specs.Process.{servesX, nodeAt, movedTo};
 ghost use Rattle.process.specs.Advance.{goOn, retry, together, apart, compared, ended, reread};
 
 // The head at its next stage, with nothing more to record.
@@ -45,18 +45,6 @@ pub fn retry(task: Task, stage: Stage) -> Advanced
     }
 }
 
-// The kind of the request that sends a find.
-fn kind_of(errand: Errand) -> Kind
-    ensures { λ r. ⌜ r ≡ kindOf errand ⌝ }
-{
-    match errand {
-        Errand::UnionX => Kind::Union,
-        Errand::UnionY => Kind::Union,
-        Errand::SameX => Kind::SameSet,
-        Errand::SameY => Kind::SameSet,
-    }
-}
-
 // Whether a find serves the first of its request's nodes.
 fn serves_x(errand: Errand) -> bool
     ensures { λ r. ⌜ r ≡ servesX errand ⌝ }
@@ -66,18 +54,6 @@ fn serves_x(errand: Errand) -> bool
         Errand::UnionY => false,
         Errand::SameX => true,
         Errand::SameY => false,
-    }
-}
-
-// The find that follows.
-fn next_errand(errand: Errand) -> Errand
-    ensures { λ r. ⌜ r ≡ nextErrand errand ⌝ }
-{
-    match errand {
-        Errand::UnionX => Errand::UnionY,
-        Errand::UnionY => Errand::UnionX,
-        Errand::SameX => Errand::SameY,
-        Errand::SameY => Errand::SameX,
     }
 }
 
@@ -159,10 +135,12 @@ fn compared(task: Task, kind: Kind, now: u32) -> Advanced
 pub fn ended(task: Task, errand: Errand, now: u32) -> Advanced
     ensures { λ r. ⌜ r ≡ ended task errand now ⌝ }
 {
-    if serves_x(errand) {
-        return go_on(task, Stage::Find(next_errand(errand), Step::ReadNode));
+    match errand {
+        Errand::UnionX => go_on(task, Stage::Find(Errand::UnionY, Step::ReadNode)),
+        Errand::UnionY => compared(task, Kind::Union, now),
+        Errand::SameX => go_on(task, Stage::Find(Errand::SameY, Step::ReadNode)),
+        Errand::SameY => compared(task, Kind::SameSet, now),
     }
-    compared(task, kind_of(errand), now)
 }
 
 // x was read again: still a root, the answer is no, at the point where the find from y ended; else the same-set tries again.

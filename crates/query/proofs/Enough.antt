@@ -38,10 +38,10 @@ use Rattle.process.specs.declared.Stage.the-variants.{Resting, Find, RereadX, R
 use Rattle.process.specs.declared.Task.{Task}
 use Rattle.process.specs.declared.Head.{Head}
 use Rattle.process.specs.declared.Advanced.{Advanced}
-use Rattle.process.specs.Process.{traitsOf, kindOf, servesX, nextErrand, nodeAt, restart, begin}
+use Rattle.process.specs.Process.{traitsOf, kindOf, servesX, nodeAt, restart, begin}
 use Rattle.process.specs.Find.{findAccess, walked}
 use Rattle.process.specs.Access.{accessAt, accessOf}
-use Rattle.process.specs.Advance.{goOn, compared, followed, reread, advanceAt, advanceOf}
+use Rattle.process.specs.Advance.{compared, ended, followed, reread, advanceAt, advanceOf}
 use Rattle.rules.specs.Report.{isFinal}
 use Rattle.rules.specs.Table.{noNode, at, parent, rank, seen, touched}
 use Rattle.rules.proofs.History.{final-number}
@@ -50,13 +50,6 @@ use Rattle.rules.proofs.Stages.{Knows}
 use Rattle.table.specs.Admitted.{Admitted}
 use Rattle.query.specs.Query.{granted, steps, sameSet}
 use Rattle.query.proofs.Steps.{momentHere, Serving, no-union, serving-goes-on, serving-ranks}
-
--- the find from y follows the find from x
-next-serves : (e : Errand) → servesX e ≡ true → servesX (nextErrand e) ≡ false
-next-serves UnionX first = refl
-next-serves UnionY first = absurd (true≢false (sym first))
-next-serves SameX first = refl
-next-serves SameY first = absurd (true≢false (sym first))
 
 -- ---- how many nodes come after a node
 
@@ -161,27 +154,21 @@ module _ {n : ℕ} {t : List Node} (r : ℕ → ℕ) (admitted : Admitted n t) (
 
   -- ---- the end of a find
 
-  two-roots : (kind : Kind) → SameSet ≡ kind → parent t (k .x) ≡ k .x → 1 ≤ m → eqb (k .x) (k .y) ≡ false
-      → Goes t (compared k kind (suc used))
-  two-roots Union kind root l e = no-union kind
-  two-roots SameSet kind root l e = rw e (λ f. record { fixed = root; enough = l })
+  two-roots : parent t (k .x) ≡ k .x → 1 ≤ m → eqb (k .x) (k .y) ≡ false → Goes t (compared k SameSet (suc used))
+  two-roots root l e = rw e (λ f. record { fixed = root; enough = l })
 
-  one-root : (kind : Kind) → SameSet ≡ kind → eqb (k .x) (k .y) ≡ true → Goes t (compared k kind (suc used))
-  one-root Union kind e = no-union kind
-  one-root SameSet kind e = rw e (λ f. absurd (true≢false f))
+  one-root : eqb (k .x) (k .y) ≡ true → Goes t (compared k SameSet (suc used))
+  one-root e = rw e (λ f. absurd (true≢false f))
 
+  find-ended : (e : Errand) → SameSet ≡ kindOf e → parent t (nodeAt k e) ≡ nodeAt k e
+      → Needs (Fixed (parent t) (k .x) (servesX e)) (tailNeed n r (k .y) (servesX e)) m → Goes t (ended k e (suc used))
+  find-ended UnionX kind root needs = no-union kind
+  find-ended UnionY kind root needs = no-union kind
   -- the find from y, with x a root
-  from-y : (e : Errand) → servesX e ≡ false → parent t (k .x) ≡ k .x → findNeed n (parent t) r (k .y) + 1 ≤ m
-      → Enough n (parent t) r k (Find e ReadNode) m
-  from-y e second root l = rw second (record { fixed = root; enough = l })
-
-  find-ended : (e : Errand) (x : Bool) → servesX e ≡ x → SameSet ≡ kindOf e → parent t (cond x (k .x) (k .y)) ≡ cond x (k .x) (k .y)
-      → Needs (Fixed (parent t) (k .x) x) (tailNeed n r (k .y) x) m
-      → Goes t (cond x (goOn k (Find (nextErrand e) ReadNode)) (compared k (kindOf e) (suc used)))
-  find-ended e true first kind root needs =
-      λ f. from-y (nextErrand e) (next-serves e first) root (omega (arith, find-most n (parent t) r (k .y), needs .enough))
-  find-ended e false second kind root needs =
-      split (eqb (k .x) (k .y)) (λ one. one-root (kindOf e) kind one) (λ two. two-roots (kindOf e) kind (needs .fixed) (needs .enough) two)
+  find-ended SameX kind root needs =
+      λ f. record { fixed = root; enough = omega (arith, find-most n (parent t) r (k .y), needs .enough) }
+  find-ended SameY kind root needs =
+      split (eqb (k .x) (k .y)) one-root (λ two. two-roots (needs .fixed) (needs .enough) two)
 
   -- ---- the four grants of a move
 
@@ -192,7 +179,7 @@ module _ {n : ℕ} {t : List Node} (r : ℕ → ℕ) (admitted : Admitted n t) (
       (λ root.
       let need : findNeed n (parent t) r (nodeAt k e) ≡ 1 = rw root refl in
       rw root
-      (find-ended e (servesX e) refl kind (eqb-true (parent t (nodeAt k e)) (nodeAt k e) root)
+      (find-ended e kind (eqb-true (parent t (nodeAt k e)) (nodeAt k e) root)
       (record { fixed = needs .fixed; enough = omega (arith, need, needs .enough) })))
       (λ none.
       let need : findNeed n (parent t) r (nodeAt k e) ≡ 2 * higher n r (nodeAt k e) + 3 = rw none refl in

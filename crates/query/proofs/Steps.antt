@@ -10,7 +10,7 @@
 -- Main laws: serving-step, what holds of an enquiry holds after one step more; serving-start, it holds at the start.
 use mathlib.Core.Path.{_≡_, refl, sym, ap, _∙_, subst}
 use mathlib.Core.Logic.{_≢_}
-use mathlib.Core.Bool.{Bool, true, false, cond, true≢false}
+use mathlib.Core.Bool.{true, false, true≢false}
 use mathlib.Core.List.{List}
 use Prim.Native.Nat.{ℕ, suc, _<_}
 use native.Mathlib.Omega.{arith}
@@ -26,23 +26,23 @@ use Rattle.word.specs.declared.Node.{Node}
 use Rattle.process.specs.declared.Step.{Step}
 use Rattle.process.specs.declared.Step.the-variants.{ReadNode}
 use Rattle.process.specs.declared.Errand.{Errand}
+use Rattle.process.specs.declared.Errand.the-variants.{UnionX, UnionY, SameX, SameY}
 use Rattle.process.specs.declared.Stage.{Stage}
 use Rattle.process.specs.declared.Stage.the-variants.{Resting, Find, RereadX, ReadRankX, ReadRankY, Link, Raise}
 use Rattle.process.specs.declared.Task.{Task}
 use Rattle.process.specs.declared.Head.{Head}
 use Rattle.process.specs.declared.Advanced.{Advanced}
-use Rattle.process.specs.Process.{traitsOf, isResting, kindOf, servesX, nextErrand, nodeAt, movedTo, restart, begin}
+use Rattle.process.specs.Process.{traitsOf, isResting, kindOf, nodeAt, movedTo, restart, begin}
 use Rattle.process.specs.Find.{findAccess, Walked, walked}
 use Rattle.process.specs.Find.Walked.{On, Failed, Up, Ended}
 use Rattle.process.specs.Access.{accessAt, accessOf}
-use Rattle.process.specs.Advance.{goOn, compared, followed, reread, advanceAt, advanceOf}
+use Rattle.process.specs.Advance.{compared, ended, followed, reread, advanceAt, advanceOf}
 use Rattle.forest.proofs.Forest.{Labelled}
 use Rattle.rules.specs.Report.{isFinal}
 use Rattle.rules.specs.Table.{at, parent, rank, seen, touched}
 use Rattle.rules.proofs.Finds.{Walks, find-walks, find-halved}
 use Rattle.rules.proofs.Stages.{Moment, Inside, Finding, Searching, Rereading, Knows, find-node, finding-begin, restart-knows}
 use Rattle.rules.proofs.Steps.{ends-one, ends-two, finding-moved}
-use Rattle.rules.proofs.FindSteps.{next-kind}
 use Rattle.table.specs.Admitted.{Admitted}
 use Rattle.table.specs.Touch.{Within}
 use Rattle.table.proofs.Admitted.{admitted-formed}
@@ -105,10 +105,9 @@ module _ {n : ℕ} (B : ℕ → ℕ) {a b : ℕ} (inside : Inside n (sameSet a b
     -- ---- the end of a find
 
     -- at two nodes: if x is a root, their sets are two
-    two-nodes : (kind : Kind) → Finding n B (sameSet a b) kind (k .x) (k .y) → parent t′ (k .y) ≡ k .y → eqb (k .x) (k .y) ≡ false
-        → Next t′ (compared k kind (suc used))
-    two-nodes Union f root e = no-union (f .kind)
-    two-nodes SameSet f root e =
+    two-nodes : Finding n B (sameSet a b) SameSet (k .x) (k .y) → parent t′ (k .y) ≡ k .y → eqb (k .x) (k .y) ≡ false
+        → Next t′ (compared k SameSet (suc used))
+    two-nodes f root e =
         rw e
         (goes-on k (RereadX (suc used)) refl
         (record {
@@ -119,26 +118,23 @@ module _ {n : ℕ} (B : ℕ → ℕ) {a b : ℕ} (inside : Inside n (sameSet a b
               (λ s. eqb-false (k .x) (k .y) e (after .labelled .apart (k .x) (k .y) (f .left) (f .right) r root s));
         }))
 
-    one-node : (kind : Kind) → Finding n B (sameSet a b) kind (k .x) (k .y) → eqb (k .x) (k .y) ≡ true
-        → Next t′ (compared k kind (suc used))
-    one-node Union f e = no-union (f .kind)
-    one-node SameSet f e = rw e (answers Yes refl (ends-one (f .ends) (eqb-true (k .x) (k .y) e)))
+    one-node : Finding n B (sameSet a b) SameSet (k .x) (k .y) → eqb (k .x) (k .y) ≡ true → Next t′ (compared k SameSet (suc used))
+    one-node f e = rw e (answers Yes refl (ends-one (f .ends) (eqb-true (k .x) (k .y) e)))
+
+    find-ended : (e : Errand) → Finding n B (sameSet a b) (kindOf e) (k .x) (k .y) → parent t′ (nodeAt k e) ≡ nodeAt k e
+        → Next t′ (ended k e (suc used))
+    find-ended UnionX f root = no-union (f .kind)
+    find-ended UnionY f root = no-union (f .kind)
+    find-ended SameX f root = goes-on k (Find SameY ReadNode) refl (record { finding = f; find = tt })
+    find-ended SameY f root = split (eqb (k .x) (k .y)) (λ one. one-node f one) (λ two. two-nodes f root two)
 
     module _ (e : Errand) (f : Finding n B (sameSet a b) (kindOf e) (k .x) (k .y)) where
-      find-ended : (x : Bool) → parent t′ (cond x (k .x) (k .y)) ≡ cond x (k .x) (k .y)
-          → Next t′ (cond x (goOn k (Find (nextErrand e) ReadNode)) (compared k (kindOf e) (suc used)))
-      find-ended true root =
-          goes-on k (Find (nextErrand e) ReadNode) refl
-          (record { finding = subst (λ kind. Finding n B (sameSet a b) kind (k .x) (k .y)) (sym (next-kind e)) f; find = tt })
-      find-ended false root =
-          split (eqb (k .x) (k .y)) (λ one. one-node (kindOf e) f one) (λ two. two-nodes (kindOf e) f root two)
-
       -- where the find goes
       follows : (w : Walked) → Walks n t′ B (nodeAt k e) w → Next t′ (followed k e (suc used) w)
       follows (On next) knows = goes-on k (Find e next) refl (record { finding = f; find = knows })
       follows (Failed next) knows = goes-on k (Find e next) refl (record { finding = f; find = knows })
       follows (Up v) moved = goes-on (movedTo k e v) (Find e ReadNode) refl (record { finding = finding-moved k e v f moved; find = tt })
-      follows Ended root = find-ended (servesX e) root
+      follows Ended root = find-ended e f root
 
   -- ---- one grant
 

@@ -13,6 +13,8 @@ use native.Mathlib.Omega.{arith}
 use lib.Dec.{eqb}
 use borrow.Author.Tests.{eq-eqb, ne-eqb}
 use Rattle.basics.proofs.Conditions.{split, cond-both}
+use Rattle.job.specs.declared.Kind.{Kind}
+use Rattle.job.specs.declared.Kind.the-variants.{Union, SameSet}
 use Rattle.job.specs.declared.Request.{Request}
 use Rattle.word.specs.declared.Node.{Node}
 use Rattle.word.specs.Word.{same, before}
@@ -22,13 +24,14 @@ use Rattle.process.specs.declared.Event.{Event}
 use Rattle.process.specs.declared.Step.{Step}
 use Rattle.process.specs.declared.Step.the-variants.{ReadNode, ReadParent, Halve, ReadAgain}
 use Rattle.process.specs.declared.Errand.{Errand}
+use Rattle.process.specs.declared.Errand.the-variants.{UnionX, UnionY, SameX, SameY}
 use Rattle.process.specs.declared.Stage.{Stage}
 use Rattle.process.specs.declared.Stage.the-variants.{Resting, Find, RereadX, ReadRankX, ReadRankY, Link, Raise}
 use Rattle.process.specs.declared.Task.{Task}
 use Rattle.process.specs.declared.Advanced.{Advanced}
-use Rattle.process.specs.Process.{servesX, nodeAt}
+use Rattle.process.specs.Process.{nodeAt}
 use Rattle.process.specs.Access.{accessAt}
-use Rattle.process.specs.Advance.{ended, advanceAt}
+use Rattle.process.specs.Advance.{compared, ended, advanceAt}
 use Rattle.rules.specs.Table.{at, parent, rank, seen}
 use Rattle.rules.specs.Action.{Agrees}
 use Rattle.rules.proofs.Table.{found-parent, found-rank}
@@ -43,10 +46,15 @@ Tells access seen event = Agrees (record { access = access; seen = seen; event =
 abbrev Quiet : Node → ℕ → Advanced → Type 0
 Quiet w i a = Tells (Load i) w (a .event)
 
+compared-quiet : (k : Task) (kind : Kind) (now : ℕ) (w : Node) (i : ℕ) → Quiet w i (compared k kind now)
+compared-quiet k kind now w i =
+    cond-both (Quiet w i) (eqb (k .x) (k .y)) (record { failed = refl; linked = refl }) (record { failed = refl; linked = refl })
+
 ended-quiet : (k : Task) (e : Errand) (now : ℕ) (w : Node) (i : ℕ) → Quiet w i (ended k e now)
-ended-quiet k e now w i =
-    cond-both (Quiet w i) (servesX e) (record { failed = refl; linked = refl })
-    (cond-both (Quiet w i) (eqb (k .x) (k .y)) (record { failed = refl; linked = refl }) (record { failed = refl; linked = refl }))
+ended-quiet k UnionX now w i = record { failed = refl; linked = refl }
+ended-quiet k UnionY now w i = compared-quiet k Union now w i
+ended-quiet k SameX now w i = record { failed = refl; linked = refl }
+ended-quiet k SameY now w i = compared-quiet k SameSet now w i
 
 module _ {n : ℕ} (m : Moment n) (k : Task) where
   abbrev t : List Node

@@ -6,7 +6,7 @@
 -- Laws: find-step, whatever the errand and the step; reread-x.
 use mathlib.Core.Path.{_≡_, refl, sym, ap, subst}
 use mathlib.Core.Logic.{_≢_}
-use mathlib.Core.Bool.{Bool, true, false, cond}
+use mathlib.Core.Bool.{true, false}
 use mathlib.Core.List.{List}
 use Prim.Native.Nat.{ℕ, suc}
 use native.Mathlib.Omega.{arith}
@@ -27,9 +27,9 @@ use Rattle.process.specs.declared.Stage.{Stage}
 use Rattle.process.specs.declared.Stage.the-variants.{Find, RereadX, ReadRankX}
 use Rattle.process.specs.declared.Task.{Task}
 use Rattle.process.specs.declared.Advanced.{Advanced}
-use Rattle.process.specs.Process.{kindOf, servesX, nextErrand, nodeAt, movedTo, restart}
+use Rattle.process.specs.Process.{kindOf, nodeAt, movedTo, restart}
 use Rattle.process.specs.Find.{findAccess, walked}
-use Rattle.process.specs.Advance.{goOn, together, compared, ended, followed, reread}
+use Rattle.process.specs.Advance.{together, compared, ended, followed, reread}
 use Rattle.rules.specs.Table.{at, parent, rank, seen, touched}
 use Rattle.rules.proofs.Finds.{Walks, find-walks, find-halved}
 use Rattle.rules.proofs.Stages.{Moment, Apart, Finding, Searching, Rereading, find-node, restart-knows}
@@ -37,13 +37,6 @@ use Rattle.rules.proofs.Outcomes.{Unlinked, Outcome, Present, unchanged
 use Rattle.rules.proofs.Outcomes.Outcome.{going, closing, denying}
 use Rattle.rules.proofs.Writes.{find-unlinked}
 use Rattle.rules.proofs.Steps.{ends-one, ends-two, finding-moved}
-
--- the find after the first is of the same request
-pub next-kind : (e : Errand) → kindOf (nextErrand e) ≡ kindOf e
-next-kind UnionX = refl
-next-kind UnionY = refl
-next-kind SameX = refl
-next-kind SameY = refl
 
 module _ {n : ℕ} {m : Moment n} {q : Request} (present : Present m q) (k : Task) where
   abbrev t : List Node
@@ -107,20 +100,21 @@ module _ {n : ℕ} {m : Moment n} {q : Request} (present : Present m q) (k : Tas
           };
         }))
 
+    both-ended : (kind : Kind) → Here kind → parent t′ (k .y) ≡ k .y → Gives t′ (Find e s) (compared k kind (suc (m .now)))
+    both-ended kind f root = split (eqb (k .x) (k .y)) (λ one. one-root kind f one) (λ two. two-roots kind f root two)
+
+  module _ (s : Step) {t′ : List Node} (table : Unlinked m t′) where
     -- ---- one of them has
 
-    find-ended : Here (kindOf e) → parent t′ (nodeAt k e) ≡ nodeAt k e → Gives t′ (Find e s) (ended k e (suc (m .now)))
-    find-ended f root = go (servesX e) root
-      where
-        go : (b : Bool) → parent t′ (cond b (k .x) (k .y)) ≡ cond b (k .x) (k .y)
-            → Gives t′ (Find e s)
-            (cond b (goOn k (Find (nextErrand e) ReadNode)) (compared k (kindOf e) (suc (m .now))))
-        go true root =
-            goes-on (Find e s) k (Find (nextErrand e) ReadNode) false false refl refl table
-            (record { finding = subst Here (sym (next-kind e)) f; find = tt })
-        go false root =
-            split (eqb (k .x) (k .y)) (λ one. one-root (kindOf e) f one) (λ two. two-roots (kindOf e) f root two)
+    find-ended : (e : Errand) → Here (kindOf e) → parent t′ (nodeAt k e) ≡ nodeAt k e → Gives t′ (Find e s) (ended k e (suc (m .now)))
+    find-ended UnionX f root =
+        goes-on (Find UnionX s) k (Find UnionY ReadNode) false false refl refl table (record { finding = f; find = tt })
+    find-ended UnionY f root = both-ended UnionY s table Union f root
+    find-ended SameX f root =
+        goes-on (Find SameX s) k (Find SameY ReadNode) false false refl refl table (record { finding = f; find = tt })
+    find-ended SameY f root = both-ended SameY s table SameSet f root
 
+  module _ (e : Errand) (s : Step) {t′ : List Node} (table : Unlinked m t′) where
     -- ---- where the find goes
 
     follows : (w : Walked) → Here (kindOf e) → Walks n t′ (m .labels) (nodeAt k e) w → Gives t′ (Find e s) (followed k e (suc (m .now)) w)
@@ -129,7 +123,7 @@ module _ {n : ℕ} {m : Moment n} {q : Request} (present : Present m q) (k : Tas
     follows (Up v) f a =
         goes-on (Find e s) (movedTo k e v) (Find e ReadNode) false false refl refl table
         (record { finding = finding-moved k e v f a; find = tt })
-    follows Ended f a = find-ended f a
+    follows Ended f a = find-ended s table e f a
 
   pub find-step : (e : Errand) (s : Step) → Searching m q k e s
       → Gives (touched t (findAccess (nodeAt k e) s)) (Find e s)

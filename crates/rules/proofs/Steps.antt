@@ -19,13 +19,14 @@ use Rattle.process.specs.declared.Event.{Event}
 use Rattle.process.specs.Find.{Walked}
 use Rattle.process.specs.Find.Walked.{On, Failed, Up, Ended}
 use Rattle.process.specs.declared.Errand.{Errand}
+use Rattle.process.specs.declared.Errand.the-variants.{UnionX, UnionY, SameX, SameY}
 use Rattle.process.specs.declared.Stage.{Stage}
 use Rattle.process.specs.declared.Stage.the-variants.{Resting, Find, RereadX, ReadRankX, ReadRankY, Link, Raise}
 use Rattle.process.specs.declared.Task.{Task}
 use Rattle.process.specs.declared.Advanced.{Advanced}
 use Rattle.process.specs.Process.{servesX, nodeAt, movedTo}
 use Rattle.process.specs.Find.{walked}
-use Rattle.process.specs.Advance.{followed, linked, advanceAt}
+use Rattle.process.specs.Advance.{ended, followed, linked, advanceAt}
 use Rattle.forest.proofs.Merge.{Ends}
 use Rattle.forest.proofs.Merge.Ends.{straight, crossed}
 use Rattle.rules.proofs.Finds.{Moved}
@@ -37,11 +38,17 @@ module _ (k : Task) where
   abbrev Keeps : Advanced → Type 0
   Keeps a = a .head .task .request ≡ k .request
 
+  ended-keeps : (e : Errand) (now : ℕ) → Keeps (ended k e now)
+  ended-keeps UnionX now = refl
+  ended-keeps UnionY now = cond-both Keeps (eqb (k .x) (k .y)) refl refl
+  ended-keeps SameX now = refl
+  ended-keeps SameY now = cond-both Keeps (eqb (k .x) (k .y)) refl refl
+
   followed-keeps : (e : Errand) (now : ℕ) (w : Walked) → Keeps (followed k e now w)
   followed-keeps e now (On s) = refl
   followed-keeps e now (Failed s) = refl
   followed-keeps e now (Up v) = refl
-  followed-keeps e now Ended = cond-both Keeps (servesX e) refl (cond-both Keeps (eqb (k .x) (k .y)) refl refl)
+  followed-keeps e now Ended = ended-keeps e now
 
   pub advance-keeps : (w : Node) (now : ℕ) (st : Stage) → advanceAt k w now st .head .task .request ≡ k .request
   advance-keeps w now Resting = refl
