@@ -2,22 +2,27 @@
 --
 --   ReadTo k s start none at before count   the records of the kind k from `start` to `at` are read, `count` of them; `none`
 --                                           stands before the first and `before` before the next
---   RunsTo s h start at before count grants   so are the runs, and these are their grants
+--   runsBetween start at                    how many runs there are from the first to a place
+--   RunsTo s h start at before grants       so many of them are read, and these are their grants
 --   X-start, X-next, X-refused, X-end       the invariant holds at first, after a record, and what it gives at each way out
-use mathlib.Core.Path.{_≡_, refl, sym, ap}
+--   run-marked, run-short                   what a whole run has, and why a run that is none is refused
+use mathlib.Core.Path.{_≡_, refl, sym, ap, _∙_}
+use mathlib.Core.Bool.{true, false, true≢false}
 use mathlib.Core.List.{List, [], _∷_, map}
-use Prim.Native.Nat.{ℕ, _+_, _*_, _≤_, _<_}
+use Prim.Native.Nat.{ℕ, _+_, _*_, _-_, _/_, _≤_, _<_}
 use native.Mathlib.Omega.{arith}
 use native.Mathlib.Nat.{add-zero, mul-zero, mul-suc}
 use native.Mathlib.Numerals.{add-one}
+use lib.Dec.{ltb}
 use lib.ListN.{length, getD, drop, length-drop, length-append, length-replicate}
-use borrow.Author.Tests.{ne-eqb}
+use borrow.Author.Tests.{eq-eqb, ne-eqb, eqb-true}
+use Rattle.basics.proofs.Conditions.{split}
 use Rattle.jobfile.specs.declared.Run.{Run}
 use Rattle.jobfile.specs.Format.{requestMark, runMark, jobSize, runSize, mostGrants, word, _then_}
 use Rattle.jobfile.specs.Meaning.{records, sectionRefusal, requestRefusal, requestRecords, runAt, runRefusal, fullRun, granted}
 use Rattle.jobfile.proofs.Records.{records-here, records-end, Layout, places, refusal}
 use Rattle.jobfile.proofs.Layouts.{requestLayout, runLayout}
-use Rattle.reader.specs.Reader.{requestSectionOf, runSectionOf}
+use Rattle.reader.specs.Reader.{requestSectionOf, runSectionOf, isRun}
 
 module _ {A S : Type 0} (k : Layout A S) (s : List ℕ) (start : ℕ) (none : S) where
   pub record ReadTo (at : ℕ) (before : S) (count : ℕ) : Type 0 where
@@ -75,24 +80,45 @@ module _ (nodes heads : ℕ) {s : List ℕ} {at count : ℕ} (h : ReadTo (reques
   unfolding requestSectionOf
   requests-end m = rw (read-passes h m, read-count h m)
 
+-- how many runs there are from the first to a place
+abbrev pub runsBetween : ℕ → ℕ → ℕ
+runsBetween start at = (at - start) / runSize
+
 module _ (s : List ℕ) (heads start : ℕ) where
-  pub record RunsTo (at : ℕ) (before : Run) (count grants : ℕ) : Type 0 where
-    pub to : ReadTo (runLayout heads) s start fullRun at before count
-    pub few : grants ≤ mostGrants * count
+  pub record RunsTo (at : ℕ) (before : Run) (grants : ℕ) : Type 0 where
+    pub to : ReadTo (runLayout heads) s start fullRun at before (runsBetween start at)
+    pub few : grants ≤ mostGrants * runsBetween start at
     pub granting : grants + length (granted (map runAt (records runSize runMark (drop at s))))
         ≡ length (granted (map runAt (records runSize runMark (drop start s))))
 
-  pub runs-start : start ≤ length s → RunsTo start fullRun 0 0
-  runs-start l = record { to = read-start (runLayout heads) s start fullRun l; few = omega arith; granting = omega arith }
+  none-between : runsBetween start start ≡ 0
+  none-between = omega arith
 
-module _ {s : List ℕ} {heads start at : ℕ} {before : Run} {count grants : ℕ} (h : RunsTo s heads start at before count grants) where
+  pub runs-start : start ≤ length s → RunsTo start fullRun 0
+  runs-start l =
+      record { to = rw none-between (read-start (runLayout heads) s start fullRun l); few = omega arith; granting = omega arith }
+
+-- a whole run has a run's mark
+pub run-marked : (t : List ℕ) → isRun t ≡ true → word t ≡ runMark
+run-marked t is = split (ltb (length t) runSize) (λ e. absurd (true≢false (sym (rw e at is)))) (λ e. eqb-true (word t) runMark (rw e at is))
+
+-- and what has its mark but is none, is cut short
+pub run-short : (heads : ℕ) (before : Run) (t : List ℕ) → isRun t ≡ false → word t ≡ runMark → 2 ≡ runRefusal heads before t
+unfolding runRefusal
+run-short heads before t none mark =
+    split (ltb (length t) runSize) (λ e. rw e) (λ e. absurd (true≢false (sym (eq-eqb (word t) runMark mark) ∙ rw e at none)))
+
+module _ {s : List ℕ} {heads start at : ℕ} {before : Run} {grants : ℕ} (h : RunsTo s heads start at before grants) where
+  one-more : runsBetween start (at + runSize) ≡ runsBetween start at + 1
+  one-more = omega (arith, h .to .place)
+
   pub runs-next : (next : Run) → word (drop at s) ≡ runMark → runRefusal heads before (drop at s) ≡ 0 → next ≡ runAt (drop at s)
-      → next .count < 256 → RunsTo s heads start (at + runSize) next (count + 1) (grants + next .count)
+      → next .count < 256 → RunsTo s heads start (at + runSize) next (grants + next .count)
   runs-next next m e r b =
       let n : next .count ≡ getD (drop at s) 3 0 = ap (λ (r : Run). r .count) r in
       record {
-        to = rw r (read-next (h .to) m e);
-        few = omega (arith, h .few);
+        to = rw (r, one-more) (read-next (h .to) m e);
+        few = omega (arith, h .few, one-more);
         granting = omega (arith, rw (record-here (h .to) m, length-append, length-replicate) at (h .granting));
       }
 
@@ -102,7 +128,7 @@ module _ {s : List ℕ} {heads start at : ℕ} {before : Run} {count grants : �
   runs-refused n m e z = rw (read-refused (h .to) m n e z, ne-eqb n 0 z)
 
   pub runs-end : (word (drop at s) ≡ runMark → ⊥)
-      → record { number = 0; count = count; grants = grants } ≡ runSectionOf heads (records runSize runMark (drop start s))
+      → record { number = 0; count = runsBetween start at; grants = grants } ≡ runSectionOf heads (records runSize runMark (drop start s))
   unfolding runSectionOf
   runs-end m =
       let grant : length (granted (map runAt (records runSize runMark (drop start s)))) ≡ grants =

@@ -3,11 +3,13 @@
 --   countsOf m                  the number of a meaning and the counts of its job
 --   requestSectionOf n h ts     the refusal or the count of the requests at the places ts
 --   runSectionOf h ts           the refusal, or the count and the grants, of the runs at the places ts
-use mathlib.Core.Bool.{cond}
+--   isRun t                     a whole run's record stands at the place t
+use mathlib.Core.Bool.{Bool, false, cond}
 use mathlib.Core.List.{List, map}
 use Prim.Native.Nat.{ℕ}
-use lib.Dec.{eqb}
+use lib.Dec.{eqb, ltb}
 use lib.ListN.{length}
+use Rattle.jobfile.specs.Format.{runMark, runSize, word}
 use Rattle.jobfile.specs.Meaning.{Meaning, requestsRefusal, runsRefusal, runAt, fullRun, granted}
 use Rattle.jobfile.specs.Written.{longestRuns}
 use Rattle.reader.specs.declared.Checked.{Checked}
@@ -41,3 +43,7 @@ runSectionOf heads ts =
       count = cond (eqb number 0) (length ts) 0;
       grants = cond (eqb number 0) (length (granted (map runAt ts))) 0;
     }
+
+-- A run's mark, and the whole of its record.
+abbrev pub isRun : List ℕ → Bool
+isRun t = cond (ltb (length t) runSize) false (eqb (word t) runMark)

@@ -4,6 +4,7 @@ use job::MOST_REQUESTS;
 use job::Request;
 use jobfile::Fields;
 use jobfile::REQUEST_SIZE;
+use jobfile::RUN_MARK;
 use jobfile::RUN_SIZE;
 use jobfile::Run;
 use jobfile::bytes::byte_at;
@@ -16,6 +17,7 @@ ghost use lib.ListN.{length, drop};
 ghost use Rattle.job.specs.Job.{kindOf};
 ghost use Rattle.jobfile.specs.Format.{requestSize, mostBytes};
 ghost use Rattle.jobfile.specs.Meaning.{fieldsAt, requestAt, runAt, requestRefusal, runRefusal};
+ghost use Rattle.reader.specs.Reader.{isRun};
 
 // The kind of an admitted number.
 fn kind_of(number: u32) -> Kind
@@ -86,6 +88,17 @@ pub fn run_here(file: &[u8], at: usize) -> Run
         head: head,
         count: count,
     }
+}
+
+// Whether a whole run's record stands at a place: the loop over the runs then needs one test of the length for each.
+pub fn is_run(file: &[u8], at: usize) -> bool
+    requires { ⌜ at ≤ length (now file) ⌝ }
+    ensures { λ r. ⌜ r ≡ isRun (drop at (now (file .entry))) ⌝ }
+{
+    if file.len() - at < RUN_SIZE {
+        return false;
+    }
+    word_at(file, at) == RUN_MARK
 }
 
 // The refusal of the run at a place, behind the run before it: the whole record, the head, the count, the run before.

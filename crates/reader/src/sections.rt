@@ -1,4 +1,5 @@
 // The sections of a file in order: the header, the requests, the runs, the close. A number of 0 is no refusal.
+use crate::records::is_run;
 use crate::records::request_refusal;
 use crate::records::run_here;
 use crate::records::run_refusal;
@@ -86,9 +87,8 @@ pub fn read_runs(file: &[u8], heads: u32, start: usize) -> RunSection
         head: 0,
         count: 255,
     };
-    let mut count: u32 = 0;
     let mut grants: u32 = 0;
-    while word_at(file, at) == RUN_MARK {
+    while is_run(file, at) {
         let number = run_refusal(file, at, heads, before);
         if number != 0 {
             return RunSection {
@@ -99,12 +99,18 @@ pub fn read_runs(file: &[u8], heads: u32, start: usize) -> RunSection
         }
         before = run_here(file, at);
         at += RUN_SIZE;
-        count += 1;
         grants += before.count as u32;
+    }
+    if word_at(file, at) == RUN_MARK {
+        return RunSection {
+            number: 2,
+            count: 0,
+            grants: 0,
+        };
     }
     RunSection {
         number: 0,
-        count: count,
+        count: ((at - start) / RUN_SIZE) as u32,
         grants: grants,
     }
 }
