@@ -1,4 +1,4 @@
--- Document 01, "One grant, one word": where each access leads, with the word that was seen, at grant number `now`.
+-- Document 01, "One grant, one word", and document 02, A2: where each access leads, with the word that was seen, at grant number `now`.
 -- Comparing, choosing and finishing cost nothing, so they are part of the grant before.
 --
 --   quiet, failure      nothing to record beyond one more grant used; nothing but a swap that failed
@@ -8,7 +8,9 @@
 --   compared, ended     both finds have ended; one of them has
 --   followed            what the request makes of its find's step
 --   reread              a same-set's last read
---   rankBoth, linked, link, raise   a union: both ranks are read; the link is written; the link's swap; the rank's swap
+--   rankBoth, afterLink, linked, link, raise   a union: both ranks are read; the head after the link; the link is written; the
+--                       link's swap; the rank's swap
+--   raiseFound          the last swap of a union that has linked
 --   advanceAt k w now t   the head after its access at stage t and what the grant did, one clause a stage
 --   advanceOf h w now   the same at the head's own stage
 use mathlib.Core.Bool.{Bool, true, false, not, cond}
@@ -22,14 +24,14 @@ use Rattle.word.specs.declared.Node.{Node}
 use Rattle.word.specs.Word.{same, before}
 use Rattle.process.specs.declared.Step.the-variants.{ReadNode}
 use Rattle.process.specs.declared.Errand.{Errand}
-use Rattle.process.specs.declared.Errand.the-variants.{UnionX, UnionY, SameX, SameY}
+use Rattle.process.specs.declared.Errand.the-variants.{UnionX, UnionY, SameX, SameY, Tidy}
 use Rattle.process.specs.declared.Stage.{Stage}
-use Rattle.process.specs.declared.Stage.the-variants.{Resting, Find, RereadX, ReadRankX, ReadRankY, Link, Raise}
+use Rattle.process.specs.declared.Stage.the-variants.{Resting, Find, RereadX, ReadRankX, ReadRankY, Link, Raise, ReadRankLinked, RaiseFound}
 use Rattle.process.specs.declared.Task.{Task}
 use Rattle.process.specs.declared.Head.{Head}
 use Rattle.process.specs.declared.Event.{Event}
 use Rattle.process.specs.declared.Advanced.{Advanced}
-use Rattle.process.specs.Process.{nodeAt, movedTo, restart}
+use Rattle.process.specs.Process.{nodeAt, movedTo, restart, tidyUp}
 use Rattle.process.specs.Find.{Walked, walked}
 use Rattle.process.specs.Find.Walked.{On, Failed, Up, Ended}
 
@@ -74,12 +76,14 @@ compared k kind now =
       event = record { failed = false; found = true; linked = false; answer = Unfinished; point = 0 };
     })
 
--- A find ended: find from x, then from y, keeping each root as the new x and y.
+-- A find ended: find from x, then from y, keeping each root as the new x and y. (02, A2) The find after the link ends at some
+-- y, and the linked x's word is read for its rank.
 abbrev pub ended : Task → Errand → ℕ → Advanced
 ended k UnionX now = goOn k (Find UnionY ReadNode)
 ended k UnionY now = compared k Union now
 ended k SameX now = goOn k (Find SameY ReadNode)
 ended k SameY now = compared k SameSet now
+ended k Tidy now = goOn k ReadRankLinked
 
 -- The find goes on, fails to swap and goes on, moves up and starts over, or ends.
 abbrev pub followed : Task → Errand → ℕ → Walked → Advanced
@@ -107,26 +111,39 @@ rankBoth k rx ry =
     (goOn (record { x = k .y; y = k .x; request = k .request; waits = k .waits }) (Link ry (eqb rx ry)))
     (goOn k (Link rx (eqb rx ry)))
 
--- The link is written: the answer is joined, after the rank swap where the ranks read were equal.
+-- The rank swap follows where the ranks read were equal; (02, A2) else the find from the x that was linked.
+abbrev pub afterLink : Task → ℕ → Bool → Head
+afterLink k r e = cond e (record { stage = Raise r; task = k }) (tidyUp k)
+
+-- The link is written: the union has linked, and goes on.
 abbrev pub linked : Task → ℕ → Bool → ℕ → Advanced
 linked k r e now =
-    cond e
-    (record {
-      head = record { stage = Raise r; task = k };
+    record {
+      head = afterLink k r e;
       event = record { failed = false; found = false; linked = true; answer = Unfinished; point = now };
-    })
-    (record {
-      head = record { stage = Resting; task = k };
-      event = record { failed = false; found = false; linked = true; answer = Joined; point = now };
-    })
+    }
 
 -- If the link's swap fails, try again with x and y as they now are.
 abbrev pub link : Task → ℕ → Bool → Node → ℕ → Advanced
 link k r e w now = cond (same w (record { rank = r; parent = k .x })) (linked k r e now) (retry k (restart Union))
 
--- The rank swap is tried once. The answer is joined.
+-- The rank swap is tried once; (02, A2) after it comes the find from the x that was linked.
 abbrev pub raise : Task → ℕ → Node → Advanced
 raise k r w =
+    record {
+      head = tidyUp k;
+      event = record {
+        failed = not (same w (record { rank = r; parent = k .y }));
+        found = false;
+        linked = false;
+        answer = Unfinished;
+        point = 0;
+      };
+    }
+
+-- (02, A2) One swap, written or not, ends the union. The answer is joined.
+abbrev pub raiseFound : Task → ℕ → Node → Advanced
+raiseFound k r w =
     record {
       head = record { stage = Resting; task = k };
       event = record {
@@ -149,6 +166,8 @@ advanceAt k w now ReadRankX = goOn k (ReadRankY (w .rank))
 advanceAt k w now (ReadRankY r) = rankBoth k r (w .rank)
 advanceAt k w now (Link r e) = link k r e w now
 advanceAt k w now (Raise r) = raise k r w
+advanceAt k w now ReadRankLinked = goOn k (RaiseFound (w .rank))
+advanceAt k w now (RaiseFound r) = raiseFound k r w
 
 -- Where the access of a head leads is told by its stage.
 unfoldable pub advanceOf : Head → Node → ℕ → Advanced

@@ -1,14 +1,17 @@
--- Document 01, "One grant, one word": the record of a head, what is asked of its stage, and the start of its request.
+-- Document 01, "One grant, one word", and document 02, A2: the record of a head, what is asked of its stage, and the start of
+-- its request.
 --
 --   Traits, traitsOf t   what is asked of a stage, and the answers of each
 --   Raisable t           the rank to which stage t would raise a root fits its byte
 --   isResting h          the head h serves no request
+--   tidies e             the find is made after the link
 --   kindOf e             the kind of the request that sends a find on errand e
 --   servesX e            the find serves the first of the request's two places
 --   nodeAt k e           the place that the find on errand e has come to
 --   movedTo k e v        the task k with v as that place
 --   firstErrand k        the first find of a request of kind k
 --   restart k            the start of a request of kind k
+--   tidyUp k             the start of the find after the link
 --   noWait               the number of no request, in a task
 --   begin q n            the head as it begins request q, number n
 --   queued h n           the head h with n as its request
@@ -20,9 +23,9 @@ use Rattle.job.specs.declared.Request.{Request}
 use Rattle.word.specs.Word.{rankLimit}
 use Rattle.process.specs.declared.Step.the-variants.{ReadNode}
 use Rattle.process.specs.declared.Errand.{Errand}
-use Rattle.process.specs.declared.Errand.the-variants.{UnionX, UnionY, SameX, SameY}
+use Rattle.process.specs.declared.Errand.the-variants.{UnionX, UnionY, SameX, SameY, Tidy}
 use Rattle.process.specs.declared.Stage.{Stage}
-use Rattle.process.specs.declared.Stage.the-variants.{Resting, Find, RereadX, ReadRankX, ReadRankY, Link, Raise}
+use Rattle.process.specs.declared.Stage.the-variants.{Resting, Find, RereadX, ReadRankX, ReadRankY, Link, Raise, ReadRankLinked, RaiseFound}
 use Rattle.process.specs.declared.Task.{Task}
 use Rattle.process.specs.declared.Head.{Head}
 
@@ -42,15 +45,25 @@ pub record Traits : Type 0 where
 abbrev pub traits : Bool → Bool → ℕ → ℕ → Traits
 traits resting linked pending raised = record { resting = resting; linked = linked; pending = pending; raised = raised }
 
+-- (02, A2) Of the finds that a union makes, one comes after its link.
+abbrev pub tidies : Errand → Bool
+tidies UnionX = false
+tidies UnionY = false
+tidies SameX = false
+tidies SameY = false
+tidies Tidy = true
+
 -- What a head is doing is a choice of cases: resting, or some stage of a request.
 abbrev pub traitsOf : Stage → Traits
 traitsOf Resting = traits true false 0 0
-traitsOf (Find e s) = traits false false 0 0
+traitsOf (Find e s) = traits false (tidies e) 0 0
 traitsOf (RereadX p) = traits false false p 0
 traitsOf ReadRankX = traits false false 0 0
 traitsOf (ReadRankY r) = traits false false 0 0
 traitsOf (Link r e) = traits false false 0 0
 traitsOf (Raise r) = traits false true 0 (r + 1)
+traitsOf ReadRankLinked = traits false true 0 0
+traitsOf (RaiseFound r) = traits false true 0 (r + 1)
 
 -- A rank that is stored is one byte.
 abbrev pub Raisable : Stage → Type 0
@@ -68,13 +81,15 @@ kindOf UnionX = Union
 kindOf UnionY = Union
 kindOf SameX = SameSet
 kindOf SameY = SameSet
+kindOf Tidy = Union
 
--- and serves the first or the second of its two places.
+-- and serves the first or the second of its two places; after the link it stands in the second's stead.
 abbrev pub servesX : Errand → Bool
 servesX UnionX = true
 servesX UnionY = false
 servesX SameX = true
 servesX SameY = false
+servesX Tidy = false
 
 -- The place that the find has come to.
 abbrev pub nodeAt : Task → Errand → ℕ
@@ -95,6 +110,11 @@ firstErrand SameSet = SameX
 -- and with it same-set and union both start, and try again.
 abbrev pub restart : Kind → Stage
 restart k = Find (firstErrand k) ReadNode
+
+-- (02, A2) After its link a union makes a find from the x that it linked: y starts there, and x stays.
+abbrev pub tidyUp : Task → Head
+tidyUp k =
+    record { stage = Find Tidy ReadNode; task = record { x = k .x; y = k .x; request = k .request; waits = k .waits } }
 
 -- A head waits for no request: 0 is none, as for points and grants, so a request waited for would be told one higher.
 abbrev pub noWait : ℕ

@@ -54,6 +54,7 @@ fn serves_x(errand: Errand) -> bool
         Errand::UnionY => false,
         Errand::SameX => true,
         Errand::SameY => false,
+        Errand::Tidy => false,
     }
 }
 
@@ -131,7 +132,7 @@ fn compared(task: Task, kind: Kind, now: u32) -> Advanced
     }
 }
 
-// A find ended with its node: the find from y follows the find from x.
+// A find ended with its node: the find from y follows the find from x, and the read of a rank the find after a link.
 pub fn ended(task: Task, errand: Errand, now: u32) -> Advanced
     ensures { λ r. ⌜ r ≡ ended task errand now ⌝ }
 {
@@ -140,6 +141,7 @@ pub fn ended(task: Task, errand: Errand, now: u32) -> Advanced
         Errand::UnionY => compared(task, Kind::Union, now),
         Errand::SameX => go_on(task, Stage::Find(Errand::SameY, Step::ReadNode)),
         Errand::SameY => compared(task, Kind::SameSet, now),
+        Errand::Tidy => go_on(task, Stage::ReadRankLinked),
     }
 }
 

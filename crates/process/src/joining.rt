@@ -1,4 +1,5 @@
-// The stages of a union after its two finds: both ranks, the link, and the rise of the upper root's rank.
+// The stages of a union after its two finds: both ranks, the link, the rise of the upper root's rank, and the rise of the root
+// that the find after the link has come to (02, A2).
 use crate::Advanced;
 use crate::Errand;
 use crate::Event;
@@ -11,7 +12,8 @@ use crate::finding::retry;
 use job::Answer;
 use word::Node;
 ghost use mathlib.Core.Path.{_≡_};
-ghost use Rattle.process.specs.Advance.{rankBoth, link, linked, raise};
+ghost use Rattle.process.specs.Process.{tidyUp};
+ghost use Rattle.process.specs.Advance.{rankBoth, afterLink, link, linked, raise, raiseFound};
 
 // Both ranks are known: the node that comes first is to be linked below the other.
 pub fn rank_both(task: Task, x_rank: u8, y_rank: u8) -> Advanced
@@ -26,7 +28,7 @@ pub fn rank_both(task: Task, x_rank: u8, y_rank: u8) -> Advanced
     go_on(task, Stage::Link(x_rank, equal))
 }
 
-// The link was tried: failed, the union tries again; written, it has joined, and raises y's rank if the ranks were equal.
+// The link was tried: failed, the union tries again; written, it has linked.
 pub fn link(task: Task, rank: u8, equal: bool, seen: Node, now: u32) -> Advanced
     ensures { λ r. ⌜ r ≡ link task rank equal seen now ⌝ }
 {
@@ -37,51 +39,69 @@ pub fn link(task: Task, rank: u8, equal: bool, seen: Node, now: u32) -> Advanced
     retry(task, Stage::Find(Errand::UnionX, Step::ReadNode))
 }
 
+// A union that has linked x below y makes a find from x: y is where it stands, x stays.
+fn tidy_up(task: Task) -> Head
+    ensures { λ r. ⌜ r ≡ tidyUp task ⌝ }
+{
+    Head {
+        stage: Stage::Find(Errand::Tidy, Step::ReadNode),
+        task: Task { y: task.x, ..task },
+    }
+}
+
+// The head after its link: it raises y's rank if the ranks were equal.
+fn after_link(task: Task, rank: u8, equal: bool) -> Head
+    ensures { λ r. ⌜ r ≡ afterLink task rank equal ⌝ }
+{
+    if equal {
+        return Head {
+            stage: Stage::Raise(rank),
+            task,
+        };
+    }
+    tidy_up(task)
+}
+
 // The link was written at grant now.
 fn linked(task: Task, rank: u8, equal: bool, now: u32) -> Advanced
     ensures { λ r. ⌜ r ≡ linked task rank equal now ⌝ }
 {
-    if equal {
-        return Advanced {
-            head: Head {
-                stage: Stage::Raise(rank),
-                task,
-            },
-            event: Event {
-                failed: false,
-                found: false,
-                linked: true,
-                answer: Answer::Unfinished,
-                point: now,
-            },
-        };
-    }
     Advanced {
-        head: Head {
-            stage: Stage::Resting,
-            task,
-        },
+        head: after_link(task, rank, equal),
         event: Event {
             failed: false,
             found: false,
             linked: true,
-            answer: Answer::Joined,
+            answer: Answer::Unfinished,
             point: now,
         },
     }
 }
 
-// The rank swap was tried once: written or not, the union has joined.
+// The rank swap was tried once: written or not, the union tidies up.
 pub fn raise(task: Task, rank: u8, seen: Node) -> Advanced
     ensures { λ r. ⌜ r ≡ raise task rank seen ⌝ }
 {
-    let wrote = word::is_same(
-        seen,
-        Node {
-            rank,
-            parent: task.y,
+    let y = task.y;
+    let wrote = word::is_same(seen, Node { rank, parent: y });
+    Advanced {
+        head: tidy_up(task),
+        event: Event {
+            failed: !wrote,
+            found: false,
+            linked: false,
+            answer: Answer::Unfinished,
+            point: 0,
         },
-    );
+    }
+}
+
+// The last rank swap was tried once: written or not, the union has joined.
+pub fn raise_found(task: Task, rank: u8, seen: Node) -> Advanced
+    ensures { λ r. ⌜ r ≡ raiseFound task rank seen ⌝ }
+{
+    let y = task.y;
+    let wrote = word::is_same(seen, Node { rank, parent: y });
     Advanced {
         head: Head {
             stage: Stage::Resting,

@@ -18,12 +18,14 @@ pub enum Step {
     ReadAgain(u16),
 }
 
-// What a find is made for: a union or a same-set, and the first or the second of its nodes.
+// What a find is made for: a union or a same-set, and the first or the second of its nodes; or a union that has linked, from
+// the node that it linked (02, A2).
 pub enum Errand {
     UnionX,
     UnionY,
     SameX,
     SameY,
+    Tidy,
 }
 
 // What a head is doing (document 01: a choice of cases inside its record). The cases fill eight bytes.
@@ -35,6 +37,8 @@ pub enum Stage {
     ReadRankY(u8),
     Link(u8, bool),
     Raise(u8),
+    ReadRankLinked,
+    RaiseFound(u8),
 }
 
 // What a head is doing it for: its current x and y, the request that it serves, or its next one while it rests, and the
@@ -116,5 +120,7 @@ pub fn is_resting(head: Head) -> bool
         Stage::ReadRankY(_) => false,
         Stage::Link(_, _) => false,
         Stage::Raise(_) => false,
+        Stage::ReadRankLinked => false,
+        Stage::RaiseFound(_) => false,
     }
 }

@@ -32,9 +32,9 @@ use Rattle.word.specs.Word.{key, same}
 use Rattle.process.specs.declared.Step.{Step}
 use Rattle.process.specs.declared.Step.the-variants.{ReadNode, ReadParent, Halve, ReadAgain}
 use Rattle.process.specs.declared.Errand.{Errand}
-use Rattle.process.specs.declared.Errand.the-variants.{UnionX, UnionY, SameX, SameY}
+use Rattle.process.specs.declared.Errand.the-variants.{UnionX, UnionY, SameX, SameY, Tidy}
 use Rattle.process.specs.declared.Stage.{Stage}
-use Rattle.process.specs.declared.Stage.the-variants.{Resting, Find, RereadX, ReadRankX, ReadRankY, Link, Raise}
+use Rattle.process.specs.declared.Stage.the-variants.{Resting, Find, RereadX, ReadRankX, ReadRankY, Link, Raise, ReadRankLinked, RaiseFound}
 use Rattle.process.specs.declared.Task.{Task}
 use Rattle.process.specs.declared.Head.{Head}
 use Rattle.process.specs.declared.Advanced.{Advanced}
@@ -46,7 +46,7 @@ use Rattle.rules.specs.Report.{isFinal}
 use Rattle.rules.specs.Table.{noNode, at, parent, rank, seen, touched}
 use Rattle.rules.proofs.History.{final-number}
 use Rattle.rules.proofs.Finds.{Above, FindKnows}
-use Rattle.rules.proofs.Stages.{Knows}
+use Rattle.rules.proofs.Stages.{Moment, Searching, Knows}
 use Rattle.table.specs.Admitted.{Admitted}
 use Rattle.query.specs.Query.{granted, steps, sameSet}
 use Rattle.query.proofs.Steps.{momentHere, Serving, no-union, serving-goes-on, serving-ranks}
@@ -126,6 +126,8 @@ Enough n p r k ReadRankX m = Unit {0}
 Enough n p r k (ReadRankY rank) m = Unit {0}
 Enough n p r k (Link rank e) m = Unit {0}
 Enough n p r k (Raise rank) m = Unit {0}
+Enough n p r k ReadRankLinked m = Unit {0}
+Enough n p r k (RaiseFound rank) m = Unit {0}
 
 module _ (n : ℕ) (p r : ℕ → ℕ) where
   find-least : (v : ℕ) → 1 ≤ findNeed n p r v
@@ -167,6 +169,7 @@ module _ {n : ℕ} {t : List Node} (r : ℕ → ℕ) (admitted : Admitted n t) (
   -- the find from y, with x a root
   find-ended SameX kind root needs =
       λ f. record { fixed = root; enough = omega (arith, find-most n (parent t) r (k .y), needs .enough) }
+  find-ended Tidy kind root needs = no-union kind
   find-ended SameY kind root needs =
       split (eqb (k .x) (k .y)) one-root (λ two. two-roots (needs .fixed) (needs .enough) two)
 
@@ -247,16 +250,26 @@ module _ {n : ℕ} {t : List Node} (r : ℕ → ℕ) (admitted : Admitted n t) (
   find-enough B e (ReadAgain u) kind knows needs =
       λ f. moved-enough (servesX e) (parent t u) (2 * higher n r (nodeAt k e)) needs (moved-need (nodeAt k e) u knows)
 
+  -- a find of an enquiry is made for a same-set
+  find-kind : {m : Moment n} {a b : ℕ} (e : Errand) {s : Step} → Searching m (sameSet a b) k e s → SameSet ≡ kindOf e
+  find-kind UnionX knows = knows .pair .kind
+  find-kind UnionY knows = knows .pair .kind
+  find-kind SameX knows = refl
+  find-kind SameY knows = refl
+  find-kind Tidy knows = knows .pair .kind
+
   stage-enough : (B : ℕ → ℕ) (a b : ℕ) (stage : Stage) → traitsOf stage .resting ≡ false
       → Knows (momentHere n t B used) (sameSet a b) k stage → Enough n (parent t) r k stage (suc m)
       → Goes (touched t (accessAt k stage)) (advanceAt k (seen t (accessAt k stage)) (suc used) stage)
   stage-enough B a b Resting busy knows needs = absurd (true≢false busy)
-  stage-enough B a b (Find e s) busy knows needs = find-enough B e s (knows .finding .kind) (knows .find) needs
+  stage-enough B a b (Find e s) busy knows needs = find-enough B e s (find-kind e knows) (knows .find) needs
   stage-enough B a b (RereadX point) busy knows needs = reread-x point needs
   stage-enough B a b ReadRankX busy knows needs = no-union (knows .finding .kind)
   stage-enough B a b (ReadRankY rank) busy knows needs = no-union (knows .finding .kind)
   stage-enough B a b (Link rank e) busy knows needs = no-union (knows .finding .kind)
-  stage-enough B a b (Raise rank) busy knows needs = no-union (knows .kind)
+  stage-enough B a b (Raise rank) busy knows needs = no-union (knows .linked .kind)
+  stage-enough B a b ReadRankLinked busy knows needs = no-union (knows .kind)
+  stage-enough B a b (RaiseFound rank) busy knows needs = no-union (knows .linked .kind)
 
 -- ---- the whole enquiry
 
@@ -275,7 +288,9 @@ enough-positive n t r B a b used k (RereadX point) busy knows needs = absurd (om
 enough-positive n t r B a b used k ReadRankX busy knows needs = no-union (knows .finding .kind)
 enough-positive n t r B a b used k (ReadRankY rank) busy knows needs = no-union (knows .finding .kind)
 enough-positive n t r B a b used k (Link rank e) busy knows needs = no-union (knows .finding .kind)
-enough-positive n t r B a b used k (Raise rank) busy knows needs = no-union (knows .kind)
+enough-positive n t r B a b used k (Raise rank) busy knows needs = no-union (knows .linked .kind)
+enough-positive n t r B a b used k ReadRankLinked busy knows needs = no-union (knows .kind)
+enough-positive n t r B a b used k (RaiseFound rank) busy knows needs = no-union (knows .linked .kind)
 
 module _ {n : ℕ} {B : ℕ → ℕ} {a b : ℕ} (r : ℕ → ℕ) where
   step-enough : {t : List Node} (used : ℕ) (h : Head) (m : ℕ) → Serving n B a b t used h Unfinished → ((i : ℕ) → rank t i ≡ r i)

@@ -10,7 +10,7 @@
 -- Main laws: serving-step, what holds of an enquiry holds after one step more; serving-start, it holds at the start.
 use mathlib.Core.Path.{_≡_, refl, sym, ap, _∙_, subst}
 use mathlib.Core.Logic.{_≢_}
-use mathlib.Core.Bool.{true, false, true≢false}
+use mathlib.Core.Bool.{Bool, true, false, true≢false}
 use mathlib.Core.List.{List}
 use Prim.Native.Nat.{ℕ, suc, _<_}
 use native.Mathlib.Omega.{arith}
@@ -26,13 +26,13 @@ use Rattle.word.specs.declared.Node.{Node}
 use Rattle.process.specs.declared.Step.{Step}
 use Rattle.process.specs.declared.Step.the-variants.{ReadNode}
 use Rattle.process.specs.declared.Errand.{Errand}
-use Rattle.process.specs.declared.Errand.the-variants.{UnionX, UnionY, SameX, SameY}
+use Rattle.process.specs.declared.Errand.the-variants.{UnionX, UnionY, SameX, SameY, Tidy}
 use Rattle.process.specs.declared.Stage.{Stage}
-use Rattle.process.specs.declared.Stage.the-variants.{Resting, Find, RereadX, ReadRankX, ReadRankY, Link, Raise}
+use Rattle.process.specs.declared.Stage.the-variants.{Resting, Find, RereadX, ReadRankX, ReadRankY, Link, Raise, ReadRankLinked, RaiseFound}
 use Rattle.process.specs.declared.Task.{Task}
 use Rattle.process.specs.declared.Head.{Head}
 use Rattle.process.specs.declared.Advanced.{Advanced}
-use Rattle.process.specs.Process.{traitsOf, isResting, kindOf, nodeAt, movedTo, restart, begin}
+use Rattle.process.specs.Process.{traitsOf, isResting, tidies, kindOf, nodeAt, movedTo, restart, begin}
 use Rattle.process.specs.Find.{findAccess, Walked, walked}
 use Rattle.process.specs.Find.Walked.{On, Failed, Up, Ended}
 use Rattle.process.specs.Access.{accessAt, accessOf}
@@ -41,8 +41,8 @@ use Rattle.forest.proofs.Forest.{Labelled}
 use Rattle.rules.specs.Report.{isFinal}
 use Rattle.rules.specs.Table.{at, parent, rank, seen, touched}
 use Rattle.rules.proofs.Finds.{Walks, find-walks, find-halved}
-use Rattle.rules.proofs.Stages.{Moment, Inside, Finding, Searching, Rereading, Knows, find-node, finding-begin, restart-knows}
-use Rattle.rules.proofs.Steps.{ends-one, ends-two, finding-moved}
+use Rattle.rules.proofs.Stages.{Moment, Inside, Finding, Pair, Searching, Rereading, Knows, find-node, finding-begin, restart-knows}
+use Rattle.rules.proofs.Steps.{ends-one, ends-two, searching-moved}
 use Rattle.table.specs.Admitted.{Admitted}
 use Rattle.table.specs.Touch.{Within}
 use Rattle.table.proofs.Admitted.{admitted-formed}
@@ -88,6 +88,12 @@ module _ {n : ℕ} (B : ℕ → ℕ) {a b : ℕ} (inside : Inside n (sameSet a b
   abbrev Next : List Node → Advanced → Type 0
   Next t′ next = Serving n B a b t′ (suc used) (next .head) (next .event .answer)
 
+  -- what a same-set knows of x and y is no matter of the table, since it links nothing
+  same-pair : (t t′ : List Node) (e : Errand) (tidy : Bool) → Pair n t B (sameSet a b) (kindOf e) (k .x) (k .y) tidy
+      → Pair n t′ B (sameSet a b) (kindOf e) (k .x) (k .y) tidy
+  same-pair t t′ e false f = f
+  same-pair t t′ e true f = no-union (f .kind)
+
   module _ {t t′ : List Node} (after : Kept n t t′ B) where
     -- the enquiry goes on
     goes-on : (k′ : Task) (next : Stage) → traitsOf next .resting ≡ false
@@ -121,27 +127,29 @@ module _ {n : ℕ} (B : ℕ → ℕ) {a b : ℕ} (inside : Inside n (sameSet a b
     one-node : Finding n B (sameSet a b) SameSet (k .x) (k .y) → eqb (k .x) (k .y) ≡ true → Next t′ (compared k SameSet (suc used))
     one-node f e = rw e (answers Yes refl (ends-one (f .ends) (eqb-true (k .x) (k .y) e)))
 
-    find-ended : (e : Errand) → Finding n B (sameSet a b) (kindOf e) (k .x) (k .y) → parent t′ (nodeAt k e) ≡ nodeAt k e
-        → Next t′ (ended k e (suc used))
-    find-ended UnionX f root = no-union (f .kind)
-    find-ended UnionY f root = no-union (f .kind)
-    find-ended SameX f root = goes-on k (Find SameY ReadNode) refl (record { finding = f; find = tt })
-    find-ended SameY f root = split (eqb (k .x) (k .y)) (λ one. one-node f one) (λ two. two-nodes f root two)
+    find-ended : (e : Errand) → Searching (momentHere n t′ B (suc used)) (sameSet a b) k e ReadNode
+        → parent t′ (nodeAt k e) ≡ nodeAt k e → Next t′ (ended k e (suc used))
+    find-ended UnionX knows root = no-union (knows .pair .kind)
+    find-ended UnionY knows root = no-union (knows .pair .kind)
+    find-ended SameX knows root = goes-on k (Find SameY ReadNode) refl (record { pair = knows .pair; find = tt })
+    find-ended SameY knows root =
+        split (eqb (k .x) (k .y)) (λ one. one-node (knows .pair) one) (λ two. two-nodes (knows .pair) root two)
+    find-ended Tidy knows root = no-union (knows .pair .kind)
 
-    module _ (e : Errand) (f : Finding n B (sameSet a b) (kindOf e) (k .x) (k .y)) where
-      -- where the find goes
-      follows : (w : Walked) → Walks n t′ B (nodeAt k e) w → Next t′ (followed k e (suc used) w)
-      follows (On next) knows = goes-on k (Find e next) refl (record { finding = f; find = knows })
-      follows (Failed next) knows = goes-on k (Find e next) refl (record { finding = f; find = knows })
-      follows (Up v) moved = goes-on (movedTo k e v) (Find e ReadNode) refl (record { finding = finding-moved k e v f moved; find = tt })
-      follows Ended root = find-ended e f root
+    -- where the find goes
+    follows : (e : Errand) (w : Walked) → Searching (momentHere n t′ B (suc used)) (sameSet a b) k e ReadNode
+        → Walks n t′ B (nodeAt k e) w → Next t′ (followed k e (suc used) w)
+    follows e (On next) f knows = goes-on k (Find e next) refl (record { pair = f .pair; find = knows })
+    follows e (Failed next) f knows = goes-on k (Find e next) refl (record { pair = f .pair; find = knows })
+    follows e (Up v) f moved = goes-on (movedTo k e v) (Find e ReadNode) refl (searching-moved k e v f moved)
+    follows e Ended f root = find-ended e f root
 
   -- ---- one grant
 
   module _ {t : List Node} (admitted : Admitted n t) (labelled : Labelled n (parent t) B) where
     module _ (e : Errand) (s : Step) (knows : Searching (momentHere n t B used) (sameSet a b) k e s) where
       node : nodeAt k e < n
-      node = find-node k (knows .finding) e
+      node = find-node knows
 
       pub find-keeps : Kept n t (touched t (findAccess (nodeAt k e) s)) B
       find-keeps = halved-keeps admitted labelled (find-halved t (admitted .nodes) (admitted-formed admitted) labelled node s (knows .find))
@@ -149,7 +157,8 @@ module _ {n : ℕ} (B : ℕ → ℕ) {a b : ℕ} (inside : Inside n (sameSet a b
       find-step : Next (touched t (findAccess (nodeAt k e) s))
           (followed k e (suc used) (walked (nodeAt k e) (seen t (findAccess (nodeAt k e) s)) s))
       find-step =
-          follows find-keeps e (knows .finding) (walked (nodeAt k e) (seen t (findAccess (nodeAt k e) s)) s)
+          follows find-keeps e (walked (nodeAt k e) (seen t (findAccess (nodeAt k e) s)) s)
+          (record { pair = same-pair t (touched t (findAccess (nodeAt k e) s)) e (tidies e) (knows .pair); find = tt })
           (find-walks t (admitted .nodes) (admitted-formed admitted) labelled node s (knows .find))
 
     reread-x : (point : ℕ) → Rereading (momentHere n t B used) (sameSet a b) (k .x) (k .y) point
@@ -170,7 +179,9 @@ module _ {n : ℕ} (B : ℕ → ℕ) {a b : ℕ} (inside : Inside n (sameSet a b
     stage-step ReadRankX busy knows = no-union (knows .finding .kind)
     stage-step (ReadRankY r) busy knows = no-union (knows .finding .kind)
     stage-step (Link r e) busy knows = no-union (knows .finding .kind)
-    stage-step (Raise r) busy knows = no-union (knows .kind)
+    stage-step (Raise r) busy knows = no-union (knows .linked .kind)
+    stage-step ReadRankLinked busy knows = no-union (knows .kind)
+    stage-step (RaiseFound r) busy knows = no-union (knows .linked .kind)
 
     stage-ranks : (stage : Stage) → Knows (momentHere n t B used) (sameSet a b) k stage
         → (i : ℕ) → rank (touched t (accessAt k stage)) i ≡ rank t i
@@ -180,7 +191,9 @@ module _ {n : ℕ} (B : ℕ → ℕ) {a b : ℕ} (inside : Inside n (sameSet a b
     stage-ranks ReadRankX knows i = refl
     stage-ranks (ReadRankY r) knows i = refl
     stage-ranks (Link r e) knows i = no-union (knows .finding .kind)
-    stage-ranks (Raise r) knows i = no-union (knows .kind)
+    stage-ranks (Raise r) knows i = no-union (knows .linked .kind)
+    stage-ranks ReadRankLinked knows i = refl
+    stage-ranks (RaiseFound r) knows i = no-union (knows .linked .kind)
 
 module _ {n : ℕ} {t : List Node} {B : ℕ → ℕ} {a b used : ℕ} {h : Head} {answer : Answer} (serving : Serving n B a b t used h answer) where
   pub serving-step : isFinal answer ≡ false

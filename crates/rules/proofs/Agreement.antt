@@ -24,20 +24,19 @@ use Rattle.process.specs.declared.Event.{Event}
 use Rattle.process.specs.declared.Step.{Step}
 use Rattle.process.specs.declared.Step.the-variants.{ReadNode, ReadParent, Halve, ReadAgain}
 use Rattle.process.specs.declared.Errand.{Errand}
-use Rattle.process.specs.declared.Errand.the-variants.{UnionX, UnionY, SameX, SameY}
+use Rattle.process.specs.declared.Errand.the-variants.{UnionX, UnionY, SameX, SameY, Tidy}
 use Rattle.process.specs.declared.Stage.{Stage}
-use Rattle.process.specs.declared.Stage.the-variants.{Resting, Find, RereadX, ReadRankX, ReadRankY, Link, Raise}
+use Rattle.process.specs.declared.Stage.the-variants.{Resting, Find, RereadX, ReadRankX, ReadRankY, Link, Raise, ReadRankLinked, RaiseFound}
 use Rattle.process.specs.declared.Task.{Task}
 use Rattle.process.specs.declared.Advanced.{Advanced}
 use Rattle.process.specs.Process.{nodeAt}
-use Rattle.process.specs.Access.{accessAt}
+use Rattle.process.specs.Access.{raising, accessAt}
 use Rattle.process.specs.Advance.{compared, ended, advanceAt}
 use Rattle.rules.specs.Table.{at, parent, rank, seen}
-use Rattle.rules.specs.Action.{Agrees}
+use Rattle.rules.specs.Action.{links, Agrees}
 use Rattle.rules.proofs.Table.{found-parent, found-rank}
 use Rattle.rules.proofs.Finds.{FindKnows}
 use Rattle.rules.proofs.Stages.{Moment, Linking, Knows}
-use Rattle.rules.proofs.Steps.{linked-event}
 
 abbrev Tells : Access → Node → Event → Type 0
 Tells access seen event = Agrees (record { access = access; seen = seen; event = event })
@@ -55,6 +54,7 @@ ended-quiet k UnionX now w i = record { failed = refl; linked = refl }
 ended-quiet k UnionY now w i = compared-quiet k Union now w i
 ended-quiet k SameX now w i = record { failed = refl; linked = refl }
 ended-quiet k SameY now w i = compared-quiet k SameSet now w i
+ended-quiet k Tidy now w i = record { failed = refl; linked = refl }
 
 module _ {n : ℕ} (m : Moment n) (k : Task) where
   abbrev t : List Node
@@ -94,18 +94,13 @@ module _ {n : ℕ} (m : Moment n) (k : Task) where
         let rank-is = found-rank t (k .x) (record { rank = r; parent = k .x }) found in
         let root = eq-eqb (parent t (k .x)) (k .x) (found-parent t (k .x) (record { rank = r; parent = k .x }) found) in
         let other = ne-eqb (k .y) (k .x) (λ one. omega (arith, a .before, rank-is, ap (rank t) one)) in
-        let told = linked-event k r e (suc (m .now)) in
-        record { failed = rw found (told .failed); linked = rw (found, root, other) (told .linked) })
+        record { failed = rw found refl; linked = rw (found, root, other) refl })
         (λ failed. record { failed = rw failed refl; linked = rw failed refl })
 
   -- a raise keeps its node a root
-  raise-tells : (r : ℕ) → Told (Raise r)
-  raise-tells r =
-      record {
-        failed = refl;
-        linked = rw (eq-eqb (k .y) (k .y) refl)
-            (stays (same (at t (k .y)) (record { rank = r; parent = k .y })) (eqb (parent t (k .y)) (k .y)));
-      }
+  raise-links : (r : ℕ) → false ≡ links (raising (k .y) r) (at t (k .y))
+  raise-links r =
+      rw (eq-eqb (k .y) (k .y) refl) (stays (same (at t (k .y)) (record { rank = r; parent = k .y })) (eqb (parent t (k .y)) (k .y)))
     where
       stays : (b c : Bool) → false ≡ cond b (cond c (not true) false) false
       stays true true = refl
@@ -123,4 +118,6 @@ module _ {n : ℕ} (m : Moment n) (k : Task) where
       cond-both (Quiet (at t (k .y)) (k .y)) (before (rank t (k .y)) (k .y) r (k .x))
       (record { failed = refl; linked = refl }) (record { failed = refl; linked = refl })
   stage-agrees q (Link r e) a = link-tells r e a
-  stage-agrees q (Raise r) a = raise-tells r
+  stage-agrees q (Raise r) a = record { failed = refl; linked = raise-links r }
+  stage-agrees q ReadRankLinked a = record { failed = refl; linked = refl }
+  stage-agrees q (RaiseFound r) a = record { failed = refl; linked = raise-links r }

@@ -11,7 +11,7 @@ use mathlib.Core.Path.{_≡_, refl, sym, ap, _∙_, subst}
 use mathlib.Core.Logic.{_≢_}
 use mathlib.Core.Bool.{Bool, true, false}
 use mathlib.Core.List.{List, [], _∷_, _++_}
-use Prim.Native.Nat.{ℕ, suc, _+_, _^_, _≤_}
+use Prim.Native.Nat.{ℕ, suc, _+_, _≤_}
 use native.Mathlib.Omega.{arith}
 use native.Mathlib.Decide.{ℕ-discrete}
 use lib.ListN.{length}
@@ -28,7 +28,6 @@ use Rattle.process.specs.Process.{traitsOf}
 use Rattle.process.specs.Access.{accessOf}
 use Rattle.process.specs.Advance.{together}
 use Rattle.forest.specs.Forest.{rootCount}
-use Rattle.forest.proofs.Size.{size}
 use Rattle.linearization.specs.Partition.{Labels, replyTo, reply, next}
 use Rattle.linearization.specs.Entry.{Entry, insert, occurrences}
 use Rattle.linearization.proofs.Partition.{reply-together, reply-apart, next-same-set, next-union, next-together}
@@ -46,13 +45,13 @@ use Rattle.rules.specs.Linearized.{operationAt, promised}
 use Rattle.rules.proofs.History.{usedFor, other-served, row-other, served-answer, link-served, link-unserved, find-served}
 use Rattle.rules.proofs.History.{point-unlinked, point-same-set, point-union}
 use Rattle.rules.proofs.Stages.{Moment, Knows}
-use Rattle.rules.proofs.Outcomes.{united, Kept, Unlinked, Going, Closing, Linked, Joining, Ending, Denying, Outcome}
-use Rattle.rules.proofs.Outcomes.Linked.{finished, raises}
-use Rattle.rules.proofs.Outcomes.Outcome.{going, closing, joining, ending, denying}
+use Rattle.rules.proofs.Outcomes.{afterLink, united, Kept, Unlinked, Going, Closing, Afterwards, Joining, Tidying, Denying, Outcome}
+use Rattle.rules.proofs.Outcomes.Afterwards.{finished, continuing}
+use Rattle.rules.proofs.Outcomes.Outcome.{going, closing, joining, tidying, denying}
 use Rattle.rules.proofs.Invariant.{momentOf, claim, Candidate, Placed, Invariant}
 use Rattle.rules.proofs.Others.{placed-other}
 use Rattle.rules.proofs.Own.{anchored-joined, anchored-found, anchored-no, finished-over, unfinished-current}
-use Rattle.rules.proofs.Own.{timed-on, timed-raising, placed-now, placed-pending, placed-still}
+use Rattle.rules.proofs.Own.{timed-on, timed-linked, placed-now, placed-pending, placed-still}
 use Rattle.rules.proofs.Serving.{Serving, serving-of, more, served-agrees, After, Effect}
 use Rattle.rules.proofs.Serving.After.{continues, finishes}
 
@@ -220,6 +219,25 @@ module _ (qs : List Request) (n : ℕ) (B : Labels) (roots₀ : ℕ) (S : State)
               (listed-once (c .unraised) (suc (S .now))));
         }
 
+  -- ---- a union that has linked
+
+  -- joined is promised to it, finished or not
+  linked-claim : {B′ : Labels} → Afterwards m t′ B′ (requestAt qs q) a → Joined ≡ claim past′ q
+  linked-claim (finished answer rests) = sym (ap promised (served-answer q act past ∙ ap answerNumber answer))
+  linked-claim (continuing answer stage knows) = sym (ap promised (served-answer q act past ∙ ap answerNumber answer))
+
+  -- it is finished, or goes on with what its next stage knows
+  linked-after : {B′ : Labels} (es : List Entry) → Afterwards m t′ B′ (requestAt qs q) a → after (operationAt qs) B es ≡ B′
+      → linkOf q past′ ≢ 0 → occurrences q es ≡ 1 → After qs n B (with-entries es) past′ q a
+  linked-after es (finished answer rests) labels linked once =
+      finishes (ap isFinal answer) rests (finished-over q act past (ap isFinal answer) (anchored-joined q act past answer) once)
+  linked-after es (continuing answer stage knows) labels linked once =
+      let at : ℕ → Labels = λ point. labelsTo (operationAt qs) point B es in
+      continues answer (stage .busy)
+      (subst (λ C. Knows (afterLink m t′ C at) (requestAt qs q) (a .head .task) (a .head .stage)) (sym labels) (knows at))
+      (timed-linked q act past (stage .linked) (stage .unpending) linked)
+      (unfinished-current q act past answer (once ∙ sym (rw (ne-eqb (linkOf q past′) 0 linked))))
+
   -- ---- the link was written
 
   module _ (j : Joining m t′ (requestAt qs q) (head .stage) a) where
@@ -235,31 +253,9 @@ module _ (qs : List Request) (n : ℕ) (B : Labels) (roots₀ : ℕ) (S : State)
     joining-point : suc (length past) ≡ pointOf (requestAt qs q .kind) q past′
     joining-point = sym (ap (λ k. pointOf k q past′) (j .kind) ∙ point-union q past′ linked-now ∙ joining-link)
 
-    -- joined is promised to a listed union, finished or not
-    joining-claim : Linked m t′ (requestAt qs q) a → Joined ≡ claim past′ q
-    joining-claim (finished answer rests) = sym (ap promised (served-answer q act past ∙ ap answerNumber answer))
-    joining-claim (raises k answer stage r) = sym (ap promised (served-answer q act past ∙ ap answerNumber answer))
-
     joining-answer : reply (m .labels) (operationAt qs q) ≡ claim past′ q
     joining-answer =
-        reply-apart (m .labels) (operationAt qs q) (j .two-sets) ∙ ap (λ k. replyTo k false) (j .kind) ∙ joining-claim (j .after)
-
-    joining-after : Linked m t′ (requestAt qs q) a → After qs n B (with-entries entered) past′ q a
-    joining-after (finished answer rests) =
-        finishes (ap isFinal answer) rests
-        (finished-over q act past (ap isFinal answer) (anchored-joined q act past answer) (listed-once (j .unraised) (suc (S .now))))
-    joining-after (raises k answer stage r) =
-        continues answer (ap (λ st. traitsOf st .resting) stage)
-        (subst (Knows (momentOf qs n B (with-entries entered)) (requestAt qs q) (a .head .task)) (sym stage)
-        (record {
-          node = r .node;
-          kind = r .kind;
-          rank = r .rank;
-          weight = subst (λ C. 2 ^ suc k ≤ size n C (C (a .head .task .y))) (sym joining-labels) (r .weight);
-        }))
-        (timed-raising q act past (ap (λ st. traitsOf st .linked) stage) (ap (λ st. traitsOf st .pending) stage) linked-now)
-        (unfinished-current q act past answer
-        (listed-once (j .unraised) (suc (S .now)) ∙ sym (rw (ne-eqb (linkOf q past′) 0 linked-now))))
+        reply-apart (m .labels) (operationAt qs q) (j .two-sets) ∙ ap (λ k. replyTo k false) (j .kind) ∙ linked-claim (j .after)
 
     joining-effect : Does entered
     joining-effect =
@@ -269,43 +265,42 @@ module _ (qs : List Request) (n : ℕ) (B : Labels) (roots₀ : ℕ) (S : State)
           settled = entered-settled;
           entries = entered-replayed (j .unraised) joining-point joining-answer;
           others = others-stay (suc (S .now));
-          after = joining-after (j .after);
+          after = linked-after entered (j .after) joining-labels linked-now (listed-once (j .unraised) (suc (S .now)));
         }
 
-  -- ---- the raise was tried
+  -- ---- a further grant after the link
 
-  module _ (d : Ending m t′ (requestAt qs q) (head .stage) a) where
+  module _ (d : Tidying m t′ (requestAt qs q) (head .stage) a) where
     was-linked : linkOf q past ≢ 0
     was-linked = srv .timed .linked (d .raised)
 
+    still-linked : linkOf q past′ ≢ 0
+    still-linked z = was-linked (sym (link-unserved q act past (tells (d .unlinked))) ∙ z)
+
     -- its own entry stays where it is, and so do the others
-    ending-placed : (e : Entry) → Dec (e .request ≡ q) → Placed qs past e → Placed qs past′ e
-    ending-placed e (yes is) p =
+    tidying-placed : (e : Entry) → Dec (e .request ≡ q) → Placed qs past e → Placed qs past′ e
+    tidying-placed e (yes is) p =
         subst (λ r. Placed qs past′ (entry (e .point) r)) (sym is)
         (placed-still q act past (srv .within) (d .kind) (tells (d .unlinked)) was-linked (srv .begun (d .raised))
         (subst (λ r. Placed qs past (entry (e .point) r)) is p))
-    ending-placed e (no not-own) p = placed-other (serving-of S head) (other-served (e .request) q act not-own) p
+    tidying-placed e (no not-own) p = placed-other (serving-of S head) (other-served (e .request) q act not-own) p
 
-    -- joined was promised before, and is reported now
-    ending-claim : (p : ℕ) → Dec (p ≡ q) → claim past p ≡ claim past′ p
-    ending-claim p (yes is) =
-        ap (claim past) is ∙ ap promised (srv .unfinished)
-        ∙ sym (ap promised (served-answer q act past ∙ ap answerNumber (d .answer))) ∙ ap (claim past′) (sym is)
-    ending-claim p (no not-own) = claim-other p not-own
+    -- joined was promised before, and still is
+    tidying-claim : (p : ℕ) → Dec (p ≡ q) → claim past p ≡ claim past′ p
+    tidying-claim p (yes is) =
+        ap (claim past) is ∙ ap promised (srv .unfinished) ∙ linked-claim (d .after) ∙ ap (claim past′) (sym is)
+    tidying-claim p (no not-own) = claim-other p not-own
 
-    ending-effect : Does (S .entries)
-    ending-effect =
-        let final = ap isFinal (d .answer) in
+    tidying-effect : Does (S .entries)
+    tidying-effect =
         record {
           kept = d .table .kept;
           roots = roots-stay (d .unlinked) (d .table);
           settled = λ point l. refl;
-          entries = replayed-map (inv .entries) (λ e m. ending-placed e (ℕ-discrete (e .request) q))
-              (λ e m. ending-claim (e .request) (ℕ-discrete (e .request) q));
+          entries = replayed-map (inv .entries) (λ e m. tidying-placed e (ℕ-discrete (e .request) q))
+              (λ e m. tidying-claim (e .request) (ℕ-discrete (e .request) q));
           others = λ p e. refl;
-          after = finishes final (d .rests)
-              (finished-over q act past final (anchored-joined q act past (d .answer))
-              (srv .listed ∙ rw (ne-eqb (linkOf q past) 0 was-linked)));
+          after = linked-after (S .entries) (d .after) refl still-linked (srv .listed ∙ rw (ne-eqb (linkOf q past) 0 was-linked));
         }
 
   -- ---- x was still a root
@@ -357,5 +352,5 @@ module _ (qs : List Request) (n : ℕ) (B : Labels) (roots₀ : ℕ) (S : State)
   outcome-effect (going g) = unplaced (g .unplaced) (going-effect g)
   outcome-effect (closing c) = placed-at (suc (S .now)) (c .point) (omega arith) (closing-effect c)
   outcome-effect (joining j) = placed-at (suc (S .now)) (j .point) (omega arith) (joining-effect j)
-  outcome-effect (ending d) = unplaced (d .unplaced) (ending-effect d)
+  outcome-effect (tidying d) = unplaced (d .unplaced) (tidying-effect d)
   outcome-effect (denying d) = placed-at (traitsOf (head .stage) .pending) (d .point) (d .positive) (denying-effect d)

@@ -6,7 +6,7 @@
 -- Laws: find-step, whatever the errand and the step; reread-x.
 use mathlib.Core.Path.{_≡_, refl, sym, ap, subst}
 use mathlib.Core.Logic.{_≢_}
-use mathlib.Core.Bool.{true, false}
+use mathlib.Core.Bool.{Bool, true, false}
 use mathlib.Core.List.{List}
 use Prim.Native.Nat.{ℕ, suc}
 use native.Mathlib.Omega.{arith}
@@ -15,6 +15,7 @@ use borrow.Author.Tests.{eqb-true, eqb-false}
 use Rattle.basics.proofs.Conditions.{split}
 use Rattle.job.specs.declared.Kind.{Kind}
 use Rattle.job.specs.declared.Kind.the-variants.{Union, SameSet}
+use Rattle.job.specs.declared.Answer.the-variants.{Unfinished}
 use Rattle.job.specs.declared.Request.{Request}
 use Rattle.word.specs.declared.Node.{Node}
 use Rattle.process.specs.declared.Step.{Step}
@@ -22,21 +23,22 @@ use Rattle.process.specs.declared.Step.the-variants.{ReadNode}
 use Rattle.process.specs.Find.{Walked}
 use Rattle.process.specs.Find.Walked.{On, Failed, Up, Ended}
 use Rattle.process.specs.declared.Errand.{Errand}
-use Rattle.process.specs.declared.Errand.the-variants.{UnionX, UnionY, SameX, SameY}
+use Rattle.process.specs.declared.Errand.the-variants.{UnionX, UnionY, SameX, SameY, Tidy}
 use Rattle.process.specs.declared.Stage.{Stage}
-use Rattle.process.specs.declared.Stage.the-variants.{Find, RereadX, ReadRankX}
+use Rattle.process.specs.declared.Stage.the-variants.{Find, RereadX, ReadRankX, ReadRankLinked}
 use Rattle.process.specs.declared.Task.{Task}
 use Rattle.process.specs.declared.Advanced.{Advanced}
-use Rattle.process.specs.Process.{kindOf, nodeAt, movedTo, restart}
+use Rattle.process.specs.Process.{traits, traitsOf, tidies, kindOf, nodeAt, movedTo, restart}
 use Rattle.process.specs.Find.{findAccess, walked}
 use Rattle.process.specs.Advance.{together, compared, ended, followed, reread}
 use Rattle.rules.specs.Table.{at, parent, rank, seen, touched}
 use Rattle.rules.proofs.Finds.{Walks, find-walks, find-halved}
-use Rattle.rules.proofs.Stages.{Moment, Apart, Finding, Searching, Rereading, find-node, restart-knows}
-use Rattle.rules.proofs.Outcomes.{Unlinked, Outcome, Present, unchanged, goes-on}
+use Rattle.rules.proofs.Stages.{Moment, Apart, Finding, Linked, Pair, Searching, Rereading}
+use Rattle.rules.proofs.Stages.{find-node, restart-knows, searching-later}
+use Rattle.rules.proofs.Outcomes.{afterGrant, Unlinked, Outcome, Present, unchanged, grant-onward, goes-on, tidies-on}
 use Rattle.rules.proofs.Outcomes.Outcome.{going, closing, denying}
 use Rattle.rules.proofs.Writes.{find-unlinked}
-use Rattle.rules.proofs.Steps.{ends-one, ends-two, finding-moved}
+use Rattle.rules.proofs.Steps.{ends-one, ends-two, searching-moved}
 
 module _ {n : ℕ} {m : Moment n} {q : Request} (present : Present m q) (k : Task) where
   abbrev t : List Node
@@ -48,16 +50,16 @@ module _ {n : ℕ} {m : Moment n} {q : Request} (present : Present m q) (k : Tas
   abbrev Here : Kind → Type 0
   Here kind = Finding n (m .labels) q kind (k .x) (k .y)
 
-  module _ (e : Errand) (s : Step) {t′ : List Node} (table : Unlinked m t′) where
+  module _ (st : Stage) (unraised : traitsOf st .linked ≡ false) {t′ : List Node} (table : Unlinked m t′) where
     -- ---- both finds have ended
 
     -- at one root: already together, or yes
-    one-root : (kind : Kind) → Here kind → eqb (k .x) (k .y) ≡ true → Gives t′ (Find e s) (compared k kind (suc (m .now)))
+    one-root : (kind : Kind) → Here kind → eqb (k .x) (k .y) ≡ true → Gives t′ st (compared k kind (suc (m .now)))
     one-root kind f one =
         rw one
         (closing (record {
           table = table;
-          unraised = refl;
+          unraised = unraised;
           unlinked = refl;
           found = refl;
           answer = ap together (sym (f .kind));
@@ -75,16 +77,16 @@ module _ {n : ℕ} {m : Moment n} {q : Request} (present : Present m q) (k : Tas
 
     -- at two: a union reads x's rank, a same-set reads x again, with this grant as its point
     two-roots : (kind : Kind) → Here kind → parent t′ (k .y) ≡ k .y → eqb (k .x) (k .y) ≡ false
-        → Gives t′ (Find e s) (compared k kind (suc (m .now)))
+        → Gives t′ st (compared k kind (suc (m .now)))
     two-roots Union f root two =
         rw two
-        (goes-on (Find e s) k ReadRankX false true refl refl table
+        (goes-on st k ReadRankX false true unraised refl table
         (record { finding = f; distinct = eqb-false (k .x) (k .y) two; rank = omega arith }))
     two-roots SameSet f root two =
         rw two
         (going (record {
           table = table;
-          unraised = refl;
+          unraised = unraised;
           unlinked = refl;
           unfinished = refl;
           unplaced = refl;
@@ -100,40 +102,60 @@ module _ {n : ℕ} {m : Moment n} {q : Request} (present : Present m q) (k : Tas
           };
         }))
 
-    both-ended : (kind : Kind) → Here kind → parent t′ (k .y) ≡ k .y → Gives t′ (Find e s) (compared k kind (suc (m .now)))
+    both-ended : (kind : Kind) → Here kind → parent t′ (k .y) ≡ k .y → Gives t′ st (compared k kind (suc (m .now)))
     both-ended kind f root = split (eqb (k .x) (k .y)) (λ one. one-root kind f one) (λ two. two-roots kind f root two)
 
   module _ (s : Step) {t′ : List Node} (table : Unlinked m t′) where
-    -- ---- one of them has
+    -- ---- a find has ended
 
-    find-ended : (e : Errand) → Here (kindOf e) → parent t′ (nodeAt k e) ≡ nodeAt k e → Gives t′ (Find e s) (ended k e (suc (m .now)))
-    find-ended UnionX f root =
-        goes-on (Find UnionX s) k (Find UnionY ReadNode) false false refl refl table (record { finding = f; find = tt })
-    find-ended UnionY f root = both-ended UnionY s table Union f root
-    find-ended SameX f root =
-        goes-on (Find SameX s) k (Find SameY ReadNode) false false refl refl table (record { finding = f; find = tt })
-    find-ended SameY f root = both-ended SameY s table SameSet f root
+    find-ended : (e : Errand) → Searching (afterGrant m t′ (m .labels)) q k e s → parent t′ (nodeAt k e) ≡ nodeAt k e
+        → Gives t′ (Find e s) (ended k e (suc (m .now)))
+    find-ended UnionX a root =
+        goes-on (Find UnionX s) k (Find UnionY ReadNode) false false refl refl table (record { pair = a .pair; find = tt })
+    find-ended UnionY a root = both-ended (Find UnionY s) refl table Union (a .pair) root
+    find-ended SameX a root =
+        goes-on (Find SameX s) k (Find SameY ReadNode) false false refl refl table (record { pair = a .pair; find = tt })
+    find-ended SameY a root = both-ended (Find SameY s) refl table SameSet (a .pair) root
+    find-ended Tidy a root =
+        tidies-on (Find Tidy s) k ReadRankLinked false refl (record { busy = refl; linked = refl; unpending = refl }) table
+        (a .pair .kind) (λ at. a .pair)
 
   module _ (e : Errand) (s : Step) {t′ : List Node} (table : Unlinked m t′) where
     -- ---- where the find goes
 
-    follows : (w : Walked) → Here (kindOf e) → Walks n t′ (m .labels) (nodeAt k e) w → Gives t′ (Find e s) (followed k e (suc (m .now)) w)
-    follows (On next) f a = goes-on (Find e s) k (Find e next) false false refl refl table (record { finding = f; find = a })
-    follows (Failed next) f a = goes-on (Find e s) k (Find e next) true false refl refl table (record { finding = f; find = a })
-    follows (Up v) f a =
-        goes-on (Find e s) (movedTo k e v) (Find e ReadNode) false false refl refl table
-        (record { finding = finding-moved k e v f a; find = tt })
+    -- on, before the link or after it
+    finds-on : (b : Bool) → tidies e ≡ b → (k′ : Task) (next : Step) (failed : Bool)
+        → Searching (afterGrant m t′ (m .labels)) q k′ e next
+        → Gives t′ (Find e s)
+        (record {
+          head = record { stage = Find e next; task = k′ };
+          event = record { failed = failed; found = false; linked = false; answer = Unfinished; point = 0 };
+        })
+    finds-on false is k′ next failed a =
+        goes-on (Find e s) k′ (Find e next) failed false is (ap (λ b. traits false b 0 0) is) table a
+    finds-on true is k′ next failed a =
+        let pair : Linked n t′ (m .labels) q (k′ .x) (k′ .y) =
+        subst (λ b. Pair n t′ (m .labels) q (kindOf e) (k′ .x) (k′ .y) b) is (a .pair) in
+        tidies-on (Find e s) k′ (Find e next) failed is (record { busy = refl; linked = is; unpending = refl }) table (pair .kind)
+        (λ at. record { pair = a .pair; find = a .find })
+
+    follows : (w : Walked) → Searching (afterGrant m t′ (m .labels)) q k e s → Walks n t′ (m .labels) (nodeAt k e) w
+        → Gives t′ (Find e s) (followed k e (suc (m .now)) w)
+    follows (On next) f a = finds-on (tidies e) refl k next false (record { pair = f .pair; find = a })
+    follows (Failed next) f a = finds-on (tidies e) refl k next true (record { pair = f .pair; find = a })
+    follows (Up v) f a = finds-on (tidies e) refl (movedTo k e v) ReadNode false (searching-moved k e v f a)
     follows Ended f a = find-ended s table e f a
 
   pub find-step : (e : Errand) (s : Step) → Searching m q k e s
       → Gives (touched t (findAccess (nodeAt k e) s)) (Find e s)
       (followed k e (suc (m .now)) (walked (nodeAt k e) (seen t (findAccess (nodeAt k e) s)) s))
   find-step e s a =
-      let node = find-node k (a .finding) e in
+      let node = find-node a in
       let sound = present .sound in
-      follows e s
-      (find-unlinked m (present .nodes) sound (find-halved t (present .nodes) (sound .formed) (sound .labelled) node s (a .find)))
-      (walked (nodeAt k e) (seen t (findAccess (nodeAt k e) s)) s) (a .finding)
+      let table = find-unlinked m (present .nodes) sound
+      (find-halved t (present .nodes) (sound .formed) (sound .labelled) node s (a .find)) in
+      follows e s table (walked (nodeAt k e) (seen t (findAccess (nodeAt k e) s)) s)
+      (searching-later (grant-onward table) (present .inside) k e s a)
       (find-walks t (present .nodes) (sound .formed) (sound .labelled) node s (a .find))
 
   -- ---- a same-set's last read

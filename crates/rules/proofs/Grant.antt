@@ -11,7 +11,7 @@ use borrow.Author.Tests.{ltb-true, eq-eqb}
 use Rattle.basics.proofs.Conditions.{split}
 use Rattle.job.specs.declared.Request.{Request}
 use Rattle.process.specs.declared.Stage.{Stage}
-use Rattle.process.specs.declared.Stage.the-variants.{Resting, Find, RereadX, ReadRankX, ReadRankY, Link, Raise}
+use Rattle.process.specs.declared.Stage.the-variants.{Resting, Find, RereadX, ReadRankX, ReadRankY, Link, Raise, ReadRankLinked, RaiseFound}
 use Rattle.process.specs.declared.Task.{Task}
 use Rattle.process.specs.declared.Head.{Head}
 use Rattle.process.specs.Process.{traitsOf, isResting, begin}
@@ -29,10 +29,10 @@ use Rattle.rules.specs.Run.Happening.{idle}
 use Rattle.rules.specs.History.{linkOf}
 use Rattle.rules.specs.Linearized.{promised}
 use Rattle.rules.proofs.History.{row-other}
-use Rattle.rules.proofs.Stages.{Moment, Inside, Knows, Onward, finding-begin, restart-knows, knows-later}
+use Rattle.rules.proofs.Stages.{Moment, Inside, Knows, Onward, finding-begin, restart-knows, restart-unlinked, knows-later}
 use Rattle.rules.proofs.Outcomes.{Outcome, Present}
 use Rattle.rules.proofs.FindSteps.{find-step, reread-x}
-use Rattle.rules.proofs.UnionSteps.{read-rank-x, read-rank-y, link-x, raise-y}
+use Rattle.rules.proofs.UnionSteps.{read-rank-x, read-rank-y, link-x, raise-y, read-rank-linked, raise-found}
 use Rattle.rules.proofs.Invariant.{labels, momentOf, head-until, Current, Waiting, Phase, Invariant}
 use Rattle.rules.proofs.Invariant.Phase.{over, current, waiting}
 use Rattle.rules.proofs.Others.{timed-other, phase-other, placed-other}
@@ -63,6 +63,8 @@ module _ {n : ℕ} {m : Moment n} {q : Request} (present : Present m q) (k : Tas
   step-outcome (ReadRankY r) busy a = read-rank-y present k r a
   step-outcome (Link r e) busy a = link-x present k r a e
   step-outcome (Raise r) busy a = raise-y present k r a (at (m .table) (k .y))
+  step-outcome ReadRankLinked busy a = read-rank-linked present k a
+  step-outcome (RaiseFound r) busy a = raise-found present k r a (at (m .table) (k .y))
 
 module _ {qs : List Request} {n : ℕ} {B : Labels} {roots₀ : ℕ} {S : State} {past : List Happening}
     (inside : (q : ℕ) → q < length qs → Inside n (requestAt qs q)) (inv : Invariant qs n B roots₀ S past) where
@@ -129,6 +131,7 @@ module _ {qs : List Request} {n : ℕ} {B : Labels} {roots₀ : ℕ} {S : State}
       serving-begun : isResting (headAt S h) ≡ true → Serving qs n B S past h (begin (requestAt qs q) q)
       serving-begun rests =
           let w = phase-waiting own-phase rests in
+          let unlinked = restart-unlinked (requestAt qs q .kind) in
           record {
             within = within;
             own = own-head;
@@ -136,8 +139,8 @@ module _ {qs : List Request} {n : ℕ} {B : Labels} {roots₀ : ℕ} {S : State}
             busy = refl;
             knows = restart-knows (requestAt qs q .kind) (begin (requestAt qs q) q .task)
                 (finding-begin (requestAt qs q) (inside q within));
-            timed = record { unlinked = λ e. w .unlinked; linked = λ e. absurd (true≢false (sym e)); candidate = λ d. absurd (d refl) };
-            begun = λ e. absurd (true≢false (sym e));
+            timed = record { unlinked = λ e. w .unlinked; linked = λ e. absurd (true≢false (sym e ∙ unlinked)); candidate = λ d. absurd (d refl) };
+            begun = λ e. absurd (true≢false (sym e ∙ unlinked));
             unfinished = w .unfinished;
             listed = w .unlisted ∙ sym (rw (eq-eqb (linkOf q past) 0 (w .unlinked)));
           }

@@ -2,31 +2,36 @@
 -- The grant is made at the moment m and leaves the table t′; the request is q, its head's stage st, its step a.
 --
 --   afterGrant m t′ B′  the moment after the grant, with the labels B′
+--   afterLink m t′ B′ at   the same, whatever the labels at its points
 --   united m q        the labels that a union of the request makes
 --   Kept m t′ B′      the table stays sound, and the new state is a later one
 --   Unlinked m t′     so it does with the same labels, and no root is lost
 --   Going             the head goes on with its request
 --   Closing           the two finds ended at one root: yes, or already together
---   Joining           the link was written; Linked, what follows it: finished, or about to raise
---   Ending            the raise was tried: the linked union is finished
+--   HasLinked st      st is a stage of a union that has linked
+--   Afterwards        what follows a grant of such a union: it is finished, or goes on
+--   Joining           the link was written
+--   Tidying           a further grant of a union that has linked
 --   Denying           x is still a root: no, at the point that was pending
 --   Outcome           one of the five
 --   Present           what stands as the grant is made, whatever the head
 --   underWay          the traits of a stage of a request that has not linked, with no pending point
 --
--- Laws: united-merged; unwritten and unchanged, a grant that writes nothing; goes-on, a step to a stage with no pending point.
+-- Laws: united-merged; unwritten and unchanged, a grant that writes nothing; grant-onward, the grant leads to a later moment;
+-- goes-on, a step to a stage with no pending point; tidies-on, a step from and to a stage that has linked.
 use mathlib.Core.Path.{_≡_, refl, ap}
 use mathlib.Core.Logic.{_≢_}
 use mathlib.Core.Bool.{Bool, true, false}
 use mathlib.Core.List.{List}
 use Prim.Native.Nat.{ℕ, suc, _≤_}
+use native.Mathlib.Omega.{arith}
 use lib.ListN.{length}
 use Rattle.job.specs.declared.Kind.the-variants.{Union, SameSet}
 use Rattle.job.specs.declared.Answer.the-variants.{Unfinished, Joined, No}
 use Rattle.job.specs.declared.Request.{Request}
 use Rattle.word.specs.declared.Node.{Node}
 use Rattle.process.specs.declared.Stage.{Stage}
-use Rattle.process.specs.declared.Stage.the-variants.{Resting, Raise}
+use Rattle.process.specs.declared.Stage.the-variants.{Resting}
 use Rattle.process.specs.declared.Task.{Task}
 use Rattle.process.specs.declared.Advanced.{Advanced}
 use Rattle.process.specs.Process.{Traits, traits, traitsOf, isResting}
@@ -37,10 +42,14 @@ use Rattle.forest.proofs.Sound.{Sound}
 use Rattle.forest.proofs.Later.{Later, later-refl}
 use Rattle.linearization.specs.Partition.{Labels, join}
 use Rattle.rules.specs.Table.{parent, rank}
-use Rattle.rules.proofs.Stages.{Moment, Apart, Inside, Raising, Knows}
+use Rattle.rules.proofs.Stages.{Moment, Apart, Inside, Knows, Onward}
 
 abbrev pub afterGrant : {n : ℕ} → Moment n → List Node → Labels → Moment n
 afterGrant m t′ B′ = record { table = t′; labels = B′; labelsAt = m .labelsAt; now = suc (m .now) }
+
+-- A union that has linked has no pending point, and looks at no labels of earlier points.
+abbrev pub afterLink : {n : ℕ} → Moment n → List Node → Labels → (ℕ → Labels) → Moment n
+afterLink m t′ B′ at = record { table = t′; labels = B′; labelsAt = at; now = suc (m .now) }
 
 abbrev pub united : {n : ℕ} → Moment n → Request → Labels
 united m q = join (m .labels) (q .x) (q .y)
@@ -80,11 +89,15 @@ pub record Closing {n : ℕ} (m : Moment n) (t′ : List Node) (q : Request) (st
   pub rests : a .head .stage ≡ Resting
   pub one-set : m .labels (q .x) ≡ m .labels (q .y)
 
--- after the link: finished, or about to raise y's rank
-pub data Linked {n : ℕ} (m : Moment n) (t′ : List Node) (q : Request) (a : Advanced) : Type 0 where
-  finished : a .event .answer ≡ Joined → a .head .stage ≡ Resting → Linked m t′ q a
-  raises : (k : ℕ) → a .event .answer ≡ Unfinished → a .head .stage ≡ Raise k
-      → Raising (afterGrant m t′ (united m q)) q (a .head .task .y) k → Linked m t′ q a
+pub record HasLinked (st : Stage) : Type 0 where
+  pub busy : traitsOf st .resting ≡ false
+  pub linked : traitsOf st .linked ≡ true
+  pub unpending : traitsOf st .pending ≡ 0
+
+pub data Afterwards {n : ℕ} (m : Moment n) (t′ : List Node) (B′ : Labels) (q : Request) (a : Advanced) : Type 0 where
+  finished : a .event .answer ≡ Joined → a .head .stage ≡ Resting → Afterwards m t′ B′ q a
+  continuing : a .event .answer ≡ Unfinished → HasLinked (a .head .stage)
+      → ((at : ℕ → Labels) → Knows (afterLink m t′ B′ at) q (a .head .task) (a .head .stage)) → Afterwards m t′ B′ q a
 
 pub record Joining {n : ℕ} (m : Moment n) (t′ : List Node) (q : Request) (st : Stage) (a : Advanced) : Type 0 where
   pub kept : Kept m t′ (united m q)
@@ -94,16 +107,15 @@ pub record Joining {n : ℕ} (m : Moment n) (t′ : List Node) (q : Request) (st
   pub linked : a .event .linked ≡ true
   pub point : a .event .point ≡ suc (m .now)
   pub two-sets : m .labels (q .x) ≢ m .labels (q .y)
-  pub after : Linked m t′ q a
+  pub after : Afterwards m t′ (united m q) q a
 
-pub record Ending {n : ℕ} (m : Moment n) (t′ : List Node) (q : Request) (st : Stage) (a : Advanced) : Type 0 where
+pub record Tidying {n : ℕ} (m : Moment n) (t′ : List Node) (q : Request) (st : Stage) (a : Advanced) : Type 0 where
   pub table : Unlinked m t′
   pub raised : traitsOf st .linked ≡ true
   pub kind : q .kind ≡ Union
   pub unlinked : a .event .linked ≡ false
-  pub answer : a .event .answer ≡ Joined
   pub unplaced : a .event .point ≡ 0
-  pub rests : a .head .stage ≡ Resting
+  pub after : Afterwards m t′ (m .labels) q a
 
 pub record Denying {n : ℕ} (m : Moment n) (t′ : List Node) (q : Request) (st : Stage) (a : Advanced) : Type 0 where
   pub table : Unlinked m t′
@@ -122,7 +134,7 @@ pub data Outcome {n : ℕ} (m : Moment n) (t′ : List Node) (q : Request) (st :
   going : Going m t′ q st a → Outcome m t′ q st a
   closing : Closing m t′ q st a → Outcome m t′ q st a
   joining : Joining m t′ q st a → Outcome m t′ q st a
-  ending : Ending m t′ q st a → Outcome m t′ q st a
+  tidying : Tidying m t′ q st a → Outcome m t′ q st a
   denying : Denying m t′ q st a → Outcome m t′ q st a
 
 pub record Present {n : ℕ} (m : Moment n) (q : Request) : Type 0 where
@@ -144,6 +156,9 @@ unwritten {n} m sound =
 pub unchanged : {n : ℕ} {m : Moment n} {q : Request} → Present m q → Unlinked m (m .table)
 unchanged {m = m} present = unwritten m (present .sound)
 
+pub grant-onward : {n : ℕ} {m : Moment n} {t′ : List Node} → Unlinked m t′ → Onward m (afterGrant m t′ (m .labels))
+grant-onward table = record { table = table .kept .later; passes = omega arith; settled = λ point l. refl }
+
 pub goes-on : {n : ℕ} {m : Moment n} {t′ : List Node} {q : Request} (st : Stage) (k : Task) (next : Stage) (failed found : Bool)
     → traitsOf st .linked ≡ false → traitsOf next ≡ underWay → Unlinked m t′ → Knows (afterGrant m t′ (m .labels)) q k next
     → Outcome m t′ q st
@@ -163,4 +178,22 @@ goes-on st k next failed found unraised traits table knows =
       proposed = λ d. absurd (d (ap (λ z. z .pending) traits));
       found = λ d. absurd (d (ap (λ z. z .pending) traits));
       knows = knows;
+    })
+
+pub tidies-on : {n : ℕ} {m : Moment n} {t′ : List Node} {q : Request} (st : Stage) (k : Task) (next : Stage) (failed : Bool)
+    → traitsOf st .linked ≡ true → HasLinked next → Unlinked m t′ → q .kind ≡ Union
+    → ((at : ℕ → Labels) → Knows (afterLink m t′ (m .labels) at) q k next)
+    → Outcome m t′ q st
+    (record {
+      head = record { stage = next; task = k };
+      event = record { failed = failed; found = false; linked = false; answer = Unfinished; point = 0 };
+    })
+tidies-on st k next failed raised stage table kind knows =
+    tidying (record {
+      table = table;
+      raised = raised;
+      kind = kind;
+      unlinked = refl;
+      unplaced = refl;
+      after = continuing refl stage knows;
     })

@@ -3,7 +3,7 @@
 --   past′   the history with the grant, which did `act` for request q
 --
 -- Main laws: anchored-joined, anchored-found and anchored-no, the point of a same-set by its answer; finished-over and
--- unfinished-current, the request's phase after the grant; timed-on and timed-raising, what its
+-- unfinished-current, the request's phase after the grant; timed-on and timed-linked, what its
 -- next stage may rely on; placed-now, placed-pending and placed-still, its entry at this grant, at the pending point, or
 -- where it stood.
 use mathlib.Core.Path.{_≡_, sym, ap, _∙_}
@@ -112,9 +112,9 @@ module _ (q : ℕ) (act : Action) (past : List Happening) where
         candidate = λ d. candidate-now (proposed d) (found d);
       }
 
-  pub timed-raising : {st : Stage} → traitsOf st .linked ≡ true → traitsOf st .pending ≡ 0 → linkOf q past′ ≢ 0 → Timed q past′ st
-  timed-raising raises none linked =
-      record { unlinked = λ r. absurd (true≢false (sym raises ∙ r)); linked = λ r. linked; candidate = λ d. absurd (d none) }
+  pub timed-linked : {st : Stage} → traitsOf st .linked ≡ true → traitsOf st .pending ≡ 0 → linkOf q past′ ≢ 0 → Timed q past′ st
+  timed-linked has none linked =
+      record { unlinked = λ r. absurd (true≢false (sym has ∙ r)); linked = λ r. linked; candidate = λ d. absurd (d none) }
 
   -- ---- its entry
 

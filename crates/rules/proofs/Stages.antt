@@ -5,6 +5,8 @@
 --   Apart m q point     the request's two nodes were in two sets at that point
 --   Inside n q          the request's two nodes are nodes
 --   Finding kind x y    x and y stand for the request's two nodes, and the request is of that kind
+--   Linked x y          the union has linked x, and y is in its set
+--   Pair kind x y b     which of the two, by whether the request has linked
 --   Searching k e s     what is known at step s of a find on errand e: the request's part and the find's,
 --   Rereading           at a same-set's last read,
 --   ReadingRanks, Linking, Raising   and at a union's stages after its finds
@@ -14,6 +16,7 @@
 -- Main laws: finding-begin and restart-knows, at the start of a request; knows-later, what is known survives any later moment.
 use mathlib.Core.Path.{_≡_, refl, sym, subst}
 use mathlib.Core.Logic.{_≢_}
+use mathlib.Core.Bool.{Bool, true, false}
 use mathlib.Core.List.{List}
 use Prim.Native.Nat.{ℕ, suc, _^_, _≤_, _<_}
 use native.Mathlib.Omega.{arith}
@@ -27,9 +30,9 @@ use Rattle.process.specs.declared.Step.{Step}
 use Rattle.process.specs.declared.Step.the-variants.{ReadNode}
 use Rattle.process.specs.declared.Errand.{Errand}
 use Rattle.process.specs.declared.Stage.{Stage}
-use Rattle.process.specs.declared.Stage.the-variants.{Resting, Find, RereadX, ReadRankX, ReadRankY, Link, Raise}
+use Rattle.process.specs.declared.Stage.the-variants.{Resting, Find, RereadX, ReadRankX, ReadRankY, Link, Raise, ReadRankLinked, RaiseFound}
 use Rattle.process.specs.declared.Task.{Task}
-use Rattle.process.specs.Process.{traitsOf, kindOf, servesX, nodeAt, firstErrand}
+use Rattle.process.specs.Process.{traitsOf, tidies, kindOf, servesX, nodeAt, firstErrand, restart}
 use Rattle.forest.proofs.Size.{size}
 use Rattle.forest.proofs.Merge.{Ends}
 use Rattle.forest.proofs.Merge.Ends.{straight}
@@ -64,9 +67,23 @@ pub record Finding (n : ℕ) (B : ℕ → ℕ) (request : Request) (wanted : Kin
   pub ends : Ends B (request .x) (request .y) x y
   pub kind : request .kind ≡ wanted
 
+-- Every stage after it.
+pub record Linked (n : ℕ) (t : List Node) (B : ℕ → ℕ) (request : Request) (x y : ℕ) : Type 0 where
+  pub left : x < n
+  pub right : y < n
+  pub kind : request .kind ≡ Union
+  -- x was linked, so that it is no root, and y is in its set
+  pub lower : parent t x ≢ x
+  pub same : B y ≡ B x
+
+-- A find is made before the link or after it.
+abbrev pub Pair : (n : ℕ) → List Node → (ℕ → ℕ) → Request → Kind → ℕ → ℕ → Bool → Type 0
+Pair n t B q kind x y false = Finding n B q kind x y
+Pair n t B q kind x y true = Linked n t B q x y
+
 -- Some step of a find.
 pub record Searching {n : ℕ} (m : Moment n) (request : Request) (k : Task) (e : Errand) (s : Step) : Type 0 where
-  pub finding : Finding n (m .labels) request (kindOf e) (k .x) (k .y)
+  pub pair : Pair n (m .table) (m .labels) request (kindOf e) (k .x) (k .y) (tidies e)
   pub find : FindKnows n (parent (m .table)) (rank (m .table)) (m .labels) (nodeAt k e) s
 
 -- About to read x's word again, with a point at which the answer no would stand.
@@ -92,10 +109,8 @@ pub record Linking {n : ℕ} (m : Moment n) (request : Request) (x y k : ℕ) : 
   pub rank : k ≤ rank (m .table) x
 
 -- About to raise y's rank.
-pub record Raising {n : ℕ} (m : Moment n) (request : Request) (y k : ℕ) : Type 0 where
-  pub node : y < n
-  pub kind : request .kind ≡ Union
-  pub rank : k ≤ rank (m .table) y
+pub record Raising {n : ℕ} (m : Moment n) (request : Request) (x y k : ℕ) : Type 0 where
+  pub linked : Linked n (m .table) (m .labels) request x y
   -- y's set has the nodes that the higher rank asks for
   pub weight : 2 ^ suc k ≤ size n (m .labels) (m .labels y)
 
@@ -106,25 +121,30 @@ Knows m q k (RereadX point) = Rereading m q (k .x) (k .y) point
 Knows m q k ReadRankX = ReadingRanks m q (k .x) (k .y) 0
 Knows m q k (ReadRankY rank) = ReadingRanks m q (k .x) (k .y) rank
 Knows m q k (Link rank e) = Linking m q (k .x) (k .y) rank
-Knows m q k (Raise rank) = Raising m q (k .y) rank
+Knows m q k (Raise rank) = Raising m q (k .x) (k .y) rank
+Knows {n} m q k ReadRankLinked = Linked n (m .table) (m .labels) q (k .x) (k .y)
+Knows m q k (RaiseFound rank) = Raising m q (k .x) (k .y) rank
 
 -- A head begins its request, or tries again, with x and y that stand for its two nodes.
 pub finding-begin : {n : ℕ} {B : ℕ → ℕ} (q : Request) → Inside n q → Finding n B q (q .kind) (q .x) (q .y)
 finding-begin q inside = record { left = inside .x; right = inside .y; ends = straight refl refl; kind = refl }
 
-first-kind : (kind : Kind) → kindOf (firstErrand kind) ≡ kind
-first-kind Union = refl
-first-kind SameSet = refl
-
 pub restart-knows : {n : ℕ} {m : Moment n} {q : Request} (kind : Kind) (k : Task)
     → Finding n (m .labels) q kind (k .x) (k .y) → Searching m q k (firstErrand kind) ReadNode
-restart-knows {n} {m} {q} kind k f =
-    record { finding = subst (λ c. Finding n (m .labels) q c (k .x) (k .y)) (sym (first-kind kind)) f; find = tt }
+restart-knows Union k f = record { pair = f; find = tt }
+restart-knows SameSet k f = record { pair = f; find = tt }
+
+pub restart-unlinked : (kind : Kind) → traitsOf (restart kind) .linked ≡ false
+restart-unlinked Union = refl
+restart-unlinked SameSet = refl
 
 -- the node that a find has come to is one
-pub find-node : {n : ℕ} {B : ℕ → ℕ} {q : Request} {kind : Kind} (k : Task) → Finding n B q kind (k .x) (k .y)
-    → (e : Errand) → nodeAt k e < n
-find-node {n} k f e = cond-both (λ v. v < n) (servesX e) (f .left) (f .right)
+pub find-node : {n : ℕ} {m : Moment n} {q : Request} {k : Task} {e : Errand} {s : Step} → Searching m q k e s → nodeAt k e < n
+find-node {n} {m} {q} {k} {e} a = go (tidies e) (a .pair)
+  where
+    go : (b : Bool) → Pair n (m .table) (m .labels) q (kindOf e) (k .x) (k .y) b → nodeAt k e < n
+    go false f = cond-both (λ v. v < n) (servesX e) (f .left) (f .right)
+    go true f = cond-both (λ v. v < n) (servesX e) (f .left) (f .right)
 
 -- a pending point is not beyond the present grant
 module _ {n : ℕ} (m : Moment n) (q : Request) (k : Task) where
@@ -136,6 +156,8 @@ module _ {n : ℕ} (m : Moment n) (q : Request) (k : Task) where
   pending-until (ReadRankY rank) a = omega arith
   pending-until (Link rank e) a = omega arith
   pending-until (Raise rank) a = omega arith
+  pending-until ReadRankLinked a = omega arith
+  pending-until (RaiseFound rank) a = omega arith
 
 -- ---- what survives a later moment
 
@@ -155,9 +177,27 @@ module _ {n : ℕ} {m m′ : Moment n} (onward : Onward m m′) {q : Request} (i
         kind = f .kind;
       }
 
-  searching-later : (k : Task) (e : Errand) (s : Step) → Searching m q k e s → Searching m′ q k e s
+  pub linked-later : {x y : ℕ} → Linked n (m .table) (m .labels) q x y → Linked n (m′ .table) (m′ .labels) q x y
+  linked-later {x} {y} a =
+      record {
+        left = a .left;
+        right = a .right;
+        kind = a .kind;
+        lower = λ root. a .lower (onward .table .root x (a .left) root);
+        same = onward .table .merges y x (a .right) (a .left) (a .same);
+      }
+
+  pair-later : (kind : Kind) (x y : ℕ) (b : Bool) → Pair n (m .table) (m .labels) q kind x y b
+      → Pair n (m′ .table) (m′ .labels) q kind x y b
+  pair-later kind x y false f = finding-later f
+  pair-later kind x y true f = linked-later f
+
+  pub searching-later : (k : Task) (e : Errand) (s : Step) → Searching m q k e s → Searching m′ q k e s
   searching-later k e s a =
-      record { finding = finding-later (a .finding); find = find-later (onward .table) (find-node k (a .finding) e) s (a .find) }
+      record {
+        pair = pair-later (kindOf e) (k .x) (k .y) (tidies e) (a .pair);
+        find = find-later (onward .table) (find-node a) s (a .find);
+      }
 
   rereading-later : {x y point : ℕ} → Rereading m q x y point → Rereading m′ q x y point
   rereading-later {x} {y} {point} a =
@@ -185,13 +225,11 @@ module _ {n : ℕ} {m m′ : Moment n} (onward : Onward m m′) {q : Request} (i
         before = omega (arith, onward .table .grows y (a .finding .right), a .before);
       }
 
-  raising-later : {y k : ℕ} → Raising m q y k → Raising m′ q y k
-  raising-later {y} a =
+  raising-later : {x y k : ℕ} → Raising m q x y k → Raising m′ q x y k
+  raising-later {x} {y} a =
       record {
-        node = a .node;
-        kind = a .kind;
-        rank = omega (arith, onward .table .grows y (a .node), a .rank);
-        weight = omega (arith, onward .table .larger y (a .node), a .weight);
+        linked = linked-later (a .linked);
+        weight = omega (arith, onward .table .larger y (a .linked .right), a .weight);
       }
 
   pub knows-later : (k : Task) (st : Stage) → Knows m q k st → Knows m′ q k st
@@ -202,3 +240,5 @@ module _ {n : ℕ} {m m′ : Moment n} (onward : Onward m m′) {q : Request} (i
   knows-later k (ReadRankY rank) a = ranks-later a
   knows-later k (Link rank e) a = linking-later a
   knows-later k (Raise rank) a = raising-later a
+  knows-later k ReadRankLinked a = linked-later a
+  knows-later k (RaiseFound rank) a = raising-later a

@@ -1,10 +1,9 @@
 -- What every step of a head keeps: the request that it serves, and what its x and y say of the request's two nodes.
 --
 --   Keeps k a         the step a of a head with the task k leaves its request
---   JoinsAt grant e   the event e tells of a link at that grant
 --
--- Main laws: advance-keeps, no step changes the request served; linked-event, what a link tells; ends-one and ends-two, from
--- x and y to the request's two nodes; finding-moved and finding-exchange, x or y moves within its set, or the two are exchanged.
+-- Main laws: advance-keeps, no step changes the request served; ends-one and ends-two, from x and y to the request's two nodes;
+-- searching-moved and finding-exchange, x or y moves within its set, or the two are exchanged.
 use mathlib.Core.Path.{_≡_, refl, sym, ap, _∙_}
 use mathlib.Core.Logic.{_≢_}
 use mathlib.Core.Bool.{Bool, true, false, cond}
@@ -15,22 +14,24 @@ use Rattle.job.specs.declared.Kind.{Kind}
 use Rattle.job.specs.declared.Request.{Request}
 use Rattle.word.specs.declared.Node.{Node}
 use Rattle.word.specs.Word.{same, before}
-use Rattle.process.specs.declared.Event.{Event}
+use Rattle.process.specs.declared.Step.{Step}
+use Rattle.process.specs.declared.Step.the-variants.{ReadNode}
 use Rattle.process.specs.Find.{Walked}
 use Rattle.process.specs.Find.Walked.{On, Failed, Up, Ended}
 use Rattle.process.specs.declared.Errand.{Errand}
-use Rattle.process.specs.declared.Errand.the-variants.{UnionX, UnionY, SameX, SameY}
+use Rattle.process.specs.declared.Errand.the-variants.{UnionX, UnionY, SameX, SameY, Tidy}
 use Rattle.process.specs.declared.Stage.{Stage}
-use Rattle.process.specs.declared.Stage.the-variants.{Resting, Find, RereadX, ReadRankX, ReadRankY, Link, Raise}
+use Rattle.process.specs.declared.Stage.the-variants.{Resting, Find, RereadX, ReadRankX, ReadRankY, Link, Raise, ReadRankLinked, RaiseFound}
 use Rattle.process.specs.declared.Task.{Task}
+use Rattle.process.specs.declared.Head.{Head}
 use Rattle.process.specs.declared.Advanced.{Advanced}
 use Rattle.process.specs.Process.{servesX, nodeAt, movedTo}
 use Rattle.process.specs.Find.{walked}
-use Rattle.process.specs.Advance.{ended, followed, linked, advanceAt}
+use Rattle.process.specs.Advance.{ended, followed, advanceAt}
 use Rattle.forest.proofs.Merge.{Ends}
 use Rattle.forest.proofs.Merge.Ends.{straight, crossed}
 use Rattle.rules.proofs.Finds.{Moved}
-use Rattle.rules.proofs.Stages.{Finding}
+use Rattle.rules.proofs.Stages.{Moment, Finding, Searching}
 
 -- ---- a head keeps its request
 
@@ -43,6 +44,7 @@ module _ (k : Task) where
   ended-keeps UnionY now = cond-both Keeps (eqb (k .x) (k .y)) refl refl
   ended-keeps SameX now = refl
   ended-keeps SameY now = cond-both Keeps (eqb (k .x) (k .y)) refl refl
+  ended-keeps Tidy now = refl
 
   followed-keeps : (e : Errand) (now : ℕ) (w : Walked) → Keeps (followed k e now w)
   followed-keeps e now (On s) = refl
@@ -56,20 +58,11 @@ module _ (k : Task) where
   advance-keeps w now (RereadX p) = cond-both Keeps (eqb (w .parent) (k .x)) refl refl
   advance-keeps w now ReadRankX = refl
   advance-keeps w now (ReadRankY r) = cond-both Keeps (before (w .rank) (k .y) r (k .x)) refl refl
-  advance-keeps w now (Link r e) = cond-both Keeps (same w (record { rank = r; parent = k .x })) (cond-both Keeps e refl refl) refl
+  advance-keeps w now (Link r e) = cond-both Keeps (same w (record { rank = r; parent = k .x }))
+      (cond-both (λ (h : Head). h .task .request ≡ k .request) e refl refl) refl
   advance-keeps w now (Raise r) = refl
-
--- ---- a link that wrote
-
-pub record JoinsAt (grant : ℕ) (e : Event) : Type 0 where
-  pub failed : e .failed ≡ false
-  pub linked : e .linked ≡ true
-  pub point : e .point ≡ grant
-
--- with equal ranks or not
-pub linked-event : (k : Task) (r : ℕ) (equal : Bool) (now : ℕ) → JoinsAt now (linked k r equal now .event)
-linked-event k r true now = record { failed = refl; linked = refl; point = refl }
-linked-event k r false now = record { failed = refl; linked = refl; point = refl }
+  advance-keeps w now ReadRankLinked = refl
+  advance-keeps w now (RaiseFound r) = refl
 
 -- ---- what x and y say of the request's nodes
 
@@ -93,7 +86,7 @@ ends-left s (straight e f) = straight (s ∙ e) f
 ends-left s (crossed e f) = crossed (s ∙ e) f
 
 -- the find moves to another node of its set
-pub finding-moved : {n : ℕ} {B : ℕ → ℕ} {q : Request} {kind : Kind} (k : Task) (e : Errand) (u : ℕ)
+finding-moved : {n : ℕ} {B : ℕ → ℕ} {q : Request} {kind : Kind} (k : Task) (e : Errand) (u : ℕ)
     → Finding n B q kind (k .x) (k .y) → Moved n B (nodeAt k e) u → Finding n B q kind (movedTo k e u .x) (movedTo k e u .y)
 finding-moved {n} {B} {q} {kind} k e u f moved = go (servesX e) (moved .same)
   where
@@ -101,3 +94,17 @@ finding-moved {n} {B} {q} {kind} k e u f moved = go (servesX e) (moved .same)
     go true one = record { left = moved .node; right = f .right; ends = ends-left one (f .ends); kind = f .kind }
     go false one =
         record { left = f .left; right = moved .node; ends = ends-exchange (ends-left one (ends-exchange (f .ends))); kind = f .kind }
+
+-- whatever its errand; after the link it is y that moves
+pub searching-moved : {n : ℕ} {m : Moment n} {q : Request} {s : Step} (k : Task) (e : Errand) (u : ℕ) → Searching m q k e s
+    → Moved n (m .labels) (nodeAt k e) u → Searching m q (movedTo k e u) e ReadNode
+searching-moved k UnionX u a moved = record { pair = finding-moved k UnionX u (a .pair) moved; find = tt }
+searching-moved k UnionY u a moved = record { pair = finding-moved k UnionY u (a .pair) moved; find = tt }
+searching-moved k SameX u a moved = record { pair = finding-moved k SameX u (a .pair) moved; find = tt }
+searching-moved k SameY u a moved = record { pair = finding-moved k SameY u (a .pair) moved; find = tt }
+searching-moved k Tidy u a moved =
+    let f = a .pair in
+    record {
+      pair = record { left = f .left; right = moved .node; kind = f .kind; lower = f .lower; same = moved .same ∙ f .same };
+      find = tt;
+    }

@@ -2,11 +2,11 @@
 --
 --   Gives t′ st a   the step a at stage st, which leaves the table t′, is one of the outcomes
 --
--- Laws, one a stage: read-rank-x, read-rank-y, link-x, raise-y.
-use mathlib.Core.Path.{_≡_, refl, sym, _∙_}
+-- Laws, one a stage: read-rank-x, read-rank-y, link-x, raise-y, read-rank-linked, raise-found.
+use mathlib.Core.Path.{_≡_, refl, sym, ap, _∙_}
 use mathlib.Core.Bool.{Bool, true, false}
 use mathlib.Core.List.{List}
-use Prim.Native.Nat.{ℕ, suc, _+_, _≤_, _<_}
+use Prim.Native.Nat.{ℕ, suc, _≤_, _<_}
 use native.Mathlib.Omega.{arith}
 use lib.Dec.{eqb, ltb}
 use borrow.Author.Tests.{ltb-true, ltb-false}
@@ -16,25 +16,30 @@ use Rattle.job.specs.declared.Request.{Request}
 use Rattle.word.specs.declared.Node.{Node}
 use Rattle.word.specs.Word.{key, same, before}
 use Rattle.word.proofs.Laws.{before-key}
+use Rattle.process.specs.declared.Step.the-variants.{ReadNode}
+use Rattle.process.specs.declared.Errand.the-variants.{Tidy}
 use Rattle.process.specs.declared.Stage.{Stage}
-use Rattle.process.specs.declared.Stage.the-variants.{ReadRankX, ReadRankY, Link, Raise}
+use Rattle.process.specs.declared.Stage.the-variants.{Find, ReadRankX, ReadRankY, Link, Raise, ReadRankLinked, RaiseFound}
 use Rattle.process.specs.declared.Task.{Task}
 use Rattle.process.specs.declared.Advanced.{Advanced}
 use Rattle.process.specs.declared.Access.the-variants.{Cas}
-use Rattle.process.specs.Process.{restart}
-use Rattle.process.specs.Advance.{goOn, rankBoth, linked, link, raise}
+use Rattle.process.specs.Process.{restart, tidyUp}
+use Rattle.process.specs.Access.{raising}
+use Rattle.process.specs.Advance.{goOn, rankBoth, linked, link, raise, raiseFound}
 use Rattle.forest.proofs.Merge.{merged-ends}
 use Rattle.forest.proofs.Linking as linking
-use Rattle.forest.proofs.Raising as raising
+use Rattle.forest.proofs.Raising as forest
 use Rattle.rules.specs.Table.{at, parent, rank, touched}
 use Rattle.rules.proofs.Table.{found-parent, found-rank}
 use Rattle.rules.proofs.Finds.{stored}
-use Rattle.rules.proofs.Stages.{Moment, Finding, ReadingRanks, Linking, Raising, restart-knows}
-use Rattle.rules.proofs.Outcomes.{afterGrant, united, united-merged, Unlinked, Linked, Outcome, Present, unchanged, goes-on}
-use Rattle.rules.proofs.Outcomes.Linked.{finished, raises}
-use Rattle.rules.proofs.Outcomes.Outcome.{joining, ending}
-use Rattle.rules.proofs.Writes.{linking-kept, linking-takes, linking-stays, raising-unlinked}
-use Rattle.rules.proofs.Steps.{linked-event, ends-two, finding-exchange}
+use Rattle.rules.proofs.Stages.{Moment, Finding, Linked, Searching, ReadingRanks, Linking, Raising}
+use Rattle.rules.proofs.Stages.{restart-knows, linked-later}
+use Rattle.rules.proofs.Outcomes.{afterGrant, united, united-merged, Unlinked, Afterwards, Outcome, Present}
+use Rattle.rules.proofs.Outcomes.{unchanged, grant-onward, goes-on, tidies-on}
+use Rattle.rules.proofs.Outcomes.Afterwards.{finished, continuing}
+use Rattle.rules.proofs.Outcomes.Outcome.{joining, tidying}
+use Rattle.rules.proofs.Writes.{linking-kept, linking-takes, linking-below, linking-lower, raising-unlinked}
+use Rattle.rules.proofs.Steps.{ends-two, finding-exchange}
 
 module _ {n : ℕ} {m : Moment n} {q : Request} (present : Present m q) (k : Task) where
   abbrev t : List Node
@@ -42,6 +47,11 @@ module _ {n : ℕ} {m : Moment n} {q : Request} (present : Present m q) (k : Tas
 
   abbrev Gives : List Node → Stage → Advanced → Type 0
   Gives t′ st a = Outcome m t′ q st a
+
+  -- the find after the link starts at x
+  tidying-knows : {m′ : Moment n} → Linked n (m′ .table) (m′ .labels) q (k .x) (k .y) → Searching m′ q (tidyUp k .task) Tidy ReadNode
+  tidying-knows a =
+      record { pair = record { left = a .left; right = a .left; kind = a .kind; lower = a .lower; same = refl }; find = tt }
 
   -- ---- the two ranks
 
@@ -97,16 +107,25 @@ module _ {n : ℕ} {m : Moment n} {q : Request} (present : Present m q) (k : Tas
             labels = merged-ends (united-merged m q) (k .x) (k .y) (a .finding .ends);
           }
 
-      -- where the ranks read were equal, y's rank may be raised
-      to-raise : Raising (afterGrant m (stored t (k .x) r (k .y)) (united m q)) q (k .y) r
-      to-raise =
-          let stays = linking-stays m (present .nodes) (present .sound) may-link (k .y) in
+      -- x is no root any more, and in y's set
+      has-linked : Linked n (stored t (k .x) r (k .y)) (united m q) q (k .x) (k .y)
+      has-linked =
+          let below = linking-below m (present .nodes) (present .sound) may-link in
+          let kept = linking-kept m (present .nodes) (present .sound) may-link in
           record {
-            node = a .finding .right;
+            left = a .finding .left;
+            right = a .finding .right;
             kind = a .finding .kind;
-            rank = omega (arith, a .before, a .finding .left, a .finding .right, present .sound .formed .limit, stays);
-            weight = linking.linking-weight (present .sound) may-link;
+            lower = linking-lower m (present .nodes) (present .sound) may-link;
+            same = sym (ap (united m q) below) ∙ kept .sound .labelled .along (k .x) (a .finding .left);
           }
+
+      -- where the ranks read were equal, y's rank may be raised; else the find from x starts
+      after : (e : Bool) → Afterwards m (stored t (k .x) r (k .y)) (united m q) q (linked k r e (suc (m .now)))
+      after true =
+          continuing refl (record { busy = refl; linked = refl; unpending = refl })
+          (λ at. record { linked = has-linked; weight = linking.linking-weight (present .sound) may-link })
+      after false = continuing refl (record { busy = refl; linked = refl; unpending = refl }) (λ at. tidying-knows has-linked)
 
       link-written : (e : Bool) → Gives (stored t (k .x) r (k .y)) (Link r e) (linked k r e (suc (m .now)))
       link-written e =
@@ -115,15 +134,11 @@ module _ {n : ℕ} {m : Moment n} {q : Request} (present : Present m q) (k : Tas
             roots = linking-takes m (present .nodes) (present .sound) may-link;
             unraised = refl;
             kind = a .finding .kind;
-            linked = linked-event k r e (suc (m .now)) .linked;
-            point = linked-event k r e (suc (m .now)) .point;
+            linked = refl;
+            point = refl;
             two-sets = ends-two (a .finding .ends) (linking.linking-apart (present .sound) may-link);
             after = after e;
           })
-        where
-          after : (e : Bool) → Linked m (stored t (k .x) r (k .y)) q (linked k r e (suc (m .now)))
-          after true = raises r refl refl to-raise
-          after false = finished refl refl
 
     pub link-x : (e : Bool) → Gives (touched t (Cas (k .x) (record { rank = r; parent = k .x }) (record { rank = r; parent = k .y })))
         (Link r e) (link k r e (at t (k .x)) (suc (m .now)))
@@ -132,26 +147,52 @@ module _ {n : ℕ} {m : Moment n} {q : Request} (present : Present m q) (k : Tas
         (λ s. rw s (link-written s e))
         (λ s. rw s (goes-on (Link r e) k (restart Union) true false refl refl (unchanged present) (restart-knows Union k (a .finding))))
 
-  -- ---- the raise
+  -- ---- the raises
 
-  module _ (r : ℕ) (a : Raising m q (k .y) r) where
-    -- whether the swap wrote or not, the union is finished
-    raise-ends : {t′ : List Node} (w : Node) → Unlinked m t′ → Gives t′ (Raise r) (raise k r w)
-    raise-ends w table =
-        ending (record { table = table; raised = refl; kind = a .kind; unlinked = refl; answer = refl; unplaced = refl; rests = refl })
-
-    may-raise : same (at t (k .y)) (record { rank = r; parent = k .y }) ≡ true → raising.Raising n (parent t) (rank t) (m .labels) (k .y) r
+  module _ (r : ℕ) (a : Raising m q (k .x) (k .y) r) where
+    may-raise : same (at t (k .y)) (record { rank = r; parent = k .y }) ≡ true → forest.Raising n (parent t) (rank t) (m .labels) (k .y) r
     may-raise found =
         record {
-          node = a .node;
+          node = a .linked .right;
           root = found-parent t (k .y) (record { rank = r; parent = k .y }) found;
           rank = sym (found-rank t (k .y) (record { rank = r; parent = k .y }) found);
           weight = a .weight;
         }
 
-    pub raise-y : (w : Node) → Gives (touched t (Cas (k .y) (record { rank = r; parent = k .y }) (record { rank = r + 1; parent = k .y })))
-        (Raise r) (raise k r w)
-    raise-y w =
+    -- whether the swap wrote or not, the sets stay
+    raise-unlinked : Unlinked m (touched t (raising (k .y) r))
+    raise-unlinked =
         split (same (at t (k .y)) (record { rank = r; parent = k .y }))
-        (λ s. rw s (raise-ends w (raising-unlinked m (present .nodes) (present .sound) (may-raise s))))
-        (λ s. rw s (raise-ends w (unchanged present)))
+        (λ s. rw s (raising-unlinked m (present .nodes) (present .sound) (may-raise s)))
+        (λ s. rw s (unchanged present))
+
+    -- the find from x follows,
+    pub raise-y : (w : Node) → Gives (touched t (raising (k .y) r)) (Raise r) (raise k r w)
+    raise-y w =
+        tidies-on (Raise r) (tidyUp k .task) (Find Tidy ReadNode) _ refl (record { busy = refl; linked = refl; unpending = refl })
+        raise-unlinked (a .linked .kind)
+        (λ at. tidying-knows (linked-later (grant-onward raise-unlinked) (present .inside) (a .linked)))
+
+    -- or the union is finished
+    pub raise-found : (w : Node) → Gives (touched t (raising (k .y) r)) (RaiseFound r) (raiseFound k r w)
+    raise-found w =
+        tidying (record {
+          table = raise-unlinked;
+          raised = refl;
+          kind = a .linked .kind;
+          unlinked = refl;
+          unplaced = refl;
+          after = finished refl refl;
+        })
+
+  -- ---- the rank of the x that was linked
+
+  -- no root, it is in a set of the nodes that one rank more asks for, and so is y
+  pub read-rank-linked : Linked n t (m .labels) q (k .x) (k .y) → Gives t ReadRankLinked (goOn k (RaiseFound (rank t (k .x))))
+  read-rank-linked a =
+      tidies-on ReadRankLinked k (RaiseFound (rank t (k .x))) false refl (record { busy = refl; linked = refl; unpending = refl })
+      (unchanged present) (a .kind)
+      (λ at. record {
+        linked = a;
+        weight = rw (a .same) (present .sound .heavy .lower (k .x) (a .left) (a .lower));
+      })

@@ -1,8 +1,9 @@
 -- The three writes of the table, on its words: what the forest says of parents and ranks, said of a word that is stored.
 --
--- Laws: find-unlinked and raising-unlinked, the sets stay and no root is lost; linking-kept, linking-takes and
--- linking-stays, two sets become one, one root is lost and every rank stays.
-use mathlib.Core.Path.{_≡_, sym, _∙_, subst}
+-- Laws: find-unlinked and raising-unlinked, the sets stay and no root is lost; linking-kept and linking-takes, two sets become
+-- one, and one root is lost; linking-below and linking-lower, the node linked has its new parent, and is no root.
+use mathlib.Core.Path.{_≡_, refl, sym, _∙_, subst}
+use mathlib.Core.Logic.{_≢_}
 use mathlib.Core.List.{List}
 use Prim.Native.Nat.{ℕ, suc, _+_}
 use native.Mathlib.Omega.{arith}
@@ -12,7 +13,7 @@ use Rattle.forest.specs.Forest.{rootCount}
 use Rattle.forest.proofs.Sound.{Sound}
 use Rattle.forest.proofs.Writes.{Changed}
 use Rattle.forest.proofs.Halving.{Halving, halving-sound}
-use Rattle.forest.proofs.Linking.{Linking, linking-sound, linking-ranks}
+use Rattle.forest.proofs.Linking.{Linking, linking-sound, linking-other}
 use Rattle.forest.proofs.Raising.{Raising, raising-sound}
 use Rattle.forest.proofs.Later.{halving-later, linking-later, raising-later}
 use Rattle.forest.proofs.Roots.{halving-roots, linking-roots, raising-roots}
@@ -67,5 +68,8 @@ module _ {n : ℕ} (m : Moment n) (nodes : length (m .table) ≡ n)
     pub linking-takes : suc (rootCount (parent (stored t x k y)) n) ≡ rootCount (parent t) n
     linking-takes = linking-roots sound linking parents ranks
 
-    pub linking-stays : (i : ℕ) → rank (stored t x k y) i ≡ rank t i
-    linking-stays = linking-ranks sound linking parents ranks
+    pub linking-below : parent (stored t x k y) x ≡ y
+    linking-below = parents .at
+
+    pub linking-lower : parent (stored t x k y) x ≢ x
+    linking-lower root = linking-other sound linking parents ranks x root refl

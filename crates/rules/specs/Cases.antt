@@ -1,4 +1,5 @@
--- Document 01, "Played cases": the starred ones, and what the rules leave of each, as one table.
+-- Document 01, "Played cases": the starred ones, replayed with document 02's longer union (A2), and what the rules leave of
+-- each, as one table.
 --
 --   Case        a job, cut where the case cuts it, with what is expected of it
 --   Outcome     table as words, report, line-up and tally
@@ -43,7 +44,7 @@ shown qs S = record { words = map encode (S .table); report = S .report; entries
 abbrev pub outcome : Case → Outcome
 outcome c = shown (c .requests) (run (c .requests) (start (c .requests) (c .heads) (fresh (c .nodes))) (c .schedule))
 
--- What document 01 says of it.
+-- What the documents say of it.
 abbrev pub wanted : Case → Outcome
 wanted c = c .expected
 
@@ -67,8 +68,8 @@ entry point request = record { point = point; request = request }
 abbrev pub tally : ℕ → ℕ → ℕ → ℕ → Tally
 tally idle failed links working = record { idle = idle; failed = failed; links = links; working = working }
 
--- The starred cases in document 01's order; after them schedules that reach what the starred ones do not: wrong links
--- that make a cycle, swaps that fail, ranks above 0.
+-- The starred cases in document 01's order, each with what document 02 makes of it; after them schedules that reach what they
+-- do not: wrong links that make a cycle, swaps that fail, ranks above 0, unions whose last swap writes.
 abbrev pub cases : List Case
 cases =
     -- One place, union 0 0, two grants: already together; point 2.
@@ -99,7 +100,7 @@ cases =
       };
     }
     ∷
-    -- Two places, union 0 1, six grants: words 1 and 65,537; joined, point 5.
+    -- Two places, union 0 1, six grants: words 1 and 65,537; linked, point 5. (02) It is not finished yet.
     record {
       nodes = 2;
       heads = 1;
@@ -107,9 +108,9 @@ cases =
       schedule = replicate 6 0;
       expected = record {
         words = 1 ∷ 65537 ∷ [];
-        report = row 1 1 6 6 ∷ [];
+        report = row 0 1 0 6 ∷ [];
         entries = entry 5 0 ∷ [];
-        tally = tally 0 0 1 0;
+        tally = tally 0 0 1 1;
       };
     }
     ∷
@@ -141,6 +142,62 @@ cases =
       };
     }
     ∷
+    -- (02) After twelve: all but its last swap.
+    record {
+      nodes = 2;
+      heads = 1;
+      requests = union 0 0 1 ∷ [];
+      schedule = replicate 12 0;
+      expected = record {
+        words = 1 ∷ 65537 ∷ [];
+        report = row 0 1 0 12 ∷ [];
+        entries = entry 5 0 ∷ [];
+        tally = tally 0 0 1 1;
+      };
+    }
+    ∷
+    -- (02) A union 0 1 alone on two places takes 13 grants, the last a failed swap.
+    record {
+      nodes = 2;
+      heads = 1;
+      requests = union 0 0 1 ∷ [];
+      schedule = replicate 13 0;
+      expected = record {
+        words = 1 ∷ 65537 ∷ [];
+        report = row 1 1 13 13 ∷ [];
+        entries = entry 5 0 ∷ [];
+        tally = tally 0 1 1 0;
+      };
+    }
+    ∷
+    -- A further grant is idle.
+    record {
+      nodes = 2;
+      heads = 1;
+      requests = union 0 0 1 ∷ [];
+      schedule = replicate 14 0;
+      expected = record {
+        words = 1 ∷ 65537 ∷ [];
+        report = row 1 1 13 13 ∷ [];
+        entries = entry 5 0 ∷ [];
+        tally = tally 1 1 1 0;
+      };
+    }
+    ∷
+    -- Union 1 0: the x that was linked is 0, after the exchange.
+    record {
+      nodes = 2;
+      heads = 1;
+      requests = union 0 1 0 ∷ [];
+      schedule = replicate 13 0;
+      expected = record {
+        words = 1 ∷ 65537 ∷ [];
+        report = row 1 1 13 13 ∷ [];
+        entries = entry 5 0 ∷ [];
+        tally = tally 0 1 1 0;
+      };
+    }
+    ∷
     -- Two places, same-set 0 1 alone: no, three grants, point 2.
     record {
       nodes = 2;
@@ -163,14 +220,27 @@ cases =
       schedule = replicate 2 1 ++ replicate 6 0 ++ replicate 7 1;
       expected = record {
         words = 1 ∷ 65537 ∷ [];
-        report = row 1 3 8 6 ∷ row 3 1 15 9 ∷ [];
+        report = row 0 3 0 6 ∷ row 3 1 15 9 ∷ [];
         entries = entry 7 0 ∷ entry 15 1 ∷ [];
-        tally = tally 0 0 1 0;
+        tally = tally 0 0 1 1;
       };
     }
     ∷
-    -- Two places, two heads, both union 0 1: head 0 joined at 9, ends at 11; head 1 has one failed swap, already
-    -- together.
+    -- (02) The same, with the grants that the union still needs.
+    record {
+      nodes = 2;
+      heads = 2;
+      requests = union 0 0 1 ∷ sameSet 1 0 1 ∷ [];
+      schedule = replicate 2 1 ++ replicate 6 0 ++ replicate 7 1 ++ replicate 7 0;
+      expected = record {
+        words = 1 ∷ 65537 ∷ [];
+        report = row 1 3 22 13 ∷ row 3 1 15 9 ∷ [];
+        entries = entry 7 0 ∷ entry 15 1 ∷ [];
+        tally = tally 0 1 1 0;
+      };
+    }
+    ∷
+    -- Two places, two heads, both union 0 1: head 0 linked at 9; head 1 has one failed swap, already together.
     record {
       nodes = 2;
       heads = 2;
@@ -178,9 +248,24 @@ cases =
       schedule = replicate 4 0 ++ replicate 4 1 ++ replicate 1 0 ++ replicate 1 1 ++ replicate 1 0 ++ replicate 6 1;
       expected = record {
         words = 1 ∷ 65537 ∷ [];
-        report = row 1 1 11 6 ∷ row 2 5 17 11 ∷ [];
+        report = row 0 1 0 6 ∷ row 2 5 17 11 ∷ [];
         entries = entry 9 0 ∷ entry 17 1 ∷ [];
-        tally = tally 0 1 1 0;
+        tally = tally 0 1 1 1;
+      };
+    }
+    ∷
+    -- (02) The same, with the grants that head 0 still needs.
+    record {
+      nodes = 2;
+      heads = 2;
+      requests = union 0 0 1 ∷ union 1 0 1 ∷ [];
+      schedule = replicate 4 0 ++ replicate 4 1 ++ replicate 1 0 ++ replicate 1 1 ++ replicate 1 0 ++ replicate 6 1
+          ++ replicate 7 0;
+      expected = record {
+        words = 1 ∷ 65537 ∷ [];
+        report = row 1 1 24 13 ∷ row 2 5 17 11 ∷ [];
+        entries = entry 9 0 ∷ entry 17 1 ∷ [];
+        tally = tally 0 2 1 0;
       };
     }
     ∷
@@ -198,7 +283,7 @@ cases =
       };
     }
     ∷
-    -- The program's job of 38 bytes.
+    -- The program's job of 38 bytes: (02) request 0 becomes unfinished and one head has work left.
     record {
       nodes = 4;
       heads = 2;
@@ -206,98 +291,153 @@ cases =
       schedule = replicate 2 1 ++ replicate 6 0 ++ replicate 1 1;
       expected = record {
         words = 0 ∷ 1 ∷ 3 ∷ 65539 ∷ [];
-        report = row 1 3 8 6 ∷ row 4 1 9 3 ∷ [];
+        report = row 0 3 0 6 ∷ row 4 1 9 3 ∷ [];
         entries = entry 2 1 ∷ entry 7 0 ∷ [];
-        tally = tally 0 0 1 0;
+        tally = tally 0 0 1 1;
       };
     }
     ∷
-    -- Not of document 01: a link that stores y's rank, as the paper prints it, makes a cycle here.
+    -- Of no document: a link that stores y's rank, as the paper prints it, makes a cycle here.
     record {
       nodes = 3;
       heads = 2;
       requests = union 0 0 1 ∷ union 0 2 1 ∷ union 1 1 2 ∷ [];
-      schedule = replicate 6 0 ++ replicate 2 1 ++ replicate 5 0 ++ replicate 3 1;
+      schedule = replicate 13 0 ++ replicate 2 1 ++ replicate 5 0 ++ replicate 3 1;
       expected = record {
         words = 1 ∷ 65537 ∷ 1 ∷ [];
-        report = row 1 1 6 6 ∷ row 1 9 13 5 ∷ row 0 7 0 5 ∷ [];
-        entries = entry 5 0 ∷ entry 13 1 ∷ [];
-        tally = tally 0 1 2 1;
+        report = row 1 1 13 13 ∷ row 0 16 0 5 ∷ row 0 14 0 5 ∷ [];
+        entries = entry 5 0 ∷ entry 20 1 ∷ [];
+        tally = tally 0 2 2 2;
       };
     }
     ∷
-    -- Not of document 01: a link that does not compare x's rank makes a cycle here.
+    -- Of no document: a link that does not compare x's rank makes a cycle here.
     record {
       nodes = 3;
       heads = 2;
       requests = union 0 0 1 ∷ union 0 2 1 ∷ union 1 1 2 ∷ [];
-      schedule = replicate 4 1 ++ replicate 11 0 ++ replicate 1 1;
+      schedule = replicate 4 1 ++ replicate 18 0 ++ replicate 1 1;
       expected = record {
         words = 1 ∷ 65537 ∷ 1 ∷ [];
-        report = row 1 5 10 6 ∷ row 1 11 15 5 ∷ row 0 1 0 5 ∷ [];
-        entries = entry 9 0 ∷ entry 15 1 ∷ [];
-        tally = tally 0 1 2 1;
+        report = row 1 5 17 13 ∷ row 0 18 0 5 ∷ row 0 1 0 5 ∷ [];
+        entries = entry 9 0 ∷ entry 22 1 ∷ [];
+        tally = tally 0 2 2 2;
       };
     }
     ∷
-    -- The same, played on: request 2 is already together at 22, after eleven grants.
+    -- The same, played on: request 2 is already together at 29, after eleven grants.
     record {
       nodes = 3;
       heads = 2;
       requests = union 0 0 1 ∷ union 0 2 1 ∷ union 1 1 2 ∷ [];
-      schedule = replicate 4 1 ++ replicate 11 0 ++ replicate 7 1;
+      schedule = replicate 4 1 ++ replicate 18 0 ++ replicate 7 1;
       expected = record {
         words = 1 ∷ 65537 ∷ 1 ∷ [];
-        report = row 1 5 10 6 ∷ row 1 11 15 5 ∷ row 2 1 22 11 ∷ [];
-        entries = entry 9 0 ∷ entry 15 1 ∷ entry 22 2 ∷ [];
-        tally = tally 0 1 2 0;
+        report = row 1 5 17 13 ∷ row 0 18 0 5 ∷ row 2 1 29 11 ∷ [];
+        entries = entry 9 0 ∷ entry 22 1 ∷ entry 29 2 ∷ [];
+        tally = tally 0 2 2 1;
       };
     }
     ∷
-    -- Not of document 01: an idle grant, a rank swap that fails, a link of a node of rank 1, equal ranks with the
+    -- Of no document: an idle grant, a rank swap that fails at 33, a link of a node of rank 1 at 49, equal ranks with the
     -- lower number second.
     record {
       nodes = 6;
       heads = 2;
       requests = union 1 3 5 ∷ union 0 0 1 ∷ union 0 5 4 ∷ union 0 3 1 ∷ [];
-      schedule = replicate 2 0 ++ replicate 1 1 ++ replicate 3 0 ++ replicate 2 1 ++ replicate 1 0 ++ replicate 1 1
-          ++ replicate 3 0 ++ replicate 3 1 ++ replicate 13 0;
+      schedule = replicate 16 0 ++ replicate 14 1 ++ replicate 19 0;
       expected = record {
-        words = 1 ∷ 65541 ∷ 2 ∷ 5 ∷ 5 ∷ 131077 ∷ [];
-        report = row 1 3 15 6 ∷ row 1 1 9 6 ∷ row 1 11 19 6 ∷ row 1 20 29 10 ∷ [];
-        entries = entry 6 1 ∷ entry 14 0 ∷ entry 18 2 ∷ entry 28 3 ∷ [];
-        tally = tally 1 1 4 0;
+        words = 1 ∷ 65541 ∷ 2 ∷ 5 ∷ 5 ∷ 65541 ∷ [];
+        report = row 1 17 29 13 ∷ row 1 1 13 13 ∷ row 1 14 40 13 ∷ row 0 41 0 9 ∷ [];
+        entries = entry 5 1 ∷ entry 21 0 ∷ entry 32 2 ∷ entry 49 3 ∷ [];
+        tally = tally 1 4 4 1;
       };
     }
     ∷
-    -- Not of document 01: two halvings and a link that fail.
+    -- Of no document: a rank swap that fails at 33, a link at 37, a halving of the find after the link at 42.
     record {
       nodes = 4;
       heads = 2;
       requests = union 0 2 3 ∷ union 1 2 1 ∷ sameSet 1 1 0 ∷ union 0 0 3 ∷ union 0 1 3 ∷ [];
-      schedule = replicate 3 0 ++ replicate 1 1 ++ replicate 5 0 ++ replicate 2 1 ++ replicate 1 0 ++ replicate 1 1
-          ++ replicate 3 0 ++ replicate 1 1 ++ replicate 6 0 ++ replicate 2 1 ++ replicate 1 0 ++ replicate 9 1;
+      schedule = replicate 2 1 ++ replicate 27 0 ++ replicate 5 1 ++ replicate 6 0 ++ replicate 6 1;
       expected = record {
         words = 3 ∷ 3 ∷ 3 ∷ 65539 ∷ [];
-        report = row 1 1 7 6 ∷ row 1 4 24 6 ∷ row 3 25 35 10 ∷ row 1 8 15 5 ∷ row 0 16 0 8 ∷ [];
-        entries = entry 6 0 ∷ entry 15 3 ∷ entry 17 1 ∷ entry 35 2 ∷ [];
-        tally = tally 0 3 3 1;
+        report = row 1 3 15 13 ∷ row 1 1 46 13 ∷ row 0 0 0 0 ∷ row 1 16 27 12 ∷ row 0 28 0 8 ∷ [];
+        entries = entry 7 0 ∷ entry 20 3 ∷ entry 32 1 ∷ [];
+        tally = tally 0 6 3 2;
       };
     }
     ∷
-    -- Not of document 01: a link that fails after an exchange and is tried again; a parent that moves between the
-    -- two reads of t.
+    -- Of no document: a link that fails after an exchange and is tried again at 35; a parent that moves between the two
+    -- reads of t at 37 and 40.
     record {
       nodes = 6;
       heads = 2;
       requests = union 1 3 1 ∷ union 0 3 0 ∷ union 0 2 1 ∷ union 0 2 3 ∷ [];
-      schedule = replicate 8 0 ++ replicate 3 1 ++ replicate 5 0 ++ replicate 2 1 ++ replicate 1 0 ++ replicate 2 1
-          ++ replicate 3 0 ++ replicate 4 1;
+      schedule = replicate 4 1 ++ replicate 30 0 ++ replicate 3 1 ++ replicate 1 0 ++ replicate 4 1;
       expected = record {
         words = 3 ∷ 2 ∷ 65539 ∷ 65539 ∷ 4 ∷ 5 ∷ [];
-        report = row 2 9 28 11 ∷ row 1 1 6 6 ∷ row 1 7 15 6 ∷ row 0 16 0 5 ∷ [];
-        entries = entry 5 1 ∷ entry 14 2 ∷ entry 24 3 ∷ entry 28 0 ∷ [];
-        tally = tally 0 1 3 1;
+        report = row 2 1 42 11 ∷ row 1 5 17 13 ∷ row 1 18 30 13 ∷ row 0 31 0 5 ∷ [];
+        entries = entry 9 1 ∷ entry 22 2 ∷ entry 38 3 ∷ entry 42 0 ∷ [];
+        tally = tally 0 3 3 1;
+      };
+    }
+    ∷
+    -- Of no document: two halvings that fail, in a find from x at 43 and in the find after a link at 53; a root of rank 2.
+    record {
+      nodes = 5;
+      heads = 3;
+      requests = union 0 3 4 ∷ union 1 4 1 ∷ union 1 2 3 ∷ union 0 2 3 ∷ union 2 2 1 ∷ [];
+      schedule = replicate 9 1 ++ replicate 2 0 ++ replicate 11 1 ++ replicate 12 0 ++ replicate 7 2 ++ replicate 10 0
+          ++ replicate 7 1;
+      expected = record {
+        words = 0 ∷ 4 ∷ 4 ∷ 65540 ∷ 131076 ∷ [];
+        report = row 1 10 33 13 ∷ row 1 1 15 13 ∷ row 1 16 57 13 ∷ row 2 34 50 10 ∷ row 0 35 0 7 ∷ [];
+        entries = entry 5 1 ∷ entry 20 2 ∷ entry 25 0 ∷ entry 50 3 ∷ [];
+        tally = tally 2 5 3 1;
+      };
+    }
+    ∷
+    -- (02) The last swap of a union writes at 18: the find after its link has ended at a root that nobody has raised,
+    -- and that the linked 0 is below.
+    record {
+      nodes = 3;
+      heads = 2;
+      requests = union 1 2 1 ∷ union 0 1 0 ∷ [];
+      schedule = replicate 2 1 ++ replicate 5 0 ++ replicate 3 1 ++ replicate 8 0;
+      expected = record {
+        words = 2 ∷ 2 ∷ 65538 ∷ [];
+        report = row 0 1 0 5 ∷ row 1 3 18 13 ∷ [];
+        entries = entry 7 1 ∷ entry 10 0 ∷ [];
+        tally = tally 0 1 2 1;
+      };
+    }
+    ∷
+    -- One grant earlier.
+    record {
+      nodes = 3;
+      heads = 2;
+      requests = union 1 2 1 ∷ union 0 1 0 ∷ [];
+      schedule = replicate 2 1 ++ replicate 5 0 ++ replicate 3 1 ++ replicate 7 0;
+      expected = record {
+        words = 2 ∷ 2 ∷ 2 ∷ [];
+        report = row 0 1 0 5 ∷ row 0 3 0 12 ∷ [];
+        entries = entry 7 1 ∷ entry 10 0 ∷ [];
+        tally = tally 0 1 2 2;
+      };
+    }
+    ∷
+    -- (02) A union of unequal ranks has no rank swap, and tidies up too: twelve grants.
+    record {
+      nodes = 3;
+      heads = 1;
+      requests = union 0 0 1 ∷ union 0 2 1 ∷ [];
+      schedule = replicate 25 0;
+      expected = record {
+        words = 1 ∷ 65537 ∷ 1 ∷ [];
+        report = row 1 1 13 13 ∷ row 1 14 25 12 ∷ [];
+        entries = entry 5 0 ∷ entry 18 1 ∷ [];
+        tally = tally 0 2 2 0;
       };
     }
     ∷ []

@@ -4,7 +4,7 @@ use Rattle.job.specs.declared.Request.{Request}
 use Rattle.process.specs.declared.Step.{Step}
 use Rattle.process.specs.declared.Step.the-variants.{ReadNode, ReadParent, Halve, ReadAgain}
 use Rattle.process.specs.declared.Stage.{Stage}
-use Rattle.process.specs.declared.Stage.the-variants.{Resting, Find, RereadX, ReadRankX, ReadRankY, Link, Raise}
+use Rattle.process.specs.declared.Stage.the-variants.{Resting, Find, RereadX, ReadRankX, ReadRankY, Link, Raise, ReadRankLinked, RaiseFound}
 use Rattle.process.specs.declared.Task.{Task}
 use Rattle.process.specs.Find.{findAccess}
 use Rattle.process.specs.Access.{accessAt}
@@ -22,9 +22,11 @@ find-within n p r B v node (ReadAgain t) a = a .node
 module _ {n : ℕ} (m : Moment n) (q : Request) (k : Task) where
   pub access-within : (stage : Stage) → Knows m q k stage → Within n (accessAt k stage)
   access-within Resting a = a
-  access-within (Find e s) a = find-within n (parent (m .table)) (rank (m .table)) (m .labels) _ (find-node k (a .finding) e) s (a .find)
+  access-within (Find e s) a = find-within n (parent (m .table)) (rank (m .table)) (m .labels) _ (find-node a) s (a .find)
   access-within (RereadX point) a = a .finding .left
   access-within ReadRankX a = a .finding .left
   access-within (ReadRankY rank) a = a .finding .right
   access-within (Link rank e) a = a .finding .left
-  access-within (Raise rank) a = a .node
+  access-within (Raise rank) a = a .linked .right
+  access-within ReadRankLinked a = a .left
+  access-within (RaiseFound rank) a = a .linked .right

@@ -15,16 +15,18 @@ use process::finding::reread;
 use process::finding::retry;
 use process::joining::link;
 use process::joining::raise;
+use process::joining::raise_found;
 use process::joining::rank_both;
 use word::Node;
 use word::Word;
 ghost use mathlib.Core.Path.{_≡_};
 ghost use mathlib.Core.List.{map};
-ghost use Rattle.word.specs.Word.{decode, encode};
+ghost use Prim.Native.Nat.{_+_, _<_};
+ghost use Rattle.word.specs.Word.{rankLimit, decode, encode};
 ghost use Rattle.process.specs.declared.Access.the-variants.{Load, Cas};
 ghost use Rattle.process.specs.Process.{Raisable, nodeAt};
 ghost use Rattle.process.specs.Find.{findAccess, walked};
-ghost use Rattle.process.specs.Access.{accessOf};
+ghost use Rattle.process.specs.Access.{raising, accessOf};
 ghost use Rattle.process.specs.Advance.{followed, advanceOf};
 ghost use Rattle.rules.specs.Table.{seen, touched};
 ghost use Rattle.table.specs.Touch.{Touchable};
@@ -49,6 +51,20 @@ fn swap(table: &mut [Word], node: u16, expected: Node, new: Node) -> Node
         table[at] = word::encoded(new);
     }
     found
+}
+
+// The swap that raises a root from this rank to one more, if it is still a root of this rank.
+fn raise_root(table: &mut [Word], node: u16, rank: u8) -> Node
+    requires { ⌜ Touchable (map decode (now table)) (raising node rank) ⌝ }
+    requires { ⌜ rank + 1 < rankLimit ⌝ }
+    ensures sees { λ r. ⌜ r ≡ seen (map decode (now (table .entry))) (raising node rank) ⌝ }
+    ensures leaves { λ _. ⌜ now (table .exit) ≡ map encode (touched (map decode (now (table .entry))) (raising node rank)) ⌝ }
+{
+    let higher = Node {
+        rank: rank + 1,
+        parent: node,
+    };
+    swap(table, node, Node { rank, parent: node }, higher)
 }
 
 // One step of a find on its errand: the one access, and where that leads.
@@ -121,17 +137,11 @@ pub fn stepped(table: &mut [Word], head: Head, number: u32) -> Advanced
             let seen = swap(table, x, Node { rank, parent: x }, Node { rank, parent: y });
             link(task, rank, equal, seen, number)
         }
-        Stage::Raise(rank) => {
-            let seen = swap(
-                table,
-                y,
-                Node { rank, parent: y },
-                Node {
-                    rank: rank + 1,
-                    parent: y,
-                },
-            );
-            raise(task, rank, seen)
+        Stage::Raise(rank) => raise(task, rank, raise_root(table, y, rank)),
+        Stage::ReadRankLinked => {
+            let seen = load(table, x);
+            go_on(task, Stage::RaiseFound(seen.rank))
         }
+        Stage::RaiseFound(rank) => raise_found(task, rank, raise_root(table, y, rank)),
     }
 }

@@ -33,8 +33,11 @@ read-rank-y c = c .before .before
 abbrev link : tie.After-swap-arg → tie.After-stage4
 link c = c .before .before
 
-abbrev raise : tie.After-swap-arg2 → tie.After-stage5
+abbrev raise : tie.After-raise-root-arg → tie.After-stage5
 raise c = c .before .before
+
+abbrev raise-found : tie.After-raise-root-arg2 → tie.After-stage6
+raise-found c = c .before .before
 
 walk-requires : tie.Need-walk-requires
 walk-requires c κs = let arm = find c in able (arm .before .before) (arm .stage .given .1)
@@ -51,11 +54,20 @@ load-requires-3 c κs = let arm = read-rank-y c in able (arm .before .before) (a
 swap-requires : tie.Need-swap-requires
 swap-requires c κs = let arm = link c in able (arm .before .before) (arm .stage4 .given .1)
 
-add-t38 : tie.Need-add-t38
-add-t38 c = let arm = raise c in omega (arith, rw (arm .stage5 .given .1) at (start (arm .before .before) .pre .1))
+raise-root-requires : tie.Need-raise-root-requires
+raise-root-requires c κs =
+    let arm = raise c in
+    let m = arm .before .before in
+    (able m (arm .stage5 .given .1), omega (arith, rw (arm .stage5 .given .1) at (start m .pre .1)))
 
-swap-requires-2 : tie.Need-swap-requires-2
-swap-requires-2 c κs = let arm = raise c in able (arm .before .before) (arm .stage5 .given .1)
+load-requires-4 : tie.Need-load-requires-4
+load-requires-4 c κs = let arm = c .before in able (arm .before .before) (arm .enum-told3 .given .1)
+
+raise-root-requires-2 : tie.Need-raise-root-requires-2
+raise-root-requires-2 c κs =
+    let arm = raise-found c in
+    let m = arm .before .before in
+    (able m (arm .stage6 .given .1), omega (arith, rw (arm .stage6 .given .1) at (start m .pre .1)))
 
 returns : tie.Need-returns
 returns c =
@@ -107,13 +119,30 @@ returns-7 c =
     let back = c .before .before in
     let arm = raise (back .before .before) in
     moves (now (start (arm .before .before) .args .table)) _ (arm .stage5 .given .1) _ _ _ _
-    (back .before .swap2 .ensures) (c .raise .ensures)
+    (back .before .raise-root .ensures) (c .raise .ensures)
+
+returns-8 : tie.Need-returns-8
+returns-8 c =
+    let loaded = c .before in
+    let arm = loaded .before .before in
+    let m = arm .before .before in
+    let able = able m (arm .enum-told3 .given .1) in
+    moves (now (start m .args .table)) _ (arm .enum-told3 .given .1) _ _ _ _
+    (sees-load _ (able .worded) _ (able .node) _ (loaded .load4 .ensures)) (c .go-on3 .ensures)
+
+returns-9 : tie.Need-returns-9
+returns-9 c =
+    let back = c .before .before in
+    let arm = raise-found (back .before .before) in
+    moves (now (start (arm .before .before) .args .table)) _ (arm .stage6 .given .1) _ _ _ _
+    (back .before .raise-root2 .ensures) (c .raise-found .ensures)
 
 pub stepped-spec : {M : Type 1} → statement M
 stepped-spec =
     tie.close (tie.spec (λ c. search needs) (λ c κs. search needs) (λ c. search needs) walk-requires (λ c. search needs)
     load-requires (λ c κs. search needs) (λ c. search needs) load-requires-2 (λ c κs. search needs) (λ c. search needs)
     load-requires-3 (λ c κs. search needs) (λ c. search needs) swap-requires (λ c κs. search needs) (λ c. search needs)
-    add-t38 swap-requires-2 (λ c κs. search needs) returns (λ c. search needs) returns-2 (λ c. search needs) returns-3
-    (λ c. search needs) returns-4 (λ c. search needs) returns-5 (λ c. search needs) returns-6 (λ c. search needs)
-    returns-7)
+    raise-root-requires (λ c κs. search needs) (λ c. search needs) load-requires-4 (λ c κs. search needs)
+    (λ c. search needs) raise-root-requires-2 (λ c κs. search needs) returns (λ c. search needs) returns-2
+    (λ c. search needs) returns-3 (λ c. search needs) returns-4 (λ c. search needs) returns-5 (λ c. search needs)
+    returns-6 (λ c. search needs) returns-7 (λ c. search needs) returns-8 (λ c. search needs) returns-9)

@@ -1,12 +1,10 @@
--- `joining::link_written`: the rank swap follows where the ranks were equal.
+-- `joining::linked`: the head after its link.
+use borrow.Author.Needs.{needs}
 use Rattle.process.proofs.joining.linked.Statement.{statement}
 use Rattle.process.proofs.joining.linked.Tie as tie
 
 returns : tie.Need-returns
-returns c = simp (c .if1 .taken)
-
-returns-2 : tie.Need-returns-2
-returns-2 c = simp (c .if1 .left)
+returns c = rw (c .after-link .ensures)
 
 pub linked-spec : {M : Type 1} → statement M
-linked-spec = tie.close (tie.spec returns returns-2)
+linked-spec = tie.close (tie.spec (λ c κs. search needs) returns)

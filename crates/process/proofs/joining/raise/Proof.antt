@@ -1,11 +1,11 @@
--- `joining::raise`: the swap failed where the word seen is not the expected one.
+-- `joining::raise`: the swap failed where the word seen is not the expected one; the find from x follows.
 use borrow.Author.Needs.{needs}
 use Rattle.process.proofs.joining.raise.Statement.{statement}
 use Rattle.process.proofs.joining.raise.Tie as tie
 
 returns : tie.Need-returns
-returns c = simp (c .is-same .ensures)
+returns c = simp (c .before .is-same .ensures, c .tidy-up .ensures)
 
 pub raise-spec : {M : Type 1} → statement M
 raise-spec =
-    tie.close (tie.spec (λ c κs. search needs) returns)
+    tie.close (tie.spec (λ c κs. search needs) (λ c κs. search needs) returns)
