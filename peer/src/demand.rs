@@ -1,14 +1,15 @@
-//! Holds a result against what document 01 demands of whole runs, sentence by sentence.
+//! Holds a result against what documents 01 and 02 demand of whole runs, sentence by sentence.
 //!
 //! A run is told by its trace of accesses. Nothing here knows the stages of a head: a link is
-//! known as a written swap of a root's word to another parent.
+//! known as a written swap of a root's word to another parent, and a union's tidying up by its last
+//! three accesses.
 
 use crate::head::{Access, Deed};
 use crate::job::{Job, Kind};
 use crate::numbers::answer;
 use crate::player::Outcome;
 use crate::replay::Book;
-use crate::word::{before, parent, rank};
+use crate::word::{before, parent, rank, word};
 
 /// `Err` has the sentence that does not hold.
 pub type Verdict = Result<(), &'static str>;
@@ -22,6 +23,7 @@ pub fn check(job: &Job, trace: &[Access], outcome: &Outcome) -> Verdict {
     run.tally()?;
     run.forest()?;
     run.entries()?;
+    run.tidied()?;
     run.points()?;
     run.real_time_order()?;
     run.replay()
@@ -35,7 +37,8 @@ fn hold(condition: bool, sentence: &'static str) -> Verdict {
 #[derive(Clone, Default)]
 struct Own {
     grants: Vec<u32>,
-    links: Vec<u32>,
+    accesses: Vec<Access>,
+    links: Vec<Access>,
 }
 
 /// A request's four report numbers.
@@ -67,8 +70,9 @@ impl<'a> Run<'a> {
         for access in trace {
             let own = &mut own[access.request];
             own.grants.push(access.grant);
+            own.accesses.push(*access);
             if access.wrote() && access.tries_link() {
-                own.links.push(access.grant);
+                own.links.push(*access);
             }
         }
         let numbers = |n: &[u32]| Numbers { answer: n[0], first: n[1], last: n[2], used: n[3] };
@@ -184,6 +188,26 @@ impl<'a> Run<'a> {
         Ok(())
     }
 
+    /// A union that joined has at last read a root above the node that it linked, then that node,
+    /// and tried to raise the root from that node's rank to one more.
+    fn tidied(&self) -> Verdict {
+        let joined = |row: &(&Own, &Numbers)| row.1.answer == answer::JOINED;
+        for (own, _) in self.own.iter().zip(&self.report).filter(joined) {
+            let ([link], [.., end, of_linked, last]) = (&own.links[..], &own.accesses[..]) else {
+                return Err("a union that joined has linked and tidied up");
+            };
+            let read_linked = of_linked.deed == Deed::Read && of_linked.node == link.node;
+            hold(read_linked, "a union reads the linked node before its last swap")?;
+            let read_root = end.deed == Deed::Read && parent(end.seen) == end.node;
+            hold(read_root && end.node == last.node, "its last swap is of a root that it met")?;
+            let (from, root) = (rank(of_linked.seen), end.node);
+            let raise = Deed::Swap { expected: word(from, root), new: word(from + 1, root) };
+            hold(last.deed == raise, "its last swap is from the linked node's rank to one more")?;
+            hold(self.root(root) == self.root(link.node), "the root is above the linked node")?;
+        }
+        Ok(())
+    }
+
     /// Points rise, lie within their requests and are where document 01 puts them.
     fn points(&self) -> Verdict {
         let rising = self.lineup.windows(2).all(|pair| pair[0].point < pair[1].point);
@@ -193,7 +217,7 @@ impl<'a> Run<'a> {
             let grants = &own.grants;
             hold(grants.binary_search(&entry.point).is_ok(), "a point is a grant of its request")?;
             let place = match self.report[entry.request].answer {
-                answer::UNFINISHED | answer::JOINED => own.links.last(),
+                answer::UNFINISHED | answer::JOINED => own.links.last().map(|link| &link.grant),
                 answer::NO => grants.iter().rev().nth(1),
                 _ => grants.last(),
             };

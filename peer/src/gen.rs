@@ -42,9 +42,23 @@ impl Random {
 pub fn contended(random: &mut Random) -> Job {
     let (nodes, heads) = (random.between(2, 8), random.between(2, 16));
     let count = random.between(1, 24);
-    let requests = requests(random, nodes, heads, count);
-    let length = random.between(0, 14 * count);
-    Job { nodes, heads, requests, grants: schedule(random, heads, length) }
+    let (mut requests, mut grants) = (Vec::new(), Vec::new());
+    if random.chance(25) {
+        // Heads that stop just after their links leave a chain of equal ranks: one that then goes
+        // on meets a root that nobody has raised. Random grants seldom come to this.
+        let links = heads.min(nodes - 1).min(count);
+        for head in 0..links {
+            requests.push(Request::union(head as u8, head, head + 1));
+            grants.extend([head as u8; 5]);
+        }
+        let first = random.below(links) as u8;
+        grants.extend(vec![first; random.between(1, 24) as usize]);
+    }
+    let rest = count - requests.len() as u32;
+    requests.extend(self::requests(random, nodes, heads, rest));
+    let length = random.between(0, 24 * count);
+    grants.extend(schedule(random, heads, length));
+    Job { nodes, heads, requests, grants }
 }
 
 /// A larger job, up to every limit, whose requests keep to a part of the nodes.
@@ -110,11 +124,11 @@ pub fn built() -> Vec<Job> {
     let in_turn = |grants: u8| (0..16 * grants).map(|n| (n % 16, 1)).collect::<Vec<_>>();
     vec![
         // A link that stores y's rank makes a cycle here.
-        Job::new(3, 2, &three, &[(0, 6), (1, 2), (0, 5), (1, 3)]),
+        Job::new(3, 2, &three, &[(0, 13), (1, 2), (0, 5), (1, 3)]),
         // And one that does not compare x's rank makes one here.
-        Job::new(3, 2, &three, &[(1, 4), (0, 11), (1, 1)]),
-        Job::new(3, 2, &three, &[(1, 4), (0, 11), (1, 7)]),
-        Job::new(2, 16, &everyone, &in_turn(12)),
+        Job::new(3, 2, &three, &[(1, 4), (0, 18), (1, 1)]),
+        Job::new(3, 2, &three, &[(1, 4), (0, 18), (1, 7)]),
+        Job::new(2, 16, &everyone, &in_turn(13)),
         tournament(512),
         full(),
     ]
@@ -138,7 +152,8 @@ pub fn tournament(nodes: u32) -> Job {
         requests.extend(firsts.map(|node| Request::union(0, node, node + apart)));
         apart *= 2;
     }
-    let grants = 6 * requests.len();
+    // A union of two roots of equal rank takes 13 grants.
+    let grants = 13 * requests.len();
     Job::new(nodes, 1, &requests, &[(0, grants)])
 }
 

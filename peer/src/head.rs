@@ -96,11 +96,13 @@ impl<'a, W: FnMut(Access)> Memory<'a, W> {
     }
 }
 
-/// Which of a request's two nodes a find is made from.
+/// Which of a request's nodes a find is made from.
 #[derive(Clone, Copy)]
 enum Side {
     X,
     Y,
+    /// The x that a union has linked, to tidy up: y takes its place and climbs, x is kept.
+    Linked,
 }
 
 /// What a head does with its next grant that is not idle.
@@ -134,6 +136,11 @@ enum Stage {
         rank_y: u32,
     },
     Raise {
+        rank: u32,
+    },
+    /// Of a union that has linked, with y the root above x.
+    RankOfLinked,
+    RaiseLast {
         rank: u32,
     },
 }
@@ -216,7 +223,15 @@ impl Head {
             }
             Stage::Link { rank_x, rank_y } => self.link(rank_x, rank_y, memory),
             Stage::Raise { rank } => {
-                memory.swap(self.y, word(rank, self.y), word(rank + 1, self.y));
+                self.raise(rank, memory);
+                self.tidy()
+            }
+            Stage::RankOfLinked => {
+                let rank = rank(memory.read(self.x));
+                self.go_on(Stage::RaiseLast { rank })
+            }
+            Stage::RaiseLast { rank } => {
+                self.raise(rank, memory);
                 Progress::new(0, answer::JOINED)
             }
         }
@@ -237,6 +252,7 @@ impl Head {
         let met = self.x == self.y;
         match (side, self.kind) {
             (Side::X, _) => self.go_on(Stage::ReadNode(Side::Y)),
+            (Side::Linked, _) => self.go_on(Stage::RankOfLinked),
             (Side::Y, Kind::Union) if met => Progress::new(now, answer::TOGETHER),
             (Side::Y, Kind::Union) => self.go_on(Stage::RankOfX),
             (Side::Y, Kind::SameSet) if met => Progress::new(now, answer::YES),
@@ -276,11 +292,23 @@ impl Head {
             return self.try_again();
         }
         memory.links += 1;
-        if rank_x != rank_y {
-            return Progress::new(memory.now, answer::JOINED);
+        if rank_x == rank_y {
+            self.go_on(Stage::Raise { rank: rank_y });
+        } else {
+            self.tidy();
         }
-        self.stage = Stage::Raise { rank: rank_y };
         Progress::new(memory.now, answer::UNFINISHED)
+    }
+
+    /// One more rank for y, if it is still a root of this one; tried once, whatever comes of it.
+    fn raise<W: FnMut(Access)>(&self, rank: u32, memory: &mut Memory<W>) {
+        memory.swap(self.y, word(rank, self.y), word(rank + 1, self.y));
+    }
+
+    /// After the link and its rank swap; the y linked to is of no more use.
+    fn tidy(&mut self) -> Progress {
+        self.y = self.x;
+        self.go_on(Stage::ReadNode(Side::Linked))
     }
 
     fn try_again(&mut self) -> Progress {
@@ -295,7 +323,7 @@ impl Head {
     fn node(&mut self, side: Side) -> &mut u32 {
         match side {
             Side::X => &mut self.x,
-            Side::Y => &mut self.y,
+            Side::Y | Side::Linked => &mut self.y,
         }
     }
 }

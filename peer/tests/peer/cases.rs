@@ -1,4 +1,5 @@
-//! Document 01's played cases, each with the whole text that the program prints for it.
+//! Document 01's played cases with document 02's longer union, and more of that union, each with
+//! the whole text that the program prints for it.
 
 use peer::gen;
 use peer::job::{self, Job, Request};
@@ -35,8 +36,6 @@ fn check(cases: &[Case]) {
 
 #[test]
 fn one_head() {
-    let join = &[union(0, 0, 1)];
-    let cut = ["job 2 1 1 5", "word 0 1 0", "word 1 1 0", "request 0 0 1 0 5", "line 5 0"];
     check(&[
         (
             "union of a node with itself",
@@ -53,30 +52,6 @@ fn one_head() {
             &[same_set(0, 0, 0)],
             &[(0, 2)],
             &["job 1 1 1 2", "word 0 0 0", "request 0 3 1 2 2", "line 2 0", "tally 0 0 0 0"],
-        ),
-        (
-            "union alone",
-            2,
-            1,
-            join,
-            &[(0, 6)],
-            &[
-                "job 2 1 1 6",
-                "word 0 1 0",
-                "word 1 1 1",
-                "request 0 1 1 6 6",
-                "line 5 0",
-                "tally 0 0 1 0",
-            ],
-        ),
-        ("cut after its link", 2, 1, join, &[(0, 5)], &[&cut[..], &["tally 0 0 1 1"]].concat()),
-        (
-            "cut before its link",
-            2,
-            1,
-            join,
-            &[(0, 4)],
-            &["job 2 1 1 4", "word 0 0 0", "word 1 1 0", "request 0 0 1 0 4", "tally 0 0 0 1"],
         ),
         (
             "same-set alone",
@@ -97,41 +72,99 @@ fn one_head() {
     ]);
 }
 
+/// A union alone on two nodes, cut after so many grants: each cut's word of 1, row and tally.
+#[test]
+fn one_union() {
+    let cuts = [
+        (4, "word 1 1 0", "request 0 0 1 0 4", "tally 0 0 0 1"),
+        (5, "word 1 1 0", "request 0 0 1 0 5", "tally 0 0 1 1"),
+        (6, "word 1 1 1", "request 0 0 1 0 6", "tally 0 0 1 1"),
+        (12, "word 1 1 1", "request 0 0 1 0 12", "tally 0 0 1 1"),
+        (13, "word 1 1 1", "request 0 1 1 13 13", "tally 0 1 1 0"),
+        (14, "word 1 1 1", "request 0 1 1 13 13", "tally 1 1 1 0"),
+    ];
+    for (join, (grants, of_one, row, tally)) in
+        [union(0, 0, 1), union(0, 1, 0)].into_iter().flat_map(|join| cuts.map(|cut| (join, cut)))
+    {
+        let job = format!("job 2 1 1 {grants}");
+        let linked = ["word 0 1 0", of_one, row, "line 5 0", tally];
+        let apart = ["word 0 0 0", of_one, row, tally];
+        let rest = if grants < 5 { &apart[..] } else { &linked };
+        check(&[("a cut", 2, 1, &[join], &[(0, grants)], &[&[&job[..]], rest].concat())]);
+    }
+}
+
 #[test]
 fn two_heads() {
+    let around = &[union(0, 0, 1), same_set(1, 0, 1)];
+    let both = &[union(0, 0, 1), union(1, 0, 1)];
     check(&[
         (
-            "a same-set around a union",
+            "a same-set around a link",
             2,
             2,
-            &[union(0, 0, 1), same_set(1, 0, 1)],
+            around,
             &[(1, 2), (0, 6), (1, 7)],
             &[
                 "job 2 2 2 15",
                 "word 0 1 0",
                 "word 1 1 1",
-                "request 0 1 3 8 6",
+                "request 0 0 3 0 6",
                 "request 1 3 1 15 9",
                 "line 7 0",
                 "line 15 1",
-                "tally 0 0 1 0",
+                "tally 0 0 1 1",
+            ],
+        ),
+        (
+            "the same, played on",
+            2,
+            2,
+            around,
+            &[(1, 2), (0, 6), (1, 7), (0, 7)],
+            &[
+                "job 2 2 2 22",
+                "word 0 1 0",
+                "word 1 1 1",
+                "request 0 1 3 22 13",
+                "request 1 3 1 15 9",
+                "line 7 0",
+                "line 15 1",
+                "tally 0 1 1 0",
             ],
         ),
         (
             "two unions of the same nodes",
             2,
             2,
-            &[union(0, 0, 1), union(1, 0, 1)],
+            both,
             &[(0, 4), (1, 4), (0, 1), (1, 1), (0, 1), (1, 6)],
             &[
                 "job 2 2 2 17",
                 "word 0 1 0",
                 "word 1 1 1",
-                "request 0 1 1 11 6",
+                "request 0 0 1 0 6",
                 "request 1 2 5 17 11",
                 "line 9 0",
                 "line 17 1",
-                "tally 0 1 1 0",
+                "tally 0 1 1 1",
+            ],
+        ),
+        (
+            "the same, played on",
+            2,
+            2,
+            both,
+            &[(0, 4), (1, 4), (0, 1), (1, 1), (0, 1), (1, 6), (0, 7)],
+            &[
+                "job 2 2 2 24",
+                "word 0 1 0",
+                "word 1 1 1",
+                "request 0 1 1 24 13",
+                "request 1 2 5 17 11",
+                "line 9 0",
+                "line 17 1",
+                "tally 0 2 1 0",
             ],
         ),
     ]);
@@ -148,15 +181,15 @@ fn built_against_cycles() {
             3,
             2,
             three,
-            &[(0, 6), (1, 2), (0, 5), (1, 3)],
+            &[(0, 13), (1, 2), (0, 5), (1, 3)],
             &numbers(&[
-                "job 3 2 3 16",
-                "request 0 1 1 6 6",
-                "request 1 1 9 13 5",
-                "request 2 0 7 0 5",
+                "job 3 2 3 23",
+                "request 0 1 1 13 13",
+                "request 1 0 16 0 5",
+                "request 2 0 14 0 5",
                 "line 5 0",
-                "line 13 1",
-                "tally 0 1 2 1",
+                "line 20 1",
+                "tally 0 2 2 2",
             ]),
         ),
         (
@@ -164,15 +197,15 @@ fn built_against_cycles() {
             3,
             2,
             three,
-            &[(1, 4), (0, 11), (1, 1)],
+            &[(1, 4), (0, 18), (1, 1)],
             &numbers(&[
-                "job 3 2 3 16",
-                "request 0 1 5 10 6",
-                "request 1 1 11 15 5",
+                "job 3 2 3 23",
+                "request 0 1 5 17 13",
+                "request 1 0 18 0 5",
                 "request 2 0 1 0 5",
                 "line 9 0",
-                "line 15 1",
-                "tally 0 1 2 1",
+                "line 22 1",
+                "tally 0 2 2 2",
             ]),
         ),
         (
@@ -180,17 +213,159 @@ fn built_against_cycles() {
             3,
             2,
             three,
-            &[(1, 4), (0, 11), (1, 7)],
+            &[(1, 4), (0, 18), (1, 7)],
             &numbers(&[
-                "job 3 2 3 22",
-                "request 0 1 5 10 6",
-                "request 1 1 11 15 5",
-                "request 2 2 1 22 11",
+                "job 3 2 3 29",
+                "request 0 1 5 17 13",
+                "request 1 0 18 0 5",
+                "request 2 2 1 29 11",
                 "line 9 0",
-                "line 15 1",
-                "line 22 2",
-                "tally 0 1 2 0",
+                "line 22 1",
+                "line 29 2",
+                "tally 0 2 2 1",
             ]),
+        ),
+    ]);
+}
+
+#[test]
+fn tidying() {
+    let overtaken = &[union(1, 2, 1), union(0, 1, 0)];
+    check(&[
+        (
+            "the root above the linked x has its rank still: the last swap writes",
+            3,
+            2,
+            overtaken,
+            &[(1, 2), (0, 5), (1, 3), (0, 8)],
+            &[
+                "job 3 2 2 18",
+                "word 0 2 0",
+                "word 1 2 0",
+                "word 2 2 1",
+                "request 0 0 1 0 5",
+                "request 1 1 3 18 13",
+                "line 7 1",
+                "line 10 0",
+                "tally 0 1 2 1",
+            ],
+        ),
+        (
+            "one grant earlier",
+            3,
+            2,
+            overtaken,
+            &[(1, 2), (0, 5), (1, 3), (0, 7)],
+            &[
+                "job 3 2 2 17",
+                "word 0 2 0",
+                "word 1 2 0",
+                "word 2 2 0",
+                "request 0 0 1 0 5",
+                "request 1 0 3 0 12",
+                "line 7 1",
+                "line 10 0",
+                "tally 0 1 2 2",
+            ],
+        ),
+        (
+            "a link of unequal ranks is tidied up after too",
+            3,
+            1,
+            &[union(0, 0, 1), union(0, 2, 1)],
+            &[(0, 25)],
+            &[
+                "job 3 1 2 25",
+                "word 0 1 0",
+                "word 1 1 1",
+                "word 2 1 0",
+                "request 0 1 1 13 13",
+                "request 1 1 14 25 12",
+                "line 5 0",
+                "line 18 1",
+                "tally 0 2 2 0",
+            ],
+        ),
+    ]);
+}
+
+#[test]
+fn heads_in_each_others_way() {
+    check(&[
+        (
+            "an idle grant, a rank swap that fails after its link, a link of a node of rank 1, and \
+             equal ranks with the lower number second",
+            6,
+            2,
+            &[union(1, 3, 5), union(0, 0, 1), union(0, 5, 4), union(0, 3, 1)],
+            &[(0, 16), (1, 14), (0, 19)],
+            &[
+                "job 6 2 4 49",
+                "word 0 1 0",
+                "word 1 5 1",
+                "word 2 2 0",
+                "word 3 5 0",
+                "word 4 5 0",
+                "word 5 5 1",
+                "request 0 1 17 29 13",
+                "request 1 1 1 13 13",
+                "request 2 1 14 40 13",
+                "request 3 0 41 0 9",
+                "line 5 1",
+                "line 21 0",
+                "line 32 2",
+                "line 49 3",
+                "tally 1 4 4 1",
+            ],
+        ),
+        (
+            "a halving that fails, a link that fails and a rank swap that fails after its link",
+            4,
+            2,
+            &[union(0, 2, 3), union(1, 2, 1), same_set(1, 1, 0), union(0, 0, 3), union(0, 1, 3)],
+            &[(1, 2), (0, 27), (1, 5), (0, 6), (1, 6)],
+            &[
+                "job 4 2 5 46",
+                "word 0 3 0",
+                "word 1 3 0",
+                "word 2 3 0",
+                "word 3 3 1",
+                "request 0 1 3 15 13",
+                "request 1 1 1 46 13",
+                "request 2 0 0 0 0",
+                "request 3 1 16 27 12",
+                "request 4 0 28 0 8",
+                "line 7 0",
+                "line 20 3",
+                "line 32 1",
+                "tally 0 6 3 2",
+            ],
+        ),
+        (
+            "a link that fails after an exchange and is tried again, and a parent that moves \
+             between the two reads of t",
+            6,
+            2,
+            &[union(1, 3, 1), union(0, 3, 0), union(0, 2, 1), union(0, 2, 3)],
+            &[(1, 4), (0, 30), (1, 3), (0, 1), (1, 4)],
+            &[
+                "job 6 2 4 42",
+                "word 0 3 0",
+                "word 1 2 0",
+                "word 2 3 1",
+                "word 3 3 1",
+                "word 4 4 0",
+                "word 5 5 0",
+                "request 0 2 1 42 11",
+                "request 1 1 5 17 13",
+                "request 2 1 18 30 13",
+                "request 3 0 31 0 5",
+                "line 9 1",
+                "line 22 2",
+                "line 38 3",
+                "line 42 0",
+                "tally 0 3 3 1",
+            ],
         ),
     ]);
 }
@@ -205,7 +380,7 @@ fn program() {
         0x43, 0x4C, 0xF1, 0xC2,
     ];
     let text = "job 4 2 2 9\nword 0 0 0\nword 1 1 0\nword 2 3 0\nword 3 3 1\n\
-                request 0 1 3 8 6\nrequest 1 4 1 9 3\nline 2 1\nline 7 0\ntally 0 0 1 0\n";
+                request 0 0 3 0 6\nrequest 1 4 1 9 3\nline 2 1\nline 7 0\ntally 0 0 1 1\n";
     lists(&file, text);
     assert_eq!(job::read(&file).expect("accepted").file(), Ok(file.to_vec()));
     lists(&[], "refused 2\n");
@@ -229,6 +404,7 @@ fn tournament_reaches_rank_nine() {
     for player in PLAYERS {
         let text = (player.list)(&file);
         assert!(text.contains("\nword 511 511 9\n"));
-        assert!(text.ends_with("\ntally 0 0 511 0\n"));
+        // Every union's last swap fails: its rank swap has written.
+        assert!(text.ends_with("\ntally 0 511 511 0\n"));
     }
 }

@@ -19,9 +19,12 @@ pub enum Turn {
     RetryUnexchanged,
     HalvingSkippedAtRoot,
     RaiseTriedAgain,
+    TidyingFromY,
+    RankOfYRead,
+    NoTidyingAtUnequalRanks,
 }
 
-pub const WRONG_TURNS: [Turn; 9] = [
+pub const WRONG_TURNS: [Turn; 12] = [
     Turn::NoWithoutReread,
     Turn::LinkAtAnyRank,
     Turn::LinkStoresRankOfY,
@@ -31,6 +34,9 @@ pub const WRONG_TURNS: [Turn; 9] = [
     Turn::RetryUnexchanged,
     Turn::HalvingSkippedAtRoot,
     Turn::RaiseTriedAgain,
+    Turn::TidyingFromY,
+    Turn::RankOfYRead,
+    Turn::NoTidyingAtUnequalRanks,
 ];
 
 /// A request with the accesses made for it so far and what they led to.
@@ -175,8 +181,11 @@ impl Program<'_> {
             }
             if self.link(low, high)? {
                 self.work.point = self.now();
-                if low.0 == high.0 {
+                if low.0 == high.0 && !self.raise(high)? && self.turn == Turn::RaiseTriedAgain {
                     self.raise(high)?;
+                }
+                if low.0 == high.0 || self.turn != Turn::NoTidyingAtUnequalRanks {
+                    self.tidy(low.1, high.1)?;
                 }
                 return Some(answer::JOINED);
             }
@@ -188,12 +197,15 @@ impl Program<'_> {
         self.swap(low.1, word(low.0, low.1), word(kept, high.1))
     }
 
-    fn raise(&mut self, (rank, node): (u32, u32)) -> Option<()> {
-        let wrote = self.swap(node, word(rank, node), word(rank + 1, node))?;
-        if !wrote && self.turn == Turn::RaiseTriedAgain {
-            self.swap(node, word(rank, node), word(rank + 1, node))?;
-        }
-        Some(())
+    fn raise(&mut self, (rank, node): (u32, u32)) -> Option<bool> {
+        self.swap(node, word(rank, node), word(rank + 1, node))
+    }
+
+    /// The root above the linked x is to have a higher rank than x.
+    fn tidy(&mut self, x: u32, y: u32) -> Option<bool> {
+        let root = self.find(if self.turn == Turn::TidyingFromY { y } else { x })?;
+        let rank = rank(self.read(if self.turn == Turn::RankOfYRead { y } else { x })?);
+        self.raise((rank, root))
     }
 
     fn find(&mut self, mut x: u32) -> Option<u32> {

@@ -5,6 +5,7 @@ use peer::demand;
 use peer::gen::{self, Random};
 use peer::head::Access;
 use peer::job::{Job, Request};
+use peer::numbers::answer;
 use peer::play;
 use peer::player::{Outcome, AMPLE};
 
@@ -49,10 +50,17 @@ fn demands_catch_wrong_results() {
         Turn::RetryUnexchanged,
         Turn::HalvingSkippedAtRoot,
         Turn::RaiseTriedAgain,
+        Turn::TidyingFromY,
     ];
     for turn in WRONG_TURNS {
         assert_eq!(caught(turn), !harmless.contains(&turn), "{turn:?}");
     }
+}
+
+/// Document 01's job of 38 bytes has six grants for its union.
+fn thirty_eight(of_union: usize) -> Job {
+    let requests = [Request::union(0, 2, 3), Request::same_set(1, 0, 1)];
+    Job::new(4, 2, &requests, &[(1, 2), (0, of_union), (1, 1)])
 }
 
 type Change = fn(&mut Outcome);
@@ -60,8 +68,8 @@ type Change = fn(&mut Outcome);
 /// A result with one number changed breaks a sentence.
 #[test]
 fn demands_name_what_is_wrong() {
-    let requests = [Request::union(0, 2, 3), Request::same_set(1, 0, 1)];
-    let job = Job::new(4, 2, &requests, &[(1, 2), (0, 6), (1, 1)]);
+    // As many grants as the union now takes, so that both requests end.
+    let job = thirty_eight(13);
     let (right, trace) = Outcome::traced(&job.file().expect("accepted"), AMPLE);
     let sentence = |change: Change| {
         let mut wrong = right.clone();
@@ -82,4 +90,16 @@ fn demands_name_what_is_wrong() {
     for (change, broken) in cases {
         assert_eq!(sentence(change), broken);
     }
+}
+
+/// A union that ends with its rank swap, as document 01's did, has not tidied up.
+#[test]
+fn demands_want_unions_tidied_up() {
+    let job = thirty_eight(6);
+    let (mut outcome, trace) = Outcome::traced(&job.file().expect("accepted"), AMPLE);
+    assert_eq!(demand::check(&job, &trace, &outcome), Ok(()));
+    outcome.report[..4].copy_from_slice(&[answer::JOINED, 3, 8, 6]);
+    outcome.played.tally.working = 0;
+    let verdict = demand::check(&job, &trace, &outcome);
+    assert_eq!(verdict, Err("a union reads the linked node before its last swap"));
 }
