@@ -26,7 +26,8 @@ use Rattle.process.specs.declared.Step.the-variants.{ReadNode}
 use Rattle.process.specs.declared.Errand.{Errand}
 use Rattle.process.specs.declared.Errand.the-variants.{UnionX, UnionY, SameX, SameY, Tidy}
 use Rattle.process.specs.declared.Stage.{Stage}
-use Rattle.process.specs.declared.Stage.the-variants.{Resting, Find, RereadX, ReadRankX, ReadRankY, Link, Raise, ReadRankLinked, RaiseFound}
+use Rattle.process.specs.declared.Stage.the-variants.{Resting, Find, RereadX, ReadRankX, ReadRankY, Link, Raise}
+use Rattle.process.specs.declared.Stage.the-variants.{ReadRankLinked, RaiseFound}
 use Rattle.process.specs.declared.Task.{Task}
 use Rattle.process.specs.declared.Head.{Head}
 use Rattle.process.specs.declared.Event.{Event}

@@ -139,7 +139,11 @@ module _ {qs : List Request} {n : ℕ} {B : Labels} {roots₀ : ℕ} {S : State}
             busy = refl;
             knows = restart-knows (requestAt qs q .kind) (begin (requestAt qs q) q .task)
                 (finding-begin (requestAt qs q) (inside q within));
-            timed = record { unlinked = λ e. w .unlinked; linked = λ e. absurd (true≢false (sym e ∙ unlinked)); candidate = λ d. absurd (d refl) };
+            timed = record {
+              unlinked = λ e. w .unlinked;
+              linked = λ e. absurd (true≢false (sym e ∙ unlinked));
+              candidate = λ d. absurd (d refl);
+            };
             begun = λ e. absurd (true≢false (sym e ∙ unlinked));
             unfinished = w .unfinished;
             listed = w .unlisted ∙ sym (rw (eq-eqb (linkOf q past) 0 (w .unlinked)));

@@ -14,6 +14,8 @@ use peer::proved::{list_into, CORE, LENT};
 const ROUNDS: usize = 200;
 /// A round repeats its call for at least this long.
 const ROUND: Duration = Duration::from_micros(50);
+/// Chains to a job.
+const CHAINS: u32 = 24;
 /// Jobs to a row of the first table, played in turn: one that is repeated is soon known by heart.
 const JOBS: u64 = 8;
 
@@ -156,31 +158,38 @@ fn busy_job(seed: u64, nodes: u32, requests: u32, unions: u32, bursts: bool) -> 
     busy(Job::new(nodes, 16, &requests, &runs))
 }
 
-/// Two heads link so many nodes to a chain: each union links before the one before it tries to raise
-/// the rank of the node between them. Then come further requests and runs.
-fn chain_job(nodes: u32, requests: &[Request], runs: &[(u8, usize)]) -> Job {
-    let unions = (1..nodes).map(|node| Request::union((node % 2) as u8, node - 1, node));
-    let links = (1..nodes).map(|node| ((node % 2) as u8, if node < 3 { 5 } else { 6 }));
-    let requests: Vec<Request> = unions.chain(requests.iter().copied()).collect();
-    let runs: Vec<(u8, usize)> = links.chain(runs.iter().copied()).collect();
-    busy(Job::new(nodes, 16, &requests, &runs))
-}
-
-/// Sixteen finds climb one chain, a grant each in turn.
+/// Sixteen heads climb one chain after another, a grant each in turn. As unions tidy up, a chain
+/// stands only while the heads that made it stop at their links, and the finds that climb it are
+/// those with which their unions then end.
 fn chain_in_step(seed: u64) -> Job {
-    let nodes = 400 - seed as u32;
-    let requests: Vec<Request> =
-        (0..16).map(|head| Request::same_set(head, u32::from(head), nodes - 1)).collect();
-    let runs: Vec<(u8, usize)> = (0..6_900).map(|n| ((n % 16) as u8, 1)).collect();
-    chain_job(nodes, &requests, &runs)
+    let unions =
+        |first: u32| (0..16).map(move |n| Request::union(n as u8, first + n, first + n + 1));
+    let mut random = Random::new(seed);
+    let (mut requests, mut grants) = (Vec::new(), Vec::new());
+    for chain in 0..CHAINS {
+        let mut order: Vec<u8> = (0..16).collect();
+        order.sort_by_cached_key(|_| random.bits());
+        let links = (0..16).map(|head| (head, 5));
+        let in_turn = order.iter().cycle().take(16 * 40).map(|&head| (head, 1));
+        let runs: Vec<(u8, usize)> = links.chain(in_turn).collect();
+        let alone: Vec<Request> = unions(0).collect();
+        requests.extend(unions(17 * chain));
+        grants.extend(busy(Job::new(17, 16, &alone, &runs)).grants);
+    }
+    Job { nodes: 17 * CHAINS, heads: 16, requests, grants }
 }
 
-/// One head finds its way along a chain, from one node after the other.
+/// One head joins 256 nodes to a tree eight levels deep, then finds its way up, from the deepest
+/// node and from others.
 fn deep_finds(seed: u64) -> Job {
-    let nodes = 480 - seed as u32;
-    let requests: Vec<Request> =
-        (0..32).map(|node| Request::same_set(0, node, nodes - 1)).collect();
-    chain_job(nodes, &requests, &[(0, 20_000)])
+    let Job { nodes, mut requests, .. } = gen::tournament(256);
+    let mut random = Random::new(seed);
+    let mut from = 0;
+    while requests.len() < 512 {
+        requests.push(Request::same_set(0, from, nodes - 1));
+        from = random.below(nodes);
+    }
+    busy(Job::new(nodes, 16, &requests, &[(0, 20_000)]))
 }
 
 type Row = (String, Vec<Job>);
