@@ -8,9 +8,8 @@
 --   compared, ended     both finds have ended; one of them has
 --   followed            what the request makes of its find's step
 --   reread              a same-set's last read
---   rankBoth, afterLink, linked, link, raise   a union: both ranks are read; the head after the link; the link is written; the
---                       link's swap; the rank's swap
---   raiseFound          the last swap of a union that has linked
+--   rankBoth, afterLink, linked, link   a union: both ranks are read; the head after the link; the link is written; its swap
+--   tried, raise, raiseFound   a rank swap; the one after the link; the one that ends the union
 --   advanceAt k w now t   the head after its access at stage t and what the grant did, one clause a stage
 --   advanceOf h w now   the same at the head's own stage
 use mathlib.Core.Bool.{Bool, true, false, not, cond}
@@ -128,33 +127,18 @@ linked k r e now =
 abbrev pub link : Task → ℕ → Bool → Node → ℕ → Advanced
 link k r e w now = cond (same w (record { rank = r; parent = k .x })) (linked k r e now) (retry k (restart Union))
 
--- The rank swap is tried once; (02, A2) after it comes the find from the x that was linked.
-abbrev pub raise : Task → ℕ → Node → Advanced
-raise k r w =
-    record {
-      head = tidyUp k;
-      event = record {
-        failed = not (same w (record { rank = r; parent = k .y }));
-        found = false;
-        linked = false;
-        answer = Unfinished;
-        point = 0;
-      };
-    }
+-- A rank swap is tried once, whether it writes or not.
+abbrev pub tried : Head → Answer → Bool → Advanced
+tried h a wrote =
+    record { head = h; event = record { failed = not wrote; found = false; linked = false; answer = a; point = 0 } }
 
--- (02, A2) One swap, written or not, ends the union. The answer is joined.
+-- (02, A2) After the first comes the find from the x that was linked.
+abbrev pub raise : Task → ℕ → Node → Advanced
+raise k r w = tried (tidyUp k) Unfinished (same w (record { rank = r; parent = k .y }))
+
+-- (02, A2) The second ends the union. The answer is joined.
 abbrev pub raiseFound : Task → ℕ → Node → Advanced
-raiseFound k r w =
-    record {
-      head = record { stage = Resting; task = k };
-      event = record {
-        failed = not (same w (record { rank = r; parent = k .y }));
-        found = false;
-        linked = false;
-        answer = Joined;
-        point = 0;
-      };
-    }
+raiseFound k r w = tried (record { stage = Resting; task = k }) Joined (same w (record { rank = r; parent = k .y }))
 
 -- ---- every stage
 

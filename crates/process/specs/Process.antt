@@ -7,6 +7,7 @@
 --   tidies e             the find is made after the link
 --   kindOf e             the kind of the request that sends a find on errand e
 --   servesX e            the find serves the first of the request's two places
+--   nextErrand e         the find that follows
 --   nodeAt k e           the place that the find on errand e has come to
 --   movedTo k e v        the task k with v as that place
 --   firstErrand k        the first find of a request of kind k
@@ -91,6 +92,14 @@ servesX UnionY = false
 servesX SameX = true
 servesX SameY = false
 servesX Tidy = false
+
+-- Find from x, then from y; and from x again.
+abbrev pub nextErrand : Errand → Errand
+nextErrand UnionX = UnionY
+nextErrand UnionY = UnionX
+nextErrand SameX = SameY
+nextErrand SameY = SameX
+nextErrand Tidy = Tidy
 
 -- The place that the find has come to.
 abbrev pub nodeAt : Task → Errand → ℕ

@@ -13,7 +13,7 @@ use job::Answer;
 use word::Node;
 ghost use mathlib.Core.Path.{_≡_};
 ghost use Rattle.process.specs.Process.{tidyUp};
-ghost use Rattle.process.specs.Advance.{rankBoth, afterLink, link, linked, raise, raiseFound};
+ghost use Rattle.process.specs.Advance.{rankBoth, afterLink, link, linked, tried, raise, raiseFound};
 
 // Both ranks are known: the node that comes first is to be linked below the other.
 pub fn rank_both(task: Task, x_rank: u8, y_rank: u8) -> Advanced
@@ -78,22 +78,29 @@ fn linked(task: Task, rank: u8, equal: bool, now: u32) -> Advanced
     }
 }
 
-// The rank swap was tried once: written or not, the union tidies up.
+// A rank swap was tried.
+fn tried(head: Head, answer: Answer, wrote: bool) -> Advanced
+    ensures { λ r. ⌜ r ≡ tried head answer wrote ⌝ }
+{
+    Advanced {
+        head,
+        event: Event {
+            failed: !wrote,
+            found: false,
+            linked: false,
+            answer,
+            point: 0,
+        },
+    }
+}
+
+// The rank swap after the link was tried once: written or not, the union tidies up.
 pub fn raise(task: Task, rank: u8, seen: Node) -> Advanced
     ensures { λ r. ⌜ r ≡ raise task rank seen ⌝ }
 {
     let y = task.y;
     let wrote = word::is_same(seen, Node { rank, parent: y });
-    Advanced {
-        head: tidy_up(task),
-        event: Event {
-            failed: !wrote,
-            found: false,
-            linked: false,
-            answer: Answer::Unfinished,
-            point: 0,
-        },
-    }
+    tried(tidy_up(task), Answer::Unfinished, wrote)
 }
 
 // The last rank swap was tried once: written or not, the union has joined.
@@ -102,17 +109,9 @@ pub fn raise_found(task: Task, rank: u8, seen: Node) -> Advanced
 {
     let y = task.y;
     let wrote = word::is_same(seen, Node { rank, parent: y });
-    Advanced {
-        head: Head {
-            stage: Stage::Resting,
-            task,
-        },
-        event: Event {
-            failed: !wrote,
-            found: false,
-            linked: false,
-            answer: Answer::Joined,
-            point: 0,
-        },
-    }
+    let head = Head {
+        stage: Stage::Resting,
+        task,
+    };
+    tried(head, Answer::Joined, wrote)
 }

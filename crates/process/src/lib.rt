@@ -19,11 +19,11 @@ pub enum Step {
 }
 
 // What a find is made for: a union or a same-set, and the first or the second of its nodes; or a union that has linked, from
-// the node that it linked (02, A2).
+// the node that it linked (02, A2). The finds for the first node come first, so that one comparison tells them.
 pub enum Errand {
     UnionX,
-    UnionY,
     SameX,
+    UnionY,
     SameY,
     Tidy,
 }

@@ -139,8 +139,8 @@ pub fn stepped(table: &mut [Word], head: Head, number: u32) -> Advanced
         }
         Stage::Raise(rank) => raise(task, rank, raise_root(table, y, rank)),
         Stage::ReadRankLinked => {
-            let seen = load(table, x);
-            go_on(task, Stage::RaiseFound(seen.rank))
+            let linked = load(table, x);
+            go_on(task, Stage::RaiseFound(linked.rank))
         }
         Stage::RaiseFound(rank) => raise_found(task, rank, raise_root(table, y, rank)),
     }

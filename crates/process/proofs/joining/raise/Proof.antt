@@ -4,8 +4,7 @@ use Rattle.process.proofs.joining.raise.Statement.{statement}
 use Rattle.process.proofs.joining.raise.Tie as tie
 
 returns : tie.Need-returns
-returns c = simp (c .before .is-same .ensures, c .tidy-up .ensures)
+returns c = simp (c .before .before .is-same .ensures, c .before .tidy-up .ensures, c .tried .ensures)
 
 pub raise-spec : {M : Type 1} → statement M
-raise-spec =
-    tie.close (tie.spec (λ c κs. search needs) (λ c κs. search needs) returns)
+raise-spec = tie.close (tie.spec (λ c κs. search needs) (λ c κs. search needs) (λ c κs. search needs) returns)

@@ -1,0 +1,2 @@
+-- Laws of a process.
+pub mod Ended
