@@ -41,7 +41,9 @@ int main(void) {
 
     struct grouping_played played = grouping_play(
         file, written.bytes, table, GROUPING_MOST_TABLE, report, GROUPING_MOST_REPORT, lineup, GROUPING_MOST_LINEUP);
-    if (played.number != GROUPING_ACCEPTED || report[0] != GROUPING_JOINED || report[4] != GROUPING_NO) {
+    /* Six grants are enough for the union's link, which stands in the line-up at 7, and too few for the union. */
+    if (played.number != GROUPING_ACCEPTED || report[0] != GROUPING_UNFINISHED || report[4] != GROUPING_NO ||
+        lineup[2] != 7 || lineup[3] != 0 || played.tally.working != 1) {
         return 2;
     }
 

@@ -30,7 +30,7 @@
 //! let mut text = vec![0; MOST_LISTING];
 //! let listed = list(played, &table, &report, &lineup, &mut text).result()?;
 //! let text = String::from_utf8_lossy(&text[..listed.bytes]);
-//! assert!(text.starts_with("job 4 2 2 9\n") && text.ends_with("line 7 0\ntally 0 0 1 0\n"));
+//! assert!(text.starts_with("job 4 2 2 9\n") && text.ends_with("line 7 0\ntally 0 0 1 1\n"));
 //! # Ok::<(), Refusal>(())
 //! ```
 
@@ -59,15 +59,15 @@ pub use results::{Listed, Paged, Played, Queried, Row, Tally, Written};
 /// ```
 /// use grouping_core::{play, Answer, Refusal};
 ///
-/// // Two places, one head: a union of 0 and 1, six grants.
-/// let file = b"DK\x02\0\x01\0RQ\0\x01\0\0\x01\0GR\0\x06CL\xDC\xBD";
+/// // Two places, one head: a union of 0 and 1, and the thirteen grants that it takes.
+/// let file = b"DK\x02\0\x01\0RQ\0\x01\0\0\x01\0GR\0\x0DCL\xDC\xB6";
 /// let (mut table, mut report, mut lineup) = ([7; 3], [7; 4], [7; 2]);
 /// let played = play(file, &mut table, &mut report, &mut lineup);
-/// assert_eq!((played.number, played.places, played.grants, played.entries), (0, 2, 6, 1));
-/// assert_eq!((played.tally.links, played.tally.working), (1, 0));
+/// assert_eq!((played.number, played.places, played.grants, played.entries), (0, 2, 13, 1));
+/// assert_eq!((played.tally.links, played.tally.failed, played.tally.working), (1, 1, 0));
 /// // Place 0 has parent 1, which is a root of rank 1; the third word is past the places.
 /// assert_eq!(table, [1, 65_537, 7]);
-/// assert_eq!(report, [Answer::Joined as u32, 1, 6, 6]);
+/// assert_eq!(report, [Answer::Joined as u32, 1, 13, 13]);
 /// assert_eq!(lineup, [5, 0]);
 ///
 /// let refused = play(b"", &mut table, &mut report, &mut lineup);

@@ -24,8 +24,7 @@ use borrow.Author.Tests.{eqb-true, eqb-false, eq-eqb, ne-eqb, ltb-true, lt-ltb}
 use Rattle.basics.specs.Count.{count}
 use Rattle.basics.proofs.Conditions.{split}
 use Rattle.basics.proofs.Counts.{count-le, count-positive, count-sum}
-use Rattle.job.specs.declared.Kind.{Kind}
-use Rattle.job.specs.declared.Kind.the-variants.{Union, SameSet}
+use Rattle.job.specs.declared.Kind.the-variants.{SameSet}
 use Rattle.job.specs.declared.Answer.the-variants.{Unfinished}
 use Rattle.word.specs.declared.Node.{Node}
 use Rattle.word.specs.Word.{key, same}

@@ -45,7 +45,7 @@ use Rattle.rules.specs.Linearized.{operationAt, promised}
 use Rattle.rules.proofs.History.{usedFor, other-served, row-other, served-answer, link-served, link-unserved, find-served}
 use Rattle.rules.proofs.History.{point-unlinked, point-same-set, point-union}
 use Rattle.rules.proofs.Stages.{Moment, Knows}
-use Rattle.rules.proofs.Outcomes.{afterLink, united, Kept, Unlinked, Going, Closing, Afterwards, Joining, Tidying, Denying, Outcome}
+use Rattle.rules.proofs.Outcomes.{linkedMoment, united, Kept, Unlinked, Going, Closing, Afterwards, Joining, Tidying, Denying, Outcome}
 use Rattle.rules.proofs.Outcomes.Afterwards.{finished, continuing}
 use Rattle.rules.proofs.Outcomes.Outcome.{going, closing, joining, tidying, denying}
 use Rattle.rules.proofs.Invariant.{momentOf, claim, Candidate, Placed, Invariant}
@@ -234,7 +234,7 @@ module _ (qs : List Request) (n : ℕ) (B : Labels) (roots₀ : ℕ) (S : State)
   linked-after es (continuing answer stage knows) labels linked once =
       let at : ℕ → Labels = λ point. labelsTo (operationAt qs) point B es in
       continues answer (stage .busy)
-      (subst (λ C. Knows (afterLink m t′ C at) (requestAt qs q) (a .head .task) (a .head .stage)) (sym labels) (knows at))
+      (subst (λ C. Knows (linkedMoment m t′ C at) (requestAt qs q) (a .head .task) (a .head .stage)) (sym labels) (knows at))
       (timed-linked q act past (stage .linked) (stage .unpending) linked)
       (unfinished-current q act past answer (once ∙ sym (rw (ne-eqb (linkOf q past′) 0 linked))))
 

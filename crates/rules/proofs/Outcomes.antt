@@ -2,7 +2,7 @@
 -- The grant is made at the moment m and leaves the table t′; the request is q, its head's stage st, its step a.
 --
 --   afterGrant m t′ B′  the moment after the grant, with the labels B′
---   afterLink m t′ B′ at   the same, whatever the labels at its points
+--   linkedMoment m t′ B′ at   the same for a union that has linked, whatever the labels at the points
 --   united m q        the labels that a union of the request makes
 --   Kept m t′ B′      the table stays sound, and the new state is a later one
 --   Unlinked m t′     so it does with the same labels, and no root is lost
@@ -48,8 +48,8 @@ abbrev pub afterGrant : {n : ℕ} → Moment n → List Node → Labels → Mome
 afterGrant m t′ B′ = record { table = t′; labels = B′; labelsAt = m .labelsAt; now = suc (m .now) }
 
 -- A union that has linked has no pending point, and looks at no labels of earlier points.
-abbrev pub afterLink : {n : ℕ} → Moment n → List Node → Labels → (ℕ → Labels) → Moment n
-afterLink m t′ B′ at = record { table = t′; labels = B′; labelsAt = at; now = suc (m .now) }
+abbrev pub linkedMoment : {n : ℕ} → Moment n → List Node → Labels → (ℕ → Labels) → Moment n
+linkedMoment m t′ B′ at = record { table = t′; labels = B′; labelsAt = at; now = suc (m .now) }
 
 abbrev pub united : {n : ℕ} → Moment n → Request → Labels
 united m q = join (m .labels) (q .x) (q .y)
@@ -97,7 +97,7 @@ pub record HasLinked (st : Stage) : Type 0 where
 pub data Afterwards {n : ℕ} (m : Moment n) (t′ : List Node) (B′ : Labels) (q : Request) (a : Advanced) : Type 0 where
   finished : a .event .answer ≡ Joined → a .head .stage ≡ Resting → Afterwards m t′ B′ q a
   continuing : a .event .answer ≡ Unfinished → HasLinked (a .head .stage)
-      → ((at : ℕ → Labels) → Knows (afterLink m t′ B′ at) q (a .head .task) (a .head .stage)) → Afterwards m t′ B′ q a
+      → ((at : ℕ → Labels) → Knows (linkedMoment m t′ B′ at) q (a .head .task) (a .head .stage)) → Afterwards m t′ B′ q a
 
 pub record Joining {n : ℕ} (m : Moment n) (t′ : List Node) (q : Request) (st : Stage) (a : Advanced) : Type 0 where
   pub kept : Kept m t′ (united m q)
@@ -182,7 +182,7 @@ goes-on st k next failed found unraised traits table knows =
 
 pub tidies-on : {n : ℕ} {m : Moment n} {t′ : List Node} {q : Request} (st : Stage) (k : Task) (next : Stage) (failed : Bool)
     → traitsOf st .linked ≡ true → HasLinked next → Unlinked m t′ → q .kind ≡ Union
-    → ((at : ℕ → Labels) → Knows (afterLink m t′ (m .labels) at) q k next)
+    → ((at : ℕ → Labels) → Knows (linkedMoment m t′ (m .labels) at) q k next)
     → Outcome m t′ q st
     (record {
       head = record { stage = next; task = k };

@@ -67,7 +67,7 @@ pub record Finding (n : ℕ) (B : ℕ → ℕ) (request : Request) (wanted : Kin
   pub ends : Ends B (request .x) (request .y) x y
   pub kind : request .kind ≡ wanted
 
--- Every stage after it.
+-- Every stage after the link.
 pub record Linked (n : ℕ) (t : List Node) (B : ℕ → ℕ) (request : Request) (x y : ℕ) : Type 0 where
   pub left : x < n
   pub right : y < n

@@ -367,6 +367,32 @@ fn heads_in_each_others_way() {
                 "tally 0 3 3 1",
             ],
         ),
+        (
+            "two halvings that fail, in a find from x and in the find after a link, and a root of \
+             rank 2",
+            5,
+            3,
+            &[union(0, 3, 4), union(1, 4, 1), union(1, 2, 3), union(0, 2, 3), union(2, 2, 1)],
+            &[(1, 9), (0, 2), (1, 11), (0, 12), (2, 7), (0, 10), (1, 7)],
+            &[
+                "job 5 3 5 58",
+                "word 0 0 0",
+                "word 1 4 0",
+                "word 2 4 0",
+                "word 3 4 1",
+                "word 4 4 2",
+                "request 0 1 10 33 13",
+                "request 1 1 1 15 13",
+                "request 2 1 16 57 13",
+                "request 3 2 34 50 10",
+                "request 4 0 35 0 7",
+                "line 5 1",
+                "line 20 2",
+                "line 25 0",
+                "line 50 3",
+                "tally 2 5 3 1",
+            ],
+        ),
     ]);
 }
 
