@@ -1,16 +1,9 @@
-// Bytes and 16-bit words of a file, at any place: a byte past the end reads as 0, which is in no mark.
+// 16-bit words of a file, at any place: a byte past the end counts as 0, which is in no mark.
 use std::num::wrapping_add_u16;
 ghost use mathlib.Core.Path.{_≡_};
 ghost use Prim.Native.Nat.{_+_, _%_, _≤_};
-ghost use lib.ListN.{length, getD, drop};
+ghost use lib.ListN.{length, drop};
 ghost use Rattle.jobfile.specs.Format.{word, wordSum};
-
-// The byte at a place.
-pub fn byte_at(file: &[u8], at: usize) -> u8
-    ensures { λ r. ⌜ r ≡ getD (now (file .entry)) at 0 ⌝ }
-{
-    if at < file.len() { file[at] } else { 0 }
-}
 
 // A byte as a 16-bit number.
 fn wide(byte: u8) -> u16
@@ -20,7 +13,7 @@ fn wide(byte: u8) -> u16
 }
 
 // The word at a place where both of its bytes are there, low byte first.
-fn whole_word(file: &[u8], at: usize) -> u16
+pub fn whole_word(file: &[u8], at: usize) -> u16
     requires { ⌜ at + 2 ≤ length (now file) ⌝ }
     ensures { λ r. ⌜ r ≡ word (drop at (now (file .entry))) ⌝ }
 {

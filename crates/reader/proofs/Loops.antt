@@ -5,7 +5,7 @@
 --   runsBetween start at                    how many runs there are from the first to a place
 --   RunsTo s h start at before grants       so many of them are read, and these are their grants
 --   X-start, X-next, X-refused, X-end       the invariant holds at first, after a record, and what it gives at each way out
---   run-marked, run-short                   what a whole run has, and why a run that is none is refused
+--   run-whole, run-marked, run-short        what a whole run has, and why a run that is none is refused
 use mathlib.Core.Path.{_≡_, refl, sym, ap, _∙_}
 use mathlib.Core.Bool.{true, false, true≢false}
 use mathlib.Core.List.{List, [], _∷_, map}
@@ -15,7 +15,7 @@ use native.Mathlib.Nat.{add-zero, mul-zero, mul-suc}
 use native.Mathlib.Numerals.{add-one}
 use lib.Dec.{ltb}
 use lib.ListN.{length, getD, drop, length-drop, length-append, length-replicate}
-use borrow.Author.Tests.{eq-eqb, ne-eqb, eqb-true}
+use borrow.Author.Tests.{eq-eqb, ne-eqb, eqb-true, ltb-false}
 use Rattle.basics.proofs.Conditions.{split}
 use Rattle.jobfile.specs.declared.Run.{Run}
 use Rattle.jobfile.specs.Format.{requestMark, runMark, jobSize, runSize, mostGrants, word, _then_}
@@ -97,6 +97,12 @@ module _ (s : List ℕ) (heads start : ℕ) where
   pub runs-start : start ≤ length s → RunsTo start fullRun 0
   runs-start l =
       record { to = rw none-between (read-start (runLayout heads) s start fullRun l); few = omega arith; granting = omega arith }
+
+-- a whole run is within the file
+pub run-whole : (s : List ℕ) (at : ℕ) → isRun (drop at s) ≡ true → at ≤ length s → at + runSize ≤ length s
+run-whole s at is within =
+    split (ltb (length (drop at s)) runSize) (λ e. absurd (true≢false (sym (rw e at is))))
+    (λ e. omega (arith, ltb-false (length (drop at s)) runSize e, length-drop at s))
 
 -- a whole run has a run's mark
 pub run-marked : (t : List ℕ) → isRun t ≡ true → word t ≡ runMark

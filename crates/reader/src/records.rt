@@ -7,7 +7,7 @@ use jobfile::REQUEST_SIZE;
 use jobfile::RUN_MARK;
 use jobfile::RUN_SIZE;
 use jobfile::Run;
-use jobfile::bytes::byte_at;
+use jobfile::bytes::whole_word;
 use jobfile::bytes::word_at;
 use jobfile::does_extend;
 use jobfile::fields_refusal;
@@ -15,7 +15,7 @@ ghost use mathlib.Core.Path.{_≡_};
 ghost use Prim.Native.Nat.{_+_, _≤_};
 ghost use lib.ListN.{length, drop};
 ghost use Rattle.job.specs.Job.{kindOf};
-ghost use Rattle.jobfile.specs.Format.{requestSize, mostBytes};
+ghost use Rattle.jobfile.specs.Format.{requestSize, runSize, mostBytes};
 ghost use Rattle.jobfile.specs.Meaning.{fieldsAt, requestAt, runAt, requestRefusal, runRefusal};
 ghost use Rattle.reader.specs.Reader.{isRun};
 
@@ -30,15 +30,15 @@ fn kind_of(number: u32) -> Kind
     }
 }
 
-// The numbers of the request at a place.
+// The numbers of the request at a place, whose record is whole.
 fn fields_here(file: &[u8], at: usize) -> Fields
-    requires { ⌜ at + requestSize ≤ mostBytes ⌝ }
+    requires { ⌜ at + requestSize ≤ length (now file) ⌝ }
     ensures { λ r. ⌜ r ≡ fieldsAt (drop at (now (file .entry))) ⌝ }
 {
-    let head = byte_at(file, at + 2);
-    let kind = byte_at(file, at + 3);
-    let x = word_at(file, at + 4);
-    let y = word_at(file, at + 6);
+    let head = file[at + 2];
+    let kind = file[at + 3];
+    let x = whole_word(file, at + 4);
+    let y = whole_word(file, at + 6);
     Fields {
         head: head as u32,
         kind: kind as u32,
@@ -49,7 +49,7 @@ fn fields_here(file: &[u8], at: usize) -> Fields
 
 // The request at a place.
 pub fn request_here(file: &[u8], at: usize) -> Request
-    requires { ⌜ at + requestSize ≤ mostBytes ⌝ }
+    requires { ⌜ at + requestSize ≤ length (now file) ⌝ }
     ensures { λ r. ⌜ r ≡ requestAt (drop at (now (file .entry))) ⌝ }
 {
     let fields = fields_here(file, at);
@@ -77,13 +77,13 @@ pub fn request_refusal(file: &[u8], at: usize, nodes: u32, heads: u32, number: u
     fields_refusal(nodes, heads, fields_here(file, at))
 }
 
-// The run at a place.
+// The run at a place, whose record is whole.
 pub fn run_here(file: &[u8], at: usize) -> Run
-    requires { ⌜ at ≤ mostBytes ⌝ }
+    requires { ⌜ at + runSize ≤ length (now file) ⌝ }
     ensures { λ r. ⌜ r ≡ runAt (drop at (now (file .entry))) ⌝ }
 {
-    let head = byte_at(file, at + 2);
-    let count = byte_at(file, at + 3);
+    let head = file[at + 2];
+    let count = file[at + 3];
     Run {
         head: head,
         count: count,

@@ -2,8 +2,7 @@
 use native.Mathlib.Omega.{arith}
 use denote.Ref.{now}
 use borrow.Author.Needs.{needs}
-use Rattle.jobfile.proofs.Places.{request-stands}
-use Rattle.jobfile.proofs.RoundTrip.{admitted-meaning}
+use Rattle.jobfile.proofs.Places.{file-length, request-stands}
 use Rattle.jobfile.specs.Admitted.{Bytes}
 use Rattle.reader.proofs.request_at.Statement.{statement}
 use Rattle.reader.proofs.request_at.Tie as tie
@@ -12,7 +11,7 @@ request-here-requires : tie.Need-request-here-requires
 request-here-requires c κs =
     let s = now (c .before .before .args .file) in
     let bytes : Bytes s = λ i. omega (arith, c .before .shared-slice-known .given i) in
-    omega (arith, c .request-place .ensures, admitted-meaning s bytes (c .before .before .pre .0) .few-requests)
+    omega (arith, c .request-place .ensures, c .before .before .pre .1, file-length s bytes (c .before .before .pre .0))
 
 returns : tie.Need-returns
 returns c = λ none.

@@ -2,7 +2,7 @@
 use native.Mathlib.Omega.{arith}
 use denote.Ref.{now}
 use borrow.Author.Needs.{needs}
-use Rattle.jobfile.proofs.Places.{file-length, file-short, run-stands}
+use Rattle.jobfile.proofs.Places.{file-length, run-stands}
 use Rattle.jobfile.specs.Admitted.{Bytes}
 use Rattle.reader.proofs.run_at.Statement.{statement}
 use Rattle.reader.proofs.run_at.Tie as tie
@@ -12,7 +12,7 @@ run-here-requires c κs =
     let start = c .before .before in
     let s = now (start .args .file) in
     let bytes : Bytes s = λ i. omega (arith, c .before .shared-slice-known .given i) in
-    omega (arith, c .run-place .ensures, file-length s bytes (start .pre .0), file-short s bytes (start .pre .0))
+    omega (arith, c .run-place .ensures, start .pre .1 .0, start .pre .1 .1, file-length s bytes (start .pre .0))
 
 returns : tie.Need-returns
 returns c = λ none.

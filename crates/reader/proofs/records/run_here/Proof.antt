@@ -1,4 +1,5 @@
 -- `records::run_here`: each field from its byte.
+use mathlib.Core.Path.{refl}
 use denote.Ref.{now}
 use borrow.Author.Needs.{needs}
 use Rattle.reader.proofs.Fields.{run-read}
@@ -6,10 +7,8 @@ use Rattle.reader.proofs.records.run_here.Statement.{statement}
 use Rattle.reader.proofs.records.run_here.Tie as tie
 
 returns : tie.Need-returns
-returns c =
-    let a = c .before .before .before .args in
-    run-read (now (a .file)) (a .at) _ _ (c .before .byte-at .ensures) (c .byte-at2 .ensures)
+returns c = let a = c .before .before .args in run-read (now (a .file)) (a .at) _ _ refl refl
 
 pub run-here-spec : {M : Type 1} → statement M
 run-here-spec =
-    tie.close (tie.spec (λ c. search needs) (λ c κs. search needs) (λ c. search needs) (λ c κs. search needs) returns)
+    tie.close (tie.spec (λ c. search needs) (λ c. search needs) (λ c. search needs) (λ c. search needs) returns)

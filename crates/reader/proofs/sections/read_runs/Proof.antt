@@ -1,5 +1,6 @@
 -- `sections::read_runs`: the runs that are left give what all of them give.
 use mathlib.Core.Path.{_≡_, sym, _∙_}
+use mathlib.Core.Bool.{true}
 use mathlib.Core.List.{List}
 use Prim.Native.Nat.{ℕ, _+_, _-_}
 use native.Mathlib.Omega.{arith}
@@ -7,7 +8,8 @@ use lib.ListN.{length, drop}
 use denote.Ref.{now}
 use borrow.Author.Needs.{needs}
 use Rattle.jobfile.specs.Format.{runMark, runSize, word}
-use Rattle.reader.proofs.Loops.{RunsTo, runs-start, run-marked, run-short, runs-next, runs-refused, runs-end}
+use Rattle.reader.specs.Reader.{isRun}
+use Rattle.reader.proofs.Loops.{RunsTo, runs-start, run-whole, run-marked, run-short, runs-next, runs-refused, runs-end}
 use Rattle.reader.proofs.sections.read_runs.Statement.{statement}
 use Rattle.reader.proofs.sections.read_runs.Tie as tie
 
@@ -24,8 +26,11 @@ here c = c .before
 abbrev left : tie.Then1 Inv-loop μ-loop → List ℕ
 left c = let looped = c .before .before in drop (looped .loop .at) (now (looped .before .before .args .file))
 
+whole : (c : tie.Then1 Inv-loop μ-loop) → isRun (left c) ≡ true
+whole c = sym (c .before .is-run .ensures) ∙ c .if1 .taken
+
 marked : (c : tie.Then1 Inv-loop μ-loop) → word (left c) ≡ runMark
-marked c = run-marked (left c) (sym (c .before .is-run .ensures) ∙ c .if1 .taken)
+marked c = run-marked (left c) (whole c)
 
 loop-holds : tie.Need-loop-holds Inv-loop μ-loop
 loop-holds c = runs-start _ _ _ (c .before .pre .0)
@@ -36,7 +41,9 @@ returns c =
     runs-refused (here refused .before .before .loop .inv) _ (marked (here refused)) (refused .run-refusal .ensures) (c .if2 .taken)
 
 run-here-requires : tie.Need-run-here-requires Inv-loop μ-loop
-run-here-requires c κs = omega arith
+run-here-requires c κs =
+    let run = here (c .before) in
+    run-whole (now (run .before .before .before .before .args .file)) _ (whole run) (run .before .before .loop .inv .to .within)
 
 add-at : tie.Need-add-at Inv-loop μ-loop
 add-at c = omega arith
