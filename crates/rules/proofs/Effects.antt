@@ -45,7 +45,8 @@ use Rattle.rules.specs.Linearized.{operationAt, promised}
 use Rattle.rules.proofs.History.{usedFor, other-served, row-other, served-answer, link-served, link-unserved, find-served}
 use Rattle.rules.proofs.History.{point-unlinked, point-same-set, point-union}
 use Rattle.rules.proofs.Stages.{Moment, Knows}
-use Rattle.rules.proofs.Outcomes.{linkedMoment, united, Kept, Unlinked, Going, Closing, Afterwards, Joining, Tidying, Denying, Outcome}
+use Rattle.rules.proofs.Outcomes.{linkedMoment, united, Kept, Unlinked}
+use Rattle.rules.proofs.Outcomes.{Going, Closing, Afterwards, Joining, Tidying, Denying, Outcome}
 use Rattle.rules.proofs.Outcomes.Afterwards.{finished, continuing}
 use Rattle.rules.proofs.Outcomes.Outcome.{going, closing, joining, tidying, denying}
 use Rattle.rules.proofs.Invariant.{momentOf, claim, Candidate, Placed, Invariant}

@@ -9,7 +9,8 @@ returns : tie.Need-returns
 returns c =
     let tested = c .before .before in
     let a = tested .before .before .args in
-    rw (c .go-on .ensures, c .before .next-errand .ensures) (ended-x (a .task) (a .now) (a .errand) (sym (tested .before .serves-x .ensures) ∙ tested .if1 .taken))
+    rw (c .go-on .ensures, c .before .next-errand .ensures)
+    (ended-x (a .task) (a .now) (a .errand) (sym (tested .before .serves-x .ensures) ∙ tested .if1 .taken))
 
 returns-2 : tie.Need-returns-2
 returns-2 c =
@@ -23,7 +24,8 @@ returns-3 c =
     let other = tested .before .before in
     let a = other .before .before .args in
     rw (c .compared .ensures, c .before .kind-of .ensures)
-    (ended-y (a .task) (a .now) (a .errand) (sym (other .before .serves-x .ensures) ∙ other .if1 .left) (sym (tested .before .tidies .ensures) ∙ tested .if2 .left))
+    (ended-y (a .task) (a .now) (a .errand) (sym (other .before .serves-x .ensures) ∙ other .if1 .left)
+    (sym (tested .before .tidies .ensures) ∙ tested .if2 .left))
 
 pub ended-spec : {M : Type 1} → statement M
 ended-spec =
