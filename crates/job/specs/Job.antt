@@ -1,10 +1,11 @@
--- A job as document 01 has it: a number of nodes, a number of heads, requests, and the schedule of grants.
+-- A job as document 01 has it: a number of nodes, a number of heads, requests, and the schedule of grants; and (02, A3) the
+-- pairs of requests of which the later one waits for the earlier one.
 --
 --   kindNumber k    the number that stands for the kind k in a file
 --   kindOf n        the kind that the number n stands for
 --   answerNumber a  the number that stands for the answer a in the report
 --   mostNodes, mostHeads, mostRequests   the sizes of the largest job
---   Job             nodes, heads, requests and schedule
+--   Job             nodes, heads, requests, waits and schedule
 use mathlib.Core.Bool.{cond}
 use mathlib.Core.List.{List}
 use Prim.Native.Nat.{ℕ}
@@ -14,6 +15,7 @@ use Rattle.job.specs.declared.Kind.the-variants.{Union, SameSet}
 use Rattle.job.specs.declared.Answer.{Answer}
 use Rattle.job.specs.declared.Answer.the-variants.{Unfinished, Joined, Together, Yes, No}
 use Rattle.job.specs.declared.Request.{Request}
+use Rattle.job.specs.declared.Wait.{Wait}
 
 -- Document 01, "Job file": there are at most 4,096 places,
 abbrev pub mostNodes : ℕ
@@ -45,9 +47,11 @@ answerNumber Yes = 3
 answerNumber No = 4
 
 -- What a job file means, and what the writer is given. A request's number is its position in the list, from 0.
--- The schedule (document 01: the grants) is a list of head numbers, one a grant.
+-- The waits (02, A3) are pairs of requests, in file order. The schedule (document 01: the grants) is a list of head numbers,
+-- one a grant.
 pub record Job : Type 0 where
   pub nodes : ℕ
   pub heads : ℕ
   pub requests : List Request
+  pub waits : List Wait
   pub schedule : List ℕ

@@ -34,6 +34,12 @@ pub struct Request {
     pub y: u16,
 }
 
+// A pair of requests by their numbers (02, A3): the later one waits until the earlier one is finished.
+pub struct Wait {
+    pub later: u32,
+    pub earlier: u32,
+}
+
 // The counters of a play (document 01: tally): idle grants, failed swaps, links, and the heads with work left.
 #[repr(C)]
 pub struct Tally {

@@ -1,40 +1,37 @@
 -- What is read is written back: an accepted file is the file of its job, byte for byte, and its job is admitted.
 --
---   runs-follow              runs that are not refused follow the rules
 --   close-front              the bytes of a close that is not refused are what stands there
+--   request-section, wait-section, run-section   the sections of a file stand one behind the other
+--   waits-rule, runs-rule    the pairs of an accepted file rise, and its runs follow the rules
 --   written-job              the file of an accepted file's job is that file
 --   admitted-job             the job of an accepted file is admitted
 use mathlib.Core.Path.{_≡_, refl, _∙_, ap}
 use mathlib.Core.List.{List, [], _++_, map}
 use Prim.Native.Nat.{ℕ, _+_}
 use native.Mathlib.Omega.{arith}
-use lib.ListN.{drop, length-map, drop-of-length-le}
+use lib.ListN.{length, drop, length-map, drop-of-length-le}
 use lib.Seq.{drop-drop}
 use Rattle.jobfile.specs.declared.Run.{Run}
-use Rattle.jobfile.specs.Format.{jobMark, requestMark, runMark, closeMark, jobSize, requestSize, runSize, closeSize, word, wordBytes}
-use Rattle.jobfile.specs.Format.{wordSum}
-use Rattle.jobfile.specs.Meaning.{sectionRefusal, nodesIn, headsIn, runAt, runsRefusal, fullRun, requestRecords, runsStart}
-use Rattle.jobfile.specs.Meaning.{runRecords, closeStart, runsIn, jobIn}
+use Rattle.jobfile.specs.Format.{jobMark, requestMark, waitMark, runMark, closeMark, jobSize, requestSize, waitSize, runSize}
+use Rattle.jobfile.specs.Format.{closeSize, word, wordBytes, wordSum, noPair}
+use Rattle.jobfile.specs.Meaning.{nodesIn, headsIn, requestAt, waitAt, runAt, runRefusal, fullRun, requestRecords, waitsStart}
+use Rattle.jobfile.specs.Meaning.{waitRecords, runsStart, runRecords, closeStart, runsIn, jobIn}
 use Rattle.jobfile.specs.Written.{fileWith, balance, written}
 use Rattle.jobfile.specs.Admitted.{Admitted, Bytes}
-use Rattle.jobfile.proofs.Refusals.{through}
-use Rattle.jobfile.proofs.Passed.{requests-few, each-serves, run-passed, ClosePassed, FilePassed}
+use Rattle.jobfile.proofs.Refusals.{Paired}
+use Rattle.jobfile.proofs.Passed.{requests-few, each-serves, wait-passed, run-passed, ClosePassed, FilePassed}
 use Rattle.jobfile.proofs.Records.{Section, records-section, bytes-drop, section-front}
-use Rattle.jobfile.proofs.Records.Section.{over, more}
-use Rattle.jobfile.proofs.Runs.{Follows, longest-granted, granted-below}
-use Rattle.jobfile.proofs.Layouts.{word-at, mark-front, requestLayout, runLayout}
+use Rattle.jobfile.proofs.Chains.{section-chain}
+use Rattle.jobfile.proofs.Pairs.{Rising, rising-each, rising-next}
+use Rattle.jobfile.proofs.Runs.{Following, Follows, longest-granted, granted-below}
+use Rattle.jobfile.proofs.Layouts.{word-at, mark-front, requestLayout, waitLayout, runLayout}
 use Rattle.jobfile.proofs.Forward.{sum-parts}
 
-runs-follow : {t rest : List ℕ} {ts : List (List ℕ)} (heads : ℕ) (before : Run) → Section runSize runMark t ts rest → Bytes t
-    → runsRefusal heads before ts ≡ 0 → Follows heads before (map runAt ts)
-unfolding sectionRefusal
-runs-follow heads before over b e = tt
-runs-follow {t} heads before (more m s) b e =
-    let p = through _ _ e in
-    let q = run-passed heads before t (p .first) in (
-      record { head = q .head; some = q .some; few = omega (arith, b 3); apart = q .apart },
-      runs-follow heads (runAt t) s (bytes-drop runSize t b) (p .second),
-    )
+-- A run that is not refused follows the rules: it is a byte.
+run-follows : (heads : ℕ) (before : Run) (t : List ℕ) → Bytes t → runRefusal heads before t ≡ 0 → Following heads before (runAt t)
+run-follows heads before t b e =
+    let p = run-passed heads before t e in
+    record { head = p .head; some = p .some; few = omega (arith, b 3); apart = p .apart }
 
 close-front : (t : List ℕ) → Bytes t → ClosePassed t → wordBytes closeMark ++ wordBytes (word (drop 2 t)) ≡ t
 close-front t b p =
@@ -44,15 +41,26 @@ close-front t b p =
     ap (λ (u : List ℕ). wordBytes closeMark ++ u) last ∙ mark-front closeMark t b (omega arith) (p .marked)
 
 -- The sections of a file stand one behind the other.
-pub request-section : (s : List ℕ) → Section requestSize requestMark (drop jobSize s) (requestRecords s) (drop (runsStart s) s)
+pub request-section : (s : List ℕ) → Section requestSize requestMark (drop jobSize s) (requestRecords s) (drop (waitsStart s) s)
 request-section s = rw drop-drop at (records-section requestSize requestMark (omega arith) refl (drop jobSize s))
+
+pub wait-section : (s : List ℕ) → Section waitSize waitMark (drop (waitsStart s) s) (waitRecords s) (drop (runsStart s) s)
+wait-section s = rw drop-drop at (records-section waitSize waitMark (omega arith) refl (drop (waitsStart s) s))
 
 pub run-section : (s : List ℕ) → Section runSize runMark (drop (runsStart s) s) (runRecords s) (drop (closeStart s) s)
 run-section s = rw drop-drop at (records-section runSize runMark (omega arith) refl (drop (runsStart s) s))
 
 module _ (s : List ℕ) (b : Bytes s) (p : FilePassed s) where
+  pub waits-rule : Rising (length (requestRecords s)) noPair (map waitAt (waitRecords s))
+  waits-rule =
+      let count = length (requestRecords s) in
+      section-chain (waitLayout count) (Paired count) (λ before t. refl) (λ before t b e. wait-passed count before t e .pair)
+      noPair (wait-section s) (bytes-drop (waitsStart s) s b) (p .waits)
+
   pub runs-rule : Follows (headsIn s) fullRun (runsIn s)
-  runs-rule = runs-follow (headsIn s) fullRun (run-section s) (bytes-drop (runsStart s) s b) (p .runs)
+  runs-rule =
+      section-chain (runLayout (headsIn s)) (Following (headsIn s)) (λ before t. refl) (run-follows (headsIn s))
+      fullRun (run-section s) (bytes-drop (runsStart s) s b) (p .runs)
 
   file-front : fileWith (jobIn s) (word (drop 2 (drop (closeStart s) s))) ≡ s
   unfolding fileWith jobIn
@@ -62,6 +70,7 @@ module _ (s : List ℕ) (b : Bytes s) (p : FilePassed s) where
         longest-granted (headsIn s) fullRun (runsIn s) runs-rule,
         close-front (drop (closeStart s) s) (bytes-drop (closeStart s) s b) (p .close),
         section-front (runLayout (headsIn s)) fullRun (run-section s) (p .runs) (bytes-drop (runsStart s) s b),
+        section-front (waitLayout (length (requestRecords s))) noPair (wait-section s) (p .waits) (bytes-drop (waitsStart s) s b),
         section-front (requestLayout (nodesIn s) (headsIn s)) 0 (request-section s) (p .requests) (bytes-drop jobSize s b),
         word-at 4 s b (omega arith),
         word-at 2 s b (omega arith),
@@ -89,6 +98,9 @@ module _ (s : List ℕ) (b : Bytes s) (p : FilePassed s) where
         few-heads = p .header .sizes .few-heads;
         few-requests = rw length-map (omega (arith, requests-few (nodesIn s) (headsIn s) 0 (requestRecords s) (omega arith) (p .requests)));
         each-request = each-serves (nodesIn s) (headsIn s) 0 (requestRecords s) (p .requests);
+        each-wait = rw (length-map (requestRecords s) requestAt)
+            (rising-each (length (requestRecords s)) noPair (map waitAt (waitRecords s)) waits-rule);
+        rising = rising-next (length (requestRecords s)) noPair (map waitAt (waitRecords s)) waits-rule;
         each-grant = granted-below (headsIn s) fullRun (runsIn s) runs-rule;
         short = rw written-job (p .short);
       }

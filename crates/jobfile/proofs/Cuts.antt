@@ -12,11 +12,12 @@ use lib.ListN.{length, getD, take, drop, take-append-drop}
 use Rattle.job.specs.declared.Kind.{Kind}
 use Rattle.job.specs.declared.Kind.the-variants.{Union, SameSet}
 use Rattle.job.specs.declared.Request.{Request}
-use Rattle.job.specs.Job.{Job, kindNumber, mostNodes, mostHeads}
+use Rattle.job.specs.declared.Wait.{Wait}
+use Rattle.job.specs.Job.{Job, kindNumber, mostNodes, mostHeads, mostRequests}
 use Rattle.jobfile.specs.declared.Run.{Run}
 use Rattle.jobfile.specs.Format.{closeMark, wordBytes, extends}
-use Rattle.jobfile.specs.Written.{requestsBytes, runsBytes, nextRun, runsFrom, longestRuns, fileWith, balance, written}
-use Rattle.jobfile.specs.Admitted.{Serves, Admitted, Bytes}
+use Rattle.jobfile.specs.Written.{requestsBytes, waitsBytes, runsBytes, nextRun, runsFrom, longestRuns, fileWith, balance, written}
+use Rattle.jobfile.specs.Admitted.{Serves, Pairs, Admitted, Bytes}
 use Rattle.jobfile.proofs.Runs.{Follows, longest-follow}
 
 -- ---- the runs of the first grants
@@ -75,6 +76,17 @@ requests-each nodes heads (q ∷ qs) t few-nodes few-heads serves rest =
     let y : Each (wordBytes (q .y)) = (omega arith, (omega (arith, s .y), tt)) in
     (omega arith, (omega arith, (omega (arith, s .head), (kind-byte (q .kind), (x .0, (x .1 .0, (y .0, (y .1 .0, more))))))))
 
+-- a pair's numbers are bytes: there are at most 512 requests
+waits-each : (count : ℕ) (ws : List Wait) (t : List ℕ) → count ≤ mostRequests
+    → ((i : ℕ) (none : Wait) → i < length ws → Pairs count (getD ws i none)) → Each t → Each (waitsBytes ws ++ t)
+waits-each count [] t few pairs rest = rest
+waits-each count (w ∷ ws) t few pairs rest =
+    let p = pairs 0 w (omega arith) in
+    let more = waits-each count ws t few (λ i none l. pairs (suc i) none (omega arith)) rest in
+    let later : Each (wordBytes (w .later)) = (omega arith, (omega (arith, p .later), tt)) in
+    let earlier : Each (wordBytes (w .earlier)) = (omega arith, (omega (arith, p .later, p .earlier), tt)) in
+    (omega arith, (omega arith, (later .0, (later .1 .0, (earlier .0, (earlier .1 .0, more))))))
+
 runs-each : (heads : ℕ) (before : Run) (rs : List Run) (t : List ℕ) → heads ≤ mostHeads → Follows heads before rs → Each t
     → Each (runsBytes rs ++ t)
 runs-each heads before [] t few follow rest = rest
@@ -91,6 +103,8 @@ written-bytes j a =
     let close : List ℕ = wordBytes closeMark ++ wordBytes (balance j) in
     let last : Each close = (omega arith, (omega arith, (omega arith, (omega arith, tt)))) in
     let runs = runs-each (j .heads) _ (longestRuns (j .schedule)) close (a .few-heads) follow last in
-    let body = requests-each (j .nodes) (j .heads) (j .requests) (runsBytes (longestRuns (j .schedule)) ++ close)
-    (a .few-nodes) (a .few-heads) (a .each-request) runs in
+    let waits = waits-each (length (j .requests)) (j .waits) (runsBytes (longestRuns (j .schedule)) ++ close)
+    (a .few-requests) (a .each-wait) runs in
+    let body = requests-each (j .nodes) (j .heads) (j .requests) (waitsBytes (j .waits) ++ (runsBytes (longestRuns (j .schedule)) ++ close))
+    (a .few-nodes) (a .few-heads) (a .each-request) waits in
     each-bytes (written j) (omega arith, (omega arith, (nodes .0, (nodes .1 .0, (heads .0, (heads .1 .0, body))))))

@@ -11,13 +11,16 @@ use lib.Dec.{ltb, leb}
 use lib.ListN.{length, getD, length-map}
 use borrow.Author.Tests.{ltb-false, leb-false, le-ltb, lt-leb}
 use Rattle.job.specs.declared.Request.{Request}
+use Rattle.job.specs.declared.Wait.{Wait}
 use Rattle.job.specs.Job.{Job, kindNumber, mostRequests}
 use Rattle.jobfile.specs.declared.Fields.{Fields}
-use Rattle.jobfile.specs.Format.{mostBytes, fieldsRefusal, requestOf, lengthRefusal}
+use Rattle.jobfile.specs.Format.{mostBytes, fieldsRefusal, requestOf, noPair, lengthRefusal}
 use Rattle.jobfile.specs.Written.{written}
-use Rattle.jobfile.specs.Draft.{Draft, fieldsOf, jobOf, countRefusal, eachRefusal, grantsRefusal, draftRefusal, numbersOf, draftOf}
+use Rattle.jobfile.specs.Draft.{Draft, fieldsOf, pairsOf, jobOf, countRefusal, eachRefusal, grantsRefusal, draftRefusal}
+use Rattle.jobfile.specs.Draft.{numbersOf, pairNumbers, draftOf}
 use Rattle.jobfile.specs.Admitted.{Serves, Admitted}
 use Rattle.jobfile.proofs.Refusals.{passed, through, sized, sized-passes, fit, fit-passes}
+use Rattle.jobfile.proofs.Pairs.{rising-each, rising-next, rising-all, rising-checked, checked-rising}
 use Rattle.jobfile.proofs.Runs.{Below, below-tail}
 use Rattle.jobfile.proofs.KindNumbers.{kind-back, some-kind, few-kinds}
 
@@ -43,16 +46,20 @@ admitted-draft d e =
     let a = through _ _ e in
     let b = through _ _ (a .second) in
     let q = through _ _ (b .second) in
-    let g = through _ _ (q .second) in
+    let w = through _ _ (q .second) in
+    let g = through _ _ (w .second) in
+    let count = length (fieldsOf (d .requests)) in
+    let rising = rising-checked count noPair (pairsOf (d .waits)) (w .first) in
     let s = sized (d .nodes) (d .heads) (a .first) in
     record {
       some-nodes = s .some-nodes;
       few-nodes = s .few-nodes;
       some-heads = s .some-heads;
       few-heads = s .few-heads;
-      few-requests = rw length-map (ltb-false mostRequests (length (fieldsOf (d .requests)))
-          (passed (ltb mostRequests (length (fieldsOf (d .requests)))) 8 _ (b .first) .test));
+      few-requests = rw length-map (ltb-false mostRequests count (passed (ltb mostRequests count) 8 _ (b .first) .test));
       each-request = fields-serve (d .nodes) (d .heads) (fieldsOf (d .requests)) (q .first);
+      each-wait = rw length-map (rising-each count noPair (pairsOf (d .waits)) rising);
+      rising = rising-next count noPair (pairsOf (d .waits)) rising;
       each-grant = grants-below (d .heads) (d .schedule) (g .first);
       short = ltb-false mostBytes (length (written (jobOf d))) (passed (ltb mostBytes (length (written (jobOf d)))) 0 _ (g .second) .test);
     }
@@ -61,9 +68,19 @@ requests-drafted : (qs : List Request) → map requestOf (fieldsOf (numbersOf qs
 requests-drafted [] = refl
 requests-drafted (q ∷ qs) = λ i. record { head = q .head; kind = kind-back (q .kind) i; x = q .x; y = q .y } ∷ requests-drafted qs i
 
+pairs-drafted : (ws : List Wait) → pairsOf (pairNumbers ws) ≡ ws
+pairs-drafted [] = refl
+pairs-drafted (w ∷ ws) = ap (λ (l : List Wait). w ∷ l) (pairs-drafted ws)
+
 pub job-drafted : (j : Job) → jobOf (draftOf j) ≡ j
 unfolding jobOf
-job-drafted j = λ i. record { nodes = j .nodes; heads = j .heads; requests = requests-drafted (j .requests) i; schedule = j .schedule }
+job-drafted j = λ i. record {
+  nodes = j .nodes;
+  heads = j .heads;
+  requests = requests-drafted (j .requests) i;
+  waits = pairs-drafted (j .waits) i;
+  schedule = j .schedule;
+}
 
 serve-fields : (nodes heads : ℕ) (qs : List Request) → ((q : ℕ) (none : Request) → q < length qs → Serves nodes heads (getD qs q none))
     → eachRefusal nodes heads (fieldsOf (numbersOf qs)) ≡ 0
@@ -101,6 +118,8 @@ draft-passes j a =
       count,
       le-ltb mostRequests (length (j .requests)) (a .few-requests),
       serve-fields (j .nodes) (j .heads) (j .requests) (a .each-request),
+      pairs-drafted (j .waits),
+      checked-rising (length (j .requests)) noPair (j .waits) (rising-all (length (j .requests)) (j .waits) (a .each-wait) (a .rising)),
       below-grants (j .heads) (j .schedule) (a .each-grant),
       job-drafted j,
       le-ltb mostBytes (length (written j)) (a .short),

@@ -4,40 +4,35 @@
 --   body j                   the records of a job's file before its close
 --   file-parts, sum-parts    the file is its body, the close's mark and the balance, and so is the sum of its words
 --   meaning-written          the meaning of the written file is the job
-use mathlib.Core.Path.{_≡_, _∙_, sym, ap}
+use mathlib.Core.Path.{_≡_, refl, _∙_, ap}
 use mathlib.Core.List.{List, [], _∷_, _++_, map, append-assoc}
 use Prim.Native.Nat.{ℕ, _+_, _%_, _≤_}
 use native.Mathlib.Omega.{arith}
-use lib.ListN.{length, drop, length-append, length-map}
-use lib.Seq.{drop-drop}
+use lib.ListN.{length, drop, length-append}
 use borrow.Author.Tests.{le-ltb}
 use Rattle.job.specs.Job.{Job}
-use Rattle.jobfile.specs.declared.Run.{Run}
-use Rattle.jobfile.specs.Format.{jobMark, requestMark, runMark, closeMark, jobSize, requestSize, runSize, mostBytes, word, wordBytes}
-use Rattle.jobfile.specs.Format.{wordSum, lengthRefusal}
-use Rattle.jobfile.specs.Meaning.{records, nodesIn, headsIn, headerRefusal, requestAt, requestsRefusal, runAt, runsRefusal, fullRun}
-use Rattle.jobfile.specs.Meaning.{granted, closeRefusal, balanceRefusal, requestRecords, runsStart, runRecords, closeStart}
-use Rattle.jobfile.specs.Meaning.{fileRefusal, runsIn, jobIn, accepted, meaning}
-use Rattle.jobfile.specs.Written.{requestsBytes, runsBytes, longestRuns, fileWith, balance, written}
+use Rattle.jobfile.specs.Format.{jobMark, requestMark, waitMark, closeMark, jobSize, mostBytes, word, wordBytes, wordSum}
+use Rattle.jobfile.specs.Format.{noPair, lengthRefusal}
+use Rattle.jobfile.specs.Meaning.{nodesIn, headsIn, headerRefusal, requestAt, requestsRefusal, waitAt, waitsRefusal, runsRefusal}
+use Rattle.jobfile.specs.Meaning.{fullRun, granted, closeRefusal, balanceRefusal, requestRecords, waitsStart, waitRecords}
+use Rattle.jobfile.specs.Meaning.{runsStart, runRecords, closeStart, fileRefusal, runsIn, jobIn, accepted, meaning}
+use Rattle.jobfile.specs.Written.{requestsBytes, waitsBytes, runsBytes, longestRuns, fileWith, balance, written}
 use Rattle.jobfile.specs.Admitted.{Admitted}
 use Rattle.jobfile.proofs.Refusals.{sized-passes}
+use Rattle.jobfile.proofs.Pairs.{rising-all}
 use Rattle.jobfile.proofs.Runs.{granted-longest, longest-follow}
-use Rattle.jobfile.proofs.Records.{length-records, section-back, section-skip, section-passes}
-use Rattle.jobfile.proofs.Layouts.{word-back, requestLayout, runLayout, served-pass, following-pass}
+use Rattle.jobfile.proofs.Records.{length-records, section-other, written-read, written-count, written-behind, written-passes}
+use Rattle.jobfile.proofs.Layouts.{word-back, requestLayout, waitLayout, runLayout, served-pass, rising-pass, following-pass}
 
--- The close with the balance w; neither it nor a run is taken for a request.
+-- The close with the balance w.
 abbrev close : ℕ → List ℕ
 close w = wordBytes closeMark ++ wordBytes w
-
-no-request : (rs : List Run) (w : ℕ) → word (runsBytes rs ++ close w) ≡ requestMark → ⊥
-no-request [] w e = omega arith
-no-request (r ∷ rs) w e = omega arith
 
 -- All that stands before the close's mark.
 abbrev pub body : Job → List ℕ
 body j =
     wordBytes jobMark ++ wordBytes (j .nodes) ++ wordBytes (j .heads)
-    ++ requestsBytes (j .requests) ++ runsBytes (longestRuns (j .schedule))
+    ++ requestsBytes (j .requests) ++ waitsBytes (j .waits) ++ runsBytes (longestRuns (j .schedule))
 
 pub file-parts : (j : Job) (w : ℕ) → fileWith j w ≡ (body j ++ wordBytes closeMark) ++ wordBytes w
 unfolding fileWith
@@ -52,60 +47,76 @@ sum-last (low ∷ high ∷ t) w even = omega (arith, sum-last t w (omega arith))
 pub sum-parts : (j : Job) (w : ℕ) → wordSum (fileWith j w) ≡ wordSum (body j ++ wordBytes closeMark) + w
 sum-parts j w =
     let even : length (body j ++ wordBytes closeMark) % 2 ≡ 0 =
-    simp (length-append, length-records (requestLayout 0 0), length-records (runLayout 0)) (omega arith) in
+    simp (length-append, length-records (requestLayout 0 0), length-records (waitLayout 0), length-records (runLayout 0)) (omega arith) in
     ap wordSum (file-parts j w) ∙ sum-last (body j ++ wordBytes closeMark) w even
 
 -- What stands where in the file of an admitted job.
 module _ (j : Job) (w : ℕ) (a : Admitted j) where
-  abbrev runs : List Run
-  runs = longestRuns (j .schedule)
+  abbrev file : List ℕ
+  file = fileWith j w
 
-  -- what stands behind the requests
-  abbrev behind : List ℕ
-  behind = runsBytes runs ++ close w
+  -- what stands behind the pairs, and behind the requests
+  abbrev behind-waits : List ℕ
+  behind-waits = runsBytes (longestRuns (j .schedule)) ++ close w
 
-  nodes-here : nodesIn (fileWith j w) ≡ j .nodes
+  abbrev behind-requests : List ℕ
+  behind-requests = waitsBytes (j .waits) ++ behind-waits
+
+  nodes-here : nodesIn file ≡ j .nodes
   unfolding fileWith
   nodes-here = word-back (j .nodes)
 
-  heads-here : headsIn (fileWith j w) ≡ j .heads
+  heads-here : headsIn file ≡ j .heads
   unfolding fileWith
   heads-here = word-back (j .heads)
 
-  -- the requests, and then the runs, are read back and are not refused
-  requests-back : map requestAt (records requestSize requestMark (requestsBytes (j .requests) ++ behind)) ≡ j .requests
-  requests-back = section-back (requestLayout (j .nodes) (j .heads)) behind (no-request runs w) (j .requests)
+  -- neither a pair nor a run nor the close is taken for a request, and neither a run nor the close for a pair
+  no-wait : word behind-waits ≡ waitMark → ⊥
+  no-wait = section-other (runLayout 0) waitMark (longestRuns (j .schedule)) (close w) (λ e. omega arith) (λ e. omega arith)
 
-  runs-back : map runAt (records runSize runMark behind) ≡ runs
-  runs-back = section-back (runLayout (j .heads)) (close w) (λ e. omega arith) runs
+  no-request : word behind-requests ≡ requestMark → ⊥
+  no-request =
+      section-other (waitLayout 0) requestMark (j .waits) behind-waits (λ e. omega arith)
+      (section-other (runLayout 0) requestMark (longestRuns (j .schedule)) (close w) (λ e. omega arith) (λ e. omega arith))
 
-  request-count : length (requestRecords (fileWith j w)) ≡ length (j .requests)
+  -- each section stands behind the one before it
+  requests-here : drop jobSize file ≡ requestsBytes (j .requests) ++ behind-requests
   unfolding fileWith
-  request-count = sym (length-map (requestRecords (fileWith j w)) requestAt) ∙ ap length requests-back
+  requests-here = refl
 
-  runs-start : drop (runsStart (fileWith j w)) (fileWith j w) ≡ behind
-  unfolding fileWith
-  runs-start = rw (request-count, ← drop-drop) (section-skip (requestLayout 0 0) (j .requests) behind)
+  waits-here : drop (waitsStart file) file ≡ behind-requests
+  waits-here = written-behind (requestLayout 0 0) file jobSize (j .requests) behind-requests requests-here no-request
 
-  runs-read : runsIn (fileWith j w) ≡ runs
-  runs-read = ap (λ t. map runAt (records runSize runMark t)) runs-start ∙ runs-back
+  runs-here : drop (runsStart file) file ≡ behind-waits
+  runs-here = written-behind (waitLayout 0) file (waitsStart file) (j .waits) behind-waits waits-here no-wait
 
-  run-count : length (runRecords (fileWith j w)) ≡ length runs
-  run-count = sym (length-map (runRecords (fileWith j w)) runAt) ∙ ap length runs-read
+  close-here : drop (closeStart file) file ≡ close w
+  close-here = written-behind (runLayout 0) file (runsStart file) (longestRuns (j .schedule)) (close w) runs-here (λ e. omega arith)
 
-  close-start : drop (closeStart (fileWith j w)) (fileWith j w) ≡ close w
-  close-start = rw (run-count, ← drop-drop, runs-start) (section-skip (runLayout 0) runs (close w))
+  -- and is read back
+  requests-read : map requestAt (requestRecords file) ≡ j .requests
+  requests-read = written-read (requestLayout 0 0) file jobSize (j .requests) behind-requests requests-here no-request
 
-  job-here : jobIn (fileWith j w) ≡ j
-  unfolding fileWith jobIn
+  waits-read : map waitAt (waitRecords file) ≡ j .waits
+  waits-read = written-read (waitLayout 0) file (waitsStart file) (j .waits) behind-waits waits-here no-wait
+
+  runs-read : runsIn file ≡ longestRuns (j .schedule)
+  runs-read = written-read (runLayout 0) file (runsStart file) (longestRuns (j .schedule)) (close w) runs-here (λ e. omega arith)
+
+  request-count : length (requestRecords file) ≡ length (j .requests)
+  request-count = written-count (requestLayout 0 0) file jobSize (j .requests) behind-requests requests-here no-request
+
+  job-here : jobIn file ≡ j
+  unfolding jobIn
   job-here = λ i. record {
     nodes = nodes-here i;
     heads = heads-here i;
-    requests = requests-back i;
+    requests = requests-read i;
+    waits = waits-read i;
     schedule = (ap granted runs-read ∙ granted-longest (j .schedule)) i;
   }
 
-  header-passes : headerRefusal (fileWith j w) ≡ 0
+  header-passes : headerRefusal file ≡ 0
   unfolding fileWith headerRefusal
   header-passes =
       let s : List ℕ = fileWith j w in
@@ -113,26 +124,34 @@ module _ (j : Job) (w : ℕ) (a : Admitted j) where
       (sized-passes (j .nodes) (j .heads)
       (record { some-nodes = a .some-nodes; few-nodes = a .few-nodes; some-heads = a .some-heads; few-heads = a .few-heads }))
 
-  requests-pass : requestsRefusal (nodesIn (fileWith j w)) (headsIn (fileWith j w)) 0 (requestRecords (fileWith j w)) ≡ 0
-  unfolding fileWith
+  requests-pass : requestsRefusal (nodesIn file) (headsIn file) 0 (requestRecords file) ≡ 0
   requests-pass =
-      rw (word-back (j .nodes), word-back (j .heads))
-      (section-passes (requestLayout (j .nodes) (j .heads)) behind (no-request runs w) 0 (j .requests)
-      (served-pass (j .nodes) (j .heads) 0 (j .requests) behind (a .each-request) (omega arith)))
+      rw (nodes-here, heads-here)
+      (written-passes (requestLayout (j .nodes) (j .heads)) file jobSize (j .requests) behind-requests requests-here no-request 0
+      (served-pass (j .nodes) (j .heads) 0 (j .requests) behind-requests (a .each-request) (omega arith)))
 
-  runs-pass : runsRefusal (headsIn (fileWith j w)) fullRun (runRecords (fileWith j w)) ≡ 0
+  waits-pass : waitsRefusal (length (requestRecords file)) noPair (waitRecords file) ≡ 0
+  waits-pass =
+      let count = length (j .requests) in
+      let rising = rising-all count (j .waits) (a .each-wait) (a .rising) in
+      ap (λ n. waitsRefusal n noPair (waitRecords file)) request-count
+      ∙ written-passes (waitLayout count) file (waitsStart file) (j .waits) behind-waits waits-here no-wait noPair
+      (rising-pass count noPair (j .waits) behind-waits rising)
+
+  runs-pass : runsRefusal (headsIn file) fullRun (runRecords file) ≡ 0
   runs-pass =
-      rw (heads-here, runs-start)
-      (section-passes (runLayout (j .heads)) (close w) (λ e. omega arith) fullRun runs
+      let runs = longestRuns (j .schedule) in
+      rw heads-here
+      (written-passes (runLayout (j .heads)) file (runsStart file) runs (close w) runs-here (λ e. omega arith) fullRun
       (following-pass (j .heads) fullRun runs (close w) (longest-follow (j .heads) 0 (j .schedule) (a .each-grant))))
 
-  close-passes : closeRefusal (drop (closeStart (fileWith j w)) (fileWith j w)) ≡ 0
+  close-passes : closeRefusal (drop (closeStart file) file) ≡ 0
   unfolding closeRefusal
-  close-passes = rw close-start
+  close-passes = rw close-here
 
-  file-passes : length (fileWith j w) ≤ mostBytes → wordSum (fileWith j w) % 65536 ≡ 0 → fileRefusal (fileWith j w) ≡ 0
+  file-passes : length file ≤ mostBytes → wordSum file % 65536 ≡ 0 → fileRefusal file ≡ 0
   unfolding fileRefusal lengthRefusal balanceRefusal
-  file-passes l b = simp (le-ltb mostBytes (length (fileWith j w)) l, header-passes, requests-pass, runs-pass, close-passes, b)
+  file-passes l b = simp (le-ltb mostBytes (length file) l, header-passes, requests-pass, waits-pass, runs-pass, close-passes, b)
 
 -- The balance brings the sum of the words to zero.
 balanced : (j : Job) → wordSum (written j) % 65536 ≡ 0

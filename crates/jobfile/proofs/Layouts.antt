@@ -1,10 +1,12 @@
--- The records that come in sections, requests and runs: how each is written, read and checked.
+-- The records that come in sections, requests, pairs and runs: how each is written, read and checked.
 --
 --   word-back, word-front   the two bytes of a word give the word, and a word gives its two bytes
 --   word-at, mark-front, pair-after   the word at a place, the mark, and the two bytes behind it, in front of what follows
 --   requestLayout n h       a request of a job with n nodes and h heads, checked with the number of requests before it
---   runLayout h             a run of a job with h heads, checked with the run before it; where only the bytes matter, n and h are 0
+--   waitLayout q            a pair of a job with q requests, checked with the pair before it
+--   runLayout h             a run of a job with h heads, checked with the run before it; where only the bytes matter, n, q and h are 0
 --   served-pass             written requests that are served, and at most 512, are not refused
+--   rising-pass             nor are written pairs that rise
 --   following-pass          nor are written runs that follow the rules
 use mathlib.Core.Path.{_≡_, refl, sym, ap, _∙_}
 use mathlib.Core.List.{List, [], _∷_, _++_}
@@ -14,16 +16,19 @@ use lib.ListN.{length, getD, drop, length-drop}
 use lib.Seq.{drop-drop, drop-cons}
 use borrow.Author.Tests.{ne-eqb, le-ltb, lt-leb}
 use Rattle.job.specs.declared.Request.{Request}
+use Rattle.job.specs.declared.Wait.{Wait}
 use Rattle.jobfile.specs.declared.Run.{Run}
-use Rattle.jobfile.specs.Format.{requestMark, runMark, requestSize, runSize, word, wordBytes}
+use Rattle.jobfile.specs.Format.{requestMark, waitMark, runMark, requestSize, waitSize, runSize, word, wordBytes, pairRefusal}
 use Rattle.job.specs.Job.{mostRequests}
-use Rattle.jobfile.specs.Meaning.{fieldsAt, requestAt, requestRefusal, runAt, runRefusal}
-use Rattle.jobfile.specs.Written.{requestBytes, requestsBytes, runBytes, runsBytes}
+use Rattle.jobfile.specs.Meaning.{fieldsAt, requestAt, requestRefusal, waitAt, waitRefusal, runAt, runRefusal}
+use Rattle.jobfile.specs.Written.{requestBytes, requestsBytes, waitBytes, runBytes}
 use Rattle.jobfile.specs.Admitted.{Serves, Bytes}
 use Rattle.jobfile.proofs.KindNumbers.{kind-back, kind-written, some-kind, few-kinds}
-use Rattle.jobfile.proofs.Refusals.{Fit, fit-passes}
+use Rattle.jobfile.proofs.Refusals.{Fit, fit-passes, Paired, paired-passes}
+use Rattle.jobfile.proofs.Chains.{chain-passes}
+use Rattle.jobfile.proofs.Pairs.{Rising}
 use Rattle.jobfile.proofs.Runs.{Following, Follows}
-use Rattle.jobfile.proofs.Passed.{RequestPassed, request-passed, run-passed}
+use Rattle.jobfile.proofs.Passed.{RequestPassed, request-passed, wait-passed, run-passed}
 use Rattle.jobfile.proofs.Records.{Layout, Passes, bytes-drop}
 
 -- The two bytes of a word give the word.
@@ -66,6 +71,15 @@ request-passes nodes heads number q t s l =
     } in
     rw (le-ltb (length u) requestSize (omega arith), lt-leb mostRequests number l) (fit-passes nodes heads (fieldsAt u) f)
 
+pub wait-back : (w : Wait) (t : List ℕ) → waitAt (waitBytes w ++ t) ≡ w
+wait-back w t = λ i. record { later = word-back (w .later) i; earlier = word-back (w .earlier) i }
+
+wait-passes : (count : ℕ) (before w : Wait) (t : List ℕ) → Paired count before w → waitRefusal count before (waitBytes w ++ t) ≡ 0
+unfolding waitRefusal
+wait-passes count before w t p =
+    let u : List ℕ = waitBytes w ++ t in
+    rw (le-ltb (length u) waitSize (omega arith)) (ap (pairRefusal count before) (wait-back w t) ∙ paired-passes count before w p)
+
 run-passes : (heads : ℕ) (before r : Run) (t : List ℕ) → Following heads before r → runRefusal heads before (runBytes r ++ t) ≡ 0
 unfolding runRefusal
 run-passes heads before r t f =
@@ -83,6 +97,9 @@ request-front nodes heads number t p e b =
       pair-after t (omega arith),
     )
     (mark-front requestMark t b (omega arith) e)
+
+pub wait-front : (t : List ℕ) → waitSize ≤ length t → word t ≡ waitMark → Bytes t → waitBytes (waitAt t) ++ drop waitSize t ≡ t
+wait-front t l e b = rw (word-at 4 t b (omega arith), word-at 2 t b (omega arith)) (mark-front waitMark t b (omega arith) e)
 
 pub run-front : (t : List ℕ) → runSize ≤ length t → word t ≡ runMark → Bytes t → runBytes (runAt t) ++ drop runSize t ≡ t
 run-front t l e b = rw (pair-after t l) (mark-front runMark t b (omega arith) e)
@@ -103,6 +120,24 @@ requestLayout nodes heads =
       back = request-back;
       whole = λ number t e. request-passed nodes heads number t e .whole;
       front = λ number t e. request-front nodes heads number t (request-passed nodes heads number t e);
+    }
+
+abbrev pub waitLayout : ℕ → Layout Wait Wait
+waitLayout count =
+    record {
+      size = waitSize;
+      mark = waitMark;
+      bytes = waitBytes;
+      at = waitAt;
+      check = waitRefusal count;
+      next = λ before t. waitAt t;
+      some = omega arith;
+      marked = refl;
+      sized = λ w. refl;
+      first = λ w t. refl;
+      back = wait-back;
+      whole = λ before t e. wait-passed count before t e .whole;
+      front = λ before t e. wait-front t (wait-passed count before t e .whole);
     }
 
 abbrev pub runLayout : ℕ → Layout Run Run
@@ -132,7 +167,10 @@ served-pass nodes heads number (q ∷ qs) t each l = (
   served-pass nodes heads (number + 1) qs t (λ i none h. each (suc i) none (omega arith)) (omega arith),
 )
 
+pub rising-pass : (count : ℕ) (before : Wait) (ws : List Wait) (t : List ℕ) → Rising count before ws
+    → Passes (waitLayout count) t before ws
+rising-pass count = chain-passes (waitLayout count) (Paired count) (λ before t. refl) (wait-passes count)
+
 pub following-pass : (heads : ℕ) (before : Run) (rs : List Run) (t : List ℕ) → Follows heads before rs
     → Passes (runLayout heads) t before rs
-following-pass heads before [] t f = tt
-following-pass heads before (r ∷ rs) t f = (run-passes heads before r (runsBytes rs ++ t) (f .0), following-pass heads r rs t (f .1))
+following-pass heads = chain-passes (runLayout heads) (Following heads) (λ before t. refl) (run-passes heads)

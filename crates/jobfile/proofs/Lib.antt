@@ -3,6 +3,8 @@ pub mod Refusals
 pub mod KindNumbers
 mod Sums
 pub mod Records
+pub mod Chains
+pub mod Pairs
 pub mod Runs
 pub mod Passed
 pub mod Layouts

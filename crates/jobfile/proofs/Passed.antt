@@ -1,6 +1,6 @@
 -- What it says that a record, or a whole file, is not refused: one record of facts for each check.
 --
---   RequestPassed, RunPassed, ClosePassed, HeaderPassed, FilePassed   the facts, by what is checked
+--   RequestPassed, WaitPassed, RunPassed, ClosePassed, HeaderPassed, FilePassed   the facts, by what is checked
 --   requests-few        requests that are not refused are at most 512
 --   each-serves         and each is served by one of the heads, on two of the nodes
 use mathlib.Core.Path.{_≡_}
@@ -12,15 +12,16 @@ use lib.Dec.{eqb, ltb, leb}
 use lib.ListN.{length, getD, drop}
 use borrow.Author.Tests.{eqb-true, eqb-false, ltb-false, leb-false, not-false}
 use Rattle.job.specs.declared.Request.{Request}
+use Rattle.job.specs.declared.Wait.{Wait}
 use Rattle.jobfile.specs.declared.Run.{Run}
-use Rattle.jobfile.specs.Format.{jobMark, closeMark, jobSize, requestSize, runSize, closeSize, mostBytes, word, wordSum}
+use Rattle.jobfile.specs.Format.{jobMark, closeMark, jobSize, requestSize, waitSize, runSize, closeSize, mostBytes, word, wordSum}
 use Rattle.job.specs.Job.{mostRequests}
-use Rattle.jobfile.specs.Format.{extends, lengthRefusal}
+use Rattle.jobfile.specs.Format.{noPair, extends, lengthRefusal}
 use Rattle.jobfile.specs.Meaning.{sectionRefusal, nodesIn, headsIn, headerRefusal, fieldsAt, requestAt, requestRefusal}
-use Rattle.jobfile.specs.Meaning.{requestsRefusal, runRefusal, runsRefusal, fullRun, closeRefusal, balanceRefusal, requestRecords}
-use Rattle.jobfile.specs.Meaning.{runRecords, closeStart, fileRefusal}
+use Rattle.jobfile.specs.Meaning.{requestsRefusal, waitAt, waitRefusal, waitsRefusal, runRefusal, runsRefusal, fullRun, closeRefusal}
+use Rattle.jobfile.specs.Meaning.{balanceRefusal, requestRecords, waitRecords, runRecords, closeStart, fileRefusal}
 use Rattle.jobfile.specs.Admitted.{Serves}
-use Rattle.jobfile.proofs.Refusals.{passed, through, Sized, sized, Fit, fit}
+use Rattle.jobfile.proofs.Refusals.{passed, through, Sized, sized, Fit, fit, Paired, paired}
 
 pub record RequestPassed (nodes heads number : ℕ) (t : List ℕ) : Type 0 where
   pub whole : requestSize ≤ length t
@@ -57,6 +58,16 @@ each-serves nodes heads number (t ∷ ts) e zero none l =
 each-serves nodes heads number (t ∷ ts) e (suc q) none l =
     let p = through (requestRefusal nodes heads number t) _ e in
     each-serves nodes heads (number + 1) ts (p .second) q none (omega arith)
+
+pub record WaitPassed (count : ℕ) (before : Wait) (t : List ℕ) : Type 0 where
+  pub whole : waitSize ≤ length t
+  pub pair : Paired count before (waitAt t)
+
+pub wait-passed : (count : ℕ) (before : Wait) (t : List ℕ) → waitRefusal count before t ≡ 0 → WaitPassed count before t
+unfolding waitRefusal
+wait-passed count before t e =
+    let a = passed (ltb (length t) waitSize) 1 _ e in
+    record { whole = ltb-false (length t) waitSize (a .test); pair = paired count before (waitAt t) (a .rest) }
 
 -- What it says of a run that its head is admitted, it grants something, and it could not have joined the run before it.
 pub record RunPassed (heads : ℕ) (before : Run) (t : List ℕ) : Type 0 where
@@ -117,6 +128,7 @@ pub record FilePassed (s : List ℕ) : Type 0 where
   pub short : length s ≤ mostBytes
   pub header : HeaderPassed s
   pub requests : requestsRefusal (nodesIn s) (headsIn s) 0 (requestRecords s) ≡ 0
+  pub waits : waitsRefusal (length (requestRecords s)) noPair (waitRecords s) ≡ 0
   pub runs : runsRefusal (headsIn s) fullRun (runRecords s) ≡ 0
   pub close : ClosePassed (drop (closeStart s) s)
   pub balance : wordSum s % 65536 ≡ 0
@@ -127,12 +139,14 @@ file-passed s e =
     let a = through _ _ e in
     let h = through _ _ (a .second) in
     let q = through _ _ (h .second) in
-    let r = through _ _ (q .second) in
+    let w = through _ _ (q .second) in
+    let r = through _ _ (w .second) in
     let c = through _ _ (r .second) in
     record {
       short = ltb-false mostBytes (length s) (passed (ltb mostBytes (length s)) 0 _ (a .first) .test);
       header = header-passed s (h .first);
       requests = q .first;
+      waits = w .first;
       runs = r .first;
       close = close-passed (drop (closeStart s) s) (c .first);
       balance = eqb-true _ 0 (not-false _ (passed (not (eqb (wordSum s % 65536) 0)) 12 _ (c .second) .test));

@@ -2,8 +2,8 @@
 --
 --   length-written      the length of what is written
 --   file-short          an accepted file is at most 32,768 bytes
---   file-length         an accepted file is its header, its requests, its runs and the close
---   request-stands, run-stands   request q and run i of an accepted file stand in their places
+--   file-length         an accepted file is its header, its requests, its pairs, its runs and the close
+--   request-stands, wait-stands, run-stands   request q, pair i and run i of an accepted file stand in their places
 --   runs-meant          the runs of an accepted file are the longest of its schedule
 --   granted-next, granted-end   the schedule of the runs from run i on
 --   few-grants          an admitted job has at most 2,088,195 grants
@@ -15,23 +15,26 @@ use native.Mathlib.Numerals.{add-one}
 use lib.ListN.{length, getD, drop, replicate, length-append, length-map, drop-of-length-le}
 use lib.Seq.{drop-drop, drop-cons}
 use Rattle.job.specs.declared.Request.{Request}
+use Rattle.job.specs.declared.Wait.{Wait}
 use Rattle.job.specs.Job.{Job}
 use Rattle.jobfile.specs.declared.Run.{Run}
-use Rattle.jobfile.specs.Format.{runSize, requestPlace, runPlace, fileSize, mostBytes}
-use Rattle.jobfile.specs.Meaning.{headsIn, requestAt, runAt, fullRun, granted, requestRecords, runsStart, runRecords, runsIn, jobIn}
-use Rattle.jobfile.specs.Meaning.{meaning}
+use Rattle.jobfile.specs.Format.{waitSize, runSize, requestPlace, waitPlace, runPlace, fileSize, mostBytes}
+use Rattle.jobfile.specs.Meaning.{headsIn, requestAt, waitAt, runAt, fullRun, granted, requestRecords, waitsStart, waitRecords}
+use Rattle.jobfile.specs.Meaning.{runsStart, runRecords, runsIn, jobIn, meaning}
 use Rattle.jobfile.specs.Written.{longestRuns, fileWith, written}
 use Rattle.jobfile.specs.Admitted.{Admitted, Bytes}
 use Rattle.jobfile.proofs.Records.{section-at, length-records}
 use Rattle.jobfile.proofs.Runs.{longest-follow, longest-granted, granted-longest, granted-few}
 use Rattle.jobfile.proofs.Passed.{file-passed}
-use Rattle.jobfile.proofs.Layouts.{requestLayout, runLayout}
-use Rattle.jobfile.proofs.Backward.{request-section, run-section, runs-rule}
+use Rattle.jobfile.proofs.Layouts.{requestLayout, waitLayout, runLayout}
+use Rattle.jobfile.proofs.Backward.{request-section, wait-section, run-section, runs-rule}
 use Rattle.jobfile.proofs.RoundTrip.{accepts-all, job-meant, written-meaning}
 
-pub length-written : (j : Job) → length (written j) ≡ fileSize (length (j .requests)) (length (longestRuns (j .schedule)))
+pub length-written : (j : Job)
+    → length (written j) ≡ fileSize (length (j .requests)) (length (j .waits)) (length (longestRuns (j .schedule)))
 unfolding written fileWith
-length-written j = simp (length-append, length-records (requestLayout 0 0), length-records (runLayout 0)) (omega arith)
+length-written j =
+    simp (length-append, length-records (requestLayout 0 0), length-records (waitLayout 0), length-records (runLayout 0)) (omega arith)
 
 pub few-grants : (j : Job) → Admitted j → length (j .schedule) ≤ 2088195
 few-grants j a =
@@ -49,6 +52,17 @@ module _ (s : List ℕ) (bytes : Bytes s) (accepts : meaning s .number ≡ 0) wh
   request-stands q none l =
       rw (job-meant s bytes accepts, ← drop-drop) (section-at (request-section s) requestAt q none (omega (arith, requests-counted)))
 
+  waits-counted : length (meaning s .job .waits) ≡ length (waitRecords s)
+  unfolding jobIn
+  waits-counted = rw (job-meant s bytes accepts, length-map)
+
+  pub wait-stands : (i : ℕ) (none : Wait) → i < length (meaning s .job .waits)
+      → getD (meaning s .job .waits) i none ≡ waitAt (drop (waitPlace (length (meaning s .job .requests)) i) s)
+  unfolding jobIn
+  wait-stands i none l =
+      rw (requests-counted, job-meant s bytes accepts)
+      (section-at (wait-section s) waitAt i none (omega (arith, waits-counted)) ∙ ap waitAt (drop-drop (waitSize * i) (waitsStart s) s))
+
   pub runs-meant : longestRuns (meaning s .job .schedule) ≡ runsIn s
   unfolding jobIn
   runs-meant =
@@ -59,15 +73,17 @@ module _ (s : List ℕ) (bytes : Bytes s) (accepts : meaning s .number ≡ 0) wh
   runs-counted = rw (runs-meant, length-map)
 
   pub run-stands : (i : ℕ) (none : Run) → i < length (longestRuns (meaning s .job .schedule))
-      → getD (longestRuns (meaning s .job .schedule)) i none ≡ runAt (drop (runPlace (length (meaning s .job .requests)) i) s)
+      → getD (longestRuns (meaning s .job .schedule)) i none
+      ≡ runAt (drop (runPlace (length (meaning s .job .requests)) (length (meaning s .job .waits)) i) s)
   run-stands i none l =
-      rw (runs-meant, requests-counted)
+      rw (runs-meant, requests-counted, waits-counted)
       (section-at (run-section s) runAt i none (omega (arith, runs-counted)) ∙ ap runAt (drop-drop (runSize * i) (runsStart s) s))
 
   pub file-short : length s ≤ mostBytes
   file-short = file-passed s (accepts-all s bytes accepts) .short
 
-  pub file-length : length s ≡ fileSize (length (meaning s .job .requests)) (length (longestRuns (meaning s .job .schedule)))
+  pub file-length : let j = meaning s .job in
+      length s ≡ fileSize (length (j .requests)) (length (j .waits)) (length (longestRuns (j .schedule)))
   file-length = ap length (sym (written-meaning s bytes accepts)) ∙ length-written (meaning s .job)
 
 -- The schedule of the runs from run i on: that run's grants, then those of the runs behind it.

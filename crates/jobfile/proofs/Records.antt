@@ -12,6 +12,9 @@
 --   section-back        the bytes of records, in front of another record, are read back
 --   Passes k t b l      none of the written records l, in front of t, is refused, where b stands before the first
 --   section-passes      so their section is not refused
+--   section-other       where another mark begins what follows, none of written records in front of it has that mark either
+--   written-read, written-count, written-behind, written-passes   a section that stands in a file as it was written: it is
+--                       read back, counted, followed by what stands behind it, and not refused
 --   section-fits        records that are not refused are whole, so their bytes are in the file
 --   section-front       records that are not refused are written back, in front of what follows
 use mathlib.Core.Path.{_≡_, refl, _∙_, sym, ap}
@@ -21,7 +24,7 @@ use Prim.Native.Nat.{ℕ, zero, suc, _+_, _*_, _≤_, _<_}
 use native.Mathlib.Omega.{arith}
 use native.Mathlib.Nat.{mul-zero, mul-suc, add-comm}
 use lib.Dec.{eqb}
-use lib.ListN.{length, getD, drop, length-append, length-drop}
+use lib.ListN.{length, getD, drop, length-append, length-drop, length-map}
 use lib.Seq.{drop-drop, drop-at, getD-drop}
 use borrow.Author.Tests.{eqb-true, eqb-false, eq-eqb, ne-eqb}
 use Rattle.basics.proofs.Conditions.{split}
@@ -120,7 +123,7 @@ module _ {A S : Type 0} (k : Layout A S) where
   length-records [] = sym (mul-zero (k .size))
   length-records (a ∷ l) = rw (length-append, k .sized a, length-records l, mul-suc) (add-comm (k .size) (k .size * length l))
 
-  pub section-skip : (l : List A) (t : List ℕ) → drop (k .size * length l) (recordsBytes (k .bytes) l ++ t) ≡ t
+  section-skip : (l : List A) (t : List ℕ) → drop (k .size * length l) (recordsBytes (k .bytes) l ++ t) ≡ t
   section-skip l t = drop-at (recordsBytes (k .bytes) l) t (k .size * length l) (length-records l)
 
   -- the section of written records begins with the first of them
@@ -139,14 +142,34 @@ module _ {A S : Type 0} (k : Layout A S) where
       let here = k .bytes a ++ (recordsBytes (k .bytes) l ++ t) in (k .check before here ≡ 0) × Passes t (k .next before here) l
 
   module _ (t : List ℕ) (other : word t ≡ k .mark → ⊥) where
-    pub section-back : (l : List A) → map (k .at) (places (recordsBytes (k .bytes) l ++ t)) ≡ l
+    section-back : (l : List A) → map (k .at) (places (recordsBytes (k .bytes) l ++ t)) ≡ l
     section-back [] = rw (records-end (k .size) (k .mark) (k .some) (k .marked) t other)
     section-back (a ∷ l) = rw (places-next a l t) (λ i. k .back a (recordsBytes (k .bytes) l ++ t) i ∷ section-back l i)
 
-    pub section-passes : (before : S) (l : List A) → Passes t before l → refusal before (places (recordsBytes (k .bytes) l ++ t)) ≡ 0
+    section-passes : (before : S) (l : List A) → Passes t before l → refusal before (places (recordsBytes (k .bytes) l ++ t)) ≡ 0
     unfolding sectionRefusal
     section-passes before [] p = rw (records-end (k .size) (k .mark) (k .some) (k .marked) t other)
     section-passes before (a ∷ l) p = rw (places-next a l t, p .0) (section-passes _ l (p .1))
+
+  pub section-other : (m : ℕ) (l : List A) (t : List ℕ) → (k .mark ≡ m → ⊥) → (word t ≡ m → ⊥)
+      → word (recordsBytes (k .bytes) l ++ t) ≡ m → ⊥
+  section-other m [] t here behind e = behind e
+  section-other m (a ∷ l) t here behind e =
+      here (sym (k .first a (recordsBytes (k .bytes) l ++ t)) ∙ ap word (sym (append-assoc (k .bytes a) (recordsBytes (k .bytes) l) t)) ∙ e)
+
+  module _ (s : List ℕ) (start : ℕ) (l : List A) (t : List ℕ) (here : drop start s ≡ recordsBytes (k .bytes) l ++ t)
+      (other : word t ≡ k .mark → ⊥) where
+    pub written-read : map (k .at) (places (drop start s)) ≡ l
+    written-read = rw here (section-back t other l)
+
+    pub written-count : length (places (drop start s)) ≡ length l
+    written-count = sym (length-map (places (drop start s)) (k .at)) ∙ ap length written-read
+
+    pub written-behind : drop (start + k .size * length (places (drop start s))) s ≡ t
+    written-behind = rw (written-count, ← drop-drop, here) (section-skip l t)
+
+    pub written-passes : (before : S) → Passes t before l → refusal before (places (drop start s)) ≡ 0
+    written-passes before p = rw here (section-passes t other before l p)
 
   pub section-fits : {t rest : List ℕ} {ts : List (List ℕ)} (before : S) → Section (k .size) (k .mark) t ts rest
       → refusal before ts ≡ 0 → k .size * length ts ≤ length t

@@ -5,16 +5,18 @@
 --   passed, through     a chain that refuses nothing has passed its first test, and the rest refuses nothing
 --   Sized n h           n nodes and h heads are admitted
 --   Fit n h q           the numbers q are those of a request in a job of n nodes and h heads
+--   Paired n b w        the pair w is one of a job with n requests, and rises from the pair b
 use mathlib.Core.Path.{_≡_, refl}
-use mathlib.Core.Bool.{Bool, true, false, cond}
+use mathlib.Core.Bool.{Bool, true, false, cond, not}
 use Prim.Native.Nat.{ℕ, suc, _≤_, _<_}
 use native.Mathlib.Omega.{arith}
 use lib.Dec.{eqb, ltb, leb}
-use borrow.Author.Tests.{eqb-true, eqb-false, ltb-false, leb-false, ne-eqb, le-ltb, lt-leb}
+use borrow.Author.Tests.{eqb-true, eqb-false, ltb-false, leb-false, not-false, ne-eqb, le-ltb, lt-leb}
 use Rattle.basics.proofs.Conditions.{split}
-use Rattle.jobfile.specs.declared.Fields.{Fields}
-use Rattle.jobfile.specs.Format.{_then_, sizesRefusal, fieldsRefusal}
+use Rattle.job.specs.declared.Wait.{Wait}
 use Rattle.job.specs.Job.{mostNodes, mostHeads}
+use Rattle.jobfile.specs.declared.Fields.{Fields}
+use Rattle.jobfile.specs.Format.{_then_, sizesRefusal, fieldsRefusal, risesTo, pairRefusal}
 
 pub record Passed (b : Bool) (n : ℕ) : Type 0 where
   pub test : b ≡ false
@@ -96,4 +98,32 @@ fit-passes nodes heads q f =
       le-ltb 2 (q .kind) (f .few-kinds),
       lt-leb nodes (q .x) (f .x),
       lt-leb nodes (q .y) (f .y),
+    )
+
+pub record Paired (count : ℕ) (before w : Wait) : Type 0 where
+  pub later : w .later < count
+  pub earlier : w .earlier < w .later
+  pub rises : risesTo before w ≡ true
+
+pub paired : (count : ℕ) (before w : Wait) → pairRefusal count before w ≡ 0 → Paired count before w
+unfolding pairRefusal
+paired count before w e =
+    let a = passed (leb count (w .later)) 17 _ e in
+    let b = passed (leb count (w .earlier)) 17 _ (a .rest) in
+    let c = passed (leb (w .later) (w .earlier)) 17 _ (b .rest) in
+    let d = passed (not (risesTo before w)) 17 _ (c .rest) in
+    record {
+      later = leb-false count (w .later) (a .test);
+      earlier = leb-false (w .later) (w .earlier) (c .test);
+      rises = not-false _ (d .test);
+    }
+
+pub paired-passes : (count : ℕ) (before w : Wait) → Paired count before w → pairRefusal count before w ≡ 0
+unfolding pairRefusal
+paired-passes count before w p =
+    simp (
+      lt-leb count (w .later) (p .later),
+      lt-leb count (w .earlier) (omega arith),
+      lt-leb (w .later) (w .earlier) (p .earlier),
+      p .rises,
     )

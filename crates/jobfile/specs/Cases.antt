@@ -1,35 +1,39 @@
--- Document 01, "Job file" and "Played cases": files, jobs and drafts at the format's edges, as one table.
+-- Document 01, "Job file" and "Played cases", and 02, A3: files, jobs and drafts at the format's edges, as one table.
 --
 --   Case                a file that is accepted or refused, a job that is written, a draft that is checked, and what is expected
 --   Outcome             a meaning, a file, or a number
 --   outcome c           what the definitions give
 --   wanted c            what is expected
---   header, request, run, close   the four records, by their numbers
+--   header, request, wait, run, close   the five records, by their numbers
 --   times n l           the list l, n times
 --   job, draft          a job and a draft, by their parts
 --   emptyJob n h        the job of n places and h heads with nothing to do
 --   alternating n       a schedule of n grants, no two in a row for one head
 --   sampleJob, sampleFile         document 01's job, and its bytes
---   files, drafts       the two halves of the table
+--   pair later earlier  a pair, by its numbers
+--   unions n ws, front n          a job of n unions and the pairs ws, and what stands before the pairs in its file
+--   files, pairs, drafts          the parts of the table: document 01's files, those with pairs, and drafts
 --   cases               the table
 use mathlib.Core.List.{List, [], _∷_, _++_}
 use Prim.Native.Nat.{ℕ, zero, suc, _%_}
 use lib.ListN.{take, replicate}
 use Rattle.job.specs.declared.Kind.the-variants.{Union, SameSet}
 use Rattle.job.specs.declared.Request.{Request}
+use Rattle.job.specs.declared.Wait.{Wait}
 use Rattle.job.specs.Job.{Job}
-use Rattle.jobfile.specs.Format.{jobMark, requestMark, runMark, closeMark, wordBytes}
+use Rattle.jobfile.specs.Format.{jobMark, requestMark, waitMark, runMark, closeMark, wordBytes}
 use Rattle.jobfile.specs.Meaning.{Meaning, meaning}
 use Rattle.jobfile.specs.Written.{written}
 use Rattle.jobfile.specs.Draft.{Draft, draftRefusal}
 
--- Places, heads, requests and one head number a grant.
-abbrev pub job : ℕ → ℕ → List Request → List ℕ → Job
-job places heads requests schedule = record { nodes = places; heads = heads; requests = requests; schedule = schedule }
+-- Places, heads, requests, pairs and one head number a grant.
+abbrev pub job : ℕ → ℕ → List Request → List Wait → List ℕ → Job
+job places heads requests waits schedule =
+    record { nodes = places; heads = heads; requests = requests; waits = waits; schedule = schedule }
 
--- No requests and no grants.
+-- No requests, no pairs and no grants.
 abbrev pub emptyJob : ℕ → ℕ → Job
-emptyJob places heads = job places heads [] []
+emptyJob places heads = job places heads [] [] []
 
 pub data Case : Type 0 where
   -- an accepted file and its job
@@ -70,6 +74,10 @@ header places heads = wordBytes jobMark ++ wordBytes places ++ wordBytes heads
 abbrev pub request : ℕ → ℕ → ℕ → ℕ → List ℕ
 request head kind x y = wordBytes requestMark ++ (head ∷ kind ∷ []) ++ wordBytes x ++ wordBytes y
 
+-- Later request and earlier request.
+abbrev pub wait : ℕ → ℕ → List ℕ
+wait later earlier = wordBytes waitMark ++ wordBytes later ++ wordBytes earlier
+
 -- Head and grants.
 abbrev pub run : ℕ → ℕ → List ℕ
 run head grants = wordBytes runMark ++ (head ∷ grants ∷ [])
@@ -83,9 +91,10 @@ abbrev pub times : ℕ → List ℕ → List ℕ
 times zero l = []
 times (suc n) l = l ++ times n l
 
--- What the writer is given, four numbers a request.
-abbrev pub draft : ℕ → ℕ → List ℕ → List ℕ → Draft
-draft places heads requests schedule = record { nodes = places; heads = heads; requests = requests; schedule = schedule }
+-- What the writer is given, four numbers a request and two a pair.
+abbrev pub draft : ℕ → ℕ → List ℕ → List ℕ → List ℕ → Draft
+draft places heads requests waits schedule =
+    record { nodes = places; heads = heads; requests = requests; waits = waits; schedule = schedule }
 
 -- Heads 0 and 1 in turn, so that every grant is a run.
 abbrev pub alternating : ℕ → List ℕ
@@ -96,7 +105,7 @@ alternating (suc n) = (n % 2) ∷ alternating n
 abbrev pub sampleJob : Job
 sampleJob =
     job 4 2
-    (record { head = 0; kind = Union; x = 2; y = 3 } ∷ record { head = 1; kind = SameSet; x = 0; y = 1 } ∷ [])
+    (record { head = 0; kind = Union; x = 2; y = 3 } ∷ record { head = 1; kind = SameSet; x = 0; y = 1 } ∷ []) []
     (1 ∷ 1 ∷ 0 ∷ 0 ∷ 0 ∷ 0 ∷ 0 ∷ 0 ∷ 1 ∷ [])
 
 -- and its bytes.
@@ -109,6 +118,18 @@ sampleFile =
     ∷ 0x47 ∷ 0x52 ∷ 0x00 ∷ 0x06
     ∷ 0x47 ∷ 0x52 ∷ 0x01 ∷ 0x01
     ∷ 0x43 ∷ 0x4C ∷ 0xF1 ∷ 0xC2 ∷ []
+
+-- Later request and earlier request (02, A3).
+abbrev pub pair : ℕ → ℕ → Wait
+pair later earlier = record { later = later; earlier = earlier }
+
+-- Four places, two heads, and so many times a union of the places 0 and 1 by head 0;
+abbrev pub unions : ℕ → List Wait → Job
+unions n waits = job 4 2 (replicate n (record { head = 0; kind = Union; x = 0; y = 1 })) waits []
+
+-- and their records in front of the pairs.
+abbrev pub front : ℕ → List ℕ
+front n = header 4 2 ++ times n (request 0 1 0 1)
 
 -- ---- the table
 
@@ -142,7 +163,7 @@ files =
     ∷ refuse (header 2 2 ++ request 1 2 0 2) 8
     -- 512 requests pass; one more is refused if it is whole, before its head, kind and places, which are all wrong here
     ∷ accept (header 2 2 ++ times 512 (request 1 2 0 1) ++ close 0xC075)
-    (job 2 2 (replicate 512 (record { head = 1; kind = SameSet; x = 0; y = 1 })) [])
+    (job 2 2 (replicate 512 (record { head = 1; kind = SameSet; x = 0; y = 1 })) [] [])
     ∷ refuse (header 2 2 ++ times 512 (request 1 2 0 1) ++ request 2 3 2 2) 9
     ∷ refuse (header 2 2 ++ times 512 (request 1 2 0 1) ++ take 7 (request 2 3 2 2)) 2
     -- a run that is cut short; its head; no grants; a run before it that could have had them
@@ -150,7 +171,7 @@ files =
     ∷ refuse (header 2 2 ++ run 2 1) 10
     ∷ refuse (header 2 2 ++ run 1 0) 10
     ∷ refuse (header 2 2 ++ run 1 254 ++ run 1 1) 11
-    ∷ accept (header 2 2 ++ run 1 255 ++ run 1 1 ++ close 0xC3E5) (job 2 2 [] (replicate 256 1))
+    ∷ accept (header 2 2 ++ run 1 255 ++ run 1 1 ++ close 0xC3E5) (job 2 2 [] [] (replicate 256 1))
     -- no grants is checked before the run before it
     ∷ refuse (header 2 2 ++ run 1 254 ++ run 1 0) 10
     -- a request behind a run, and no close
@@ -163,29 +184,66 @@ files =
     ∷ accept (header 2 2 ++ close 0x6875) (emptyJob 2 2)
     ∷ []
 
+-- 02, A3: jobs and files with pairs.
+abbrev pub pairs : List Case
+pairs =
+    -- two requests of which the second waits for the first, read and written; and without the pair
+    accept (front 2 ++ wait 1 0 ++ close 0x7D8B) (unions 2 (pair 1 0 ∷ []))
+    ∷ write (unions 2 (pair 1 0 ∷ [])) (front 2 ++ wait 1 0 ++ close 0x7D8B)
+    ∷ write (unions 2 []) (front 2 ++ close 0xC3CD)
+    -- either request does not exist
+    ∷ refuse (front 0 ++ wait 0 0) 18
+    ∷ refuse (front 1 ++ wait 0 0) 18
+    ∷ refuse (front 1 ++ wait 1 0) 18
+    ∷ refuse (front 2 ++ wait 0 2) 18
+    ∷ refuse (front 2 ++ wait 65535 0) 18
+    -- the earlier number is not below the later
+    ∷ refuse (front 2 ++ wait 1 1) 18
+    ∷ refuse (front 2 ++ wait 0 1) 18
+    -- the pairs rise strictly, by the later request and then by the earlier one
+    ∷ refuse (front 2 ++ wait 1 0 ++ wait 1 0) 18
+    ∷ refuse (front 3 ++ wait 2 1 ++ wait 2 0) 18
+    ∷ refuse (front 3 ++ wait 2 0 ++ wait 1 0) 18
+    ∷ accept (front 3 ++ wait 1 0 ++ wait 2 0 ++ wait 2 1 ++ close 0x9EB1) (unions 3 (pair 1 0 ∷ pair 2 0 ∷ pair 2 1 ∷ []))
+    -- they stand between requests and grants
+    ∷ refuse (front 2 ++ wait 1 0 ++ request 0 1 0 1) 3
+    ∷ refuse (front 2 ++ run 0 1 ++ wait 1 0) 3
+    -- a pair that is cut short; a pair is checked before the run behind it, and balance last
+    ∷ refuse (front 2 ++ take 5 (wait 1 0)) 2
+    ∷ refuse (front 2 ++ wait 1 1 ++ run 2 1) 18
+    ∷ refuse (front 2 ++ wait 1 0 ++ run 2 1) 10
+    ∷ refuse (front 2 ++ wait 1 0 ++ close 0) 13
+    ∷ []
+
 abbrev pub drafts : List Case
 drafts =
     -- the last head of sixteen, a same-set of the last two places of 4,096, and a grant for that head
-    check (draft 4096 16 (15 ∷ 2 ∷ 4095 ∷ 4094 ∷ []) (15 ∷ [])) 0
+    check (draft 4096 16 (15 ∷ 2 ∷ 4095 ∷ 4094 ∷ []) [] (15 ∷ [])) 0
     -- places are checked before heads
-    ∷ check (draft 0 0 [] []) 4
+    ∷ check (draft 0 0 [] [] []) 4
     -- heads before a request and a grant that are wrong too
-    ∷ check (draft 2 17 (17 ∷ 3 ∷ 2 ∷ 2 ∷ []) (17 ∷ [])) 5
+    ∷ check (draft 2 17 (17 ∷ 3 ∷ 2 ∷ 2 ∷ []) [] (17 ∷ [])) 5
     -- a rest of one, two or three numbers is no request, so it can't be a wrong one
-    ∷ check (draft 2 2 (2 ∷ []) []) 0
-    ∷ check (draft 2 2 (2 ∷ 3 ∷ []) []) 0
-    ∷ check (draft 2 2 (0 ∷ 1 ∷ 0 ∷ 1 ∷ 2 ∷ 3 ∷ 2 ∷ []) []) 0
+    ∷ check (draft 2 2 (2 ∷ []) [] []) 0
+    ∷ check (draft 2 2 (2 ∷ 3 ∷ []) [] []) 0
+    ∷ check (draft 2 2 (0 ∷ 1 ∷ 0 ∷ 1 ∷ 2 ∷ 3 ∷ 2 ∷ []) [] []) 0
     -- 512 requests pass; the count is checked before the first request and the grant, which are both wrong
-    ∷ check (draft 2 2 (times 512 (1 ∷ 2 ∷ 0 ∷ 1 ∷ [])) []) 0
-    ∷ check (draft 2 2 ((2 ∷ 3 ∷ 2 ∷ 2 ∷ []) ++ times 512 (1 ∷ 2 ∷ 0 ∷ 1 ∷ [])) (2 ∷ [])) 9
+    ∷ check (draft 2 2 (times 512 (1 ∷ 2 ∷ 0 ∷ 1 ∷ [])) [] []) 0
+    ∷ check (draft 2 2 ((2 ∷ 3 ∷ 2 ∷ 2 ∷ []) ++ times 512 (1 ∷ 2 ∷ 0 ∷ 1 ∷ [])) [] (2 ∷ [])) 9
     -- each request before each grant
-    ∷ check (draft 2 2 (1 ∷ 2 ∷ 0 ∷ 2 ∷ []) (2 ∷ [])) 8
-    ∷ check (draft 2 2 (1 ∷ 2 ∷ 0 ∷ 1 ∷ []) (2 ∷ [])) 10
+    ∷ check (draft 2 2 (1 ∷ 2 ∷ 0 ∷ 2 ∷ []) [] (2 ∷ [])) 8
+    ∷ check (draft 2 2 (1 ∷ 2 ∷ 0 ∷ 1 ∷ []) [] (2 ∷ [])) 10
+    -- each pair behind the requests and before each grant (02, A3); a rest of one number is no pair
+    ∷ check (draft 4 2 (times 2 (0 ∷ 1 ∷ 0 ∷ 1 ∷ [])) (1 ∷ 0 ∷ []) []) 0
+    ∷ check (draft 4 2 (times 2 (0 ∷ 1 ∷ 0 ∷ 1 ∷ [])) (1 ∷ []) []) 0
+    ∷ check (draft 4 2 (0 ∷ 1 ∷ 0 ∷ 4 ∷ 0 ∷ 1 ∷ 0 ∷ 1 ∷ []) (1 ∷ 1 ∷ []) []) 8
+    ∷ check (draft 4 2 (times 2 (0 ∷ 1 ∷ 0 ∷ 1 ∷ [])) (1 ∷ 1 ∷ []) (2 ∷ [])) 18
+    ∷ check (draft 4 2 (times 3 (0 ∷ 1 ∷ 0 ∷ 1 ∷ [])) (2 ∷ 0 ∷ 1 ∷ 0 ∷ []) []) 18
     -- 8,190 runs make a file of 32,770 bytes; a wrong place and a wrong grant come before its length
-    ∷ check (draft 2 2 [] (alternating 8190)) 1
-    ∷ check (draft 2 2 (1 ∷ 2 ∷ 0 ∷ 2 ∷ []) (alternating 8190)) 8
-    ∷ check (draft 2 2 [] (2 ∷ alternating 8190)) 10
+    ∷ check (draft 2 2 [] [] (alternating 8190)) 1
+    ∷ check (draft 2 2 (1 ∷ 2 ∷ 0 ∷ 2 ∷ []) [] (alternating 8190)) 8
+    ∷ check (draft 2 2 [] [] (2 ∷ alternating 8190)) 10
     ∷ []
 
 abbrev pub cases : List Case
-cases = files ++ drafts
+cases = files ++ pairs ++ drafts

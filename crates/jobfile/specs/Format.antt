@@ -1,10 +1,12 @@
--- Document 01, "Job file" and "Turned down": the numbers of the format, and the checks that the reader and the writer share.
--- A refusal is its number in document 01; 0 is none.
+-- Document 01, "Job file" and "Turned down", and 02, A3: the numbers of the format, and the checks that the reader and the
+-- writer share. A refusal is its number in these documents; 0 is none.
 --
---   jobMark, requestMark, runMark, closeMark   the marks of the four records, as 16-bit words
---   jobSize, requestSize, runSize, closeSize   the bytes of each
---   requestPlace q, runPlace n i   the bytes where request q stands, and run i behind n requests
---   fileSize n i            the bytes of a file with n requests and i runs
+--   jobMark, requestMark, waitMark, runMark, closeMark   the marks of the five records, as 16-bit words
+--   jobSize, requestSize, waitSize, runSize, closeSize   the bytes of each
+--   requestPlace q          the byte where request q stands
+--   waitPlace n i           the byte where pair i stands, behind n requests
+--   runPlace n w i          the byte where run i stands, behind n requests and w pairs
+--   fileSize n w i          the bytes of a file with n requests, w pairs and i runs
 --   mostBytes, mostGrants   the largest file, and the largest run
 --   word t, wordBytes w     the 16-bit word at the start of t, and the two bytes of the word w
 --   wordSum s               the sum of the 16-bit words of s
@@ -12,25 +14,33 @@
 --   sizesRefusal n h        the refusal of n nodes and h heads
 --   fieldsRefusal n h q     the refusal of a request's numbers q in a job of n nodes and h heads
 --   requestOf q             the request that admitted numbers stand for
+--   risesTo b w             the pair w comes strictly after the pair b
+--   pairRefusal n b w       the refusal of the pair w in a job of n requests, where b is the pair before it
+--   noPair                  what stands before the first pair
 --   extends r g             a grant for head g could still have joined the run r
 --   lengthRefusal s         the refusal of a file for its length
-use mathlib.Core.Bool.{Bool, cond, false}
+use mathlib.Core.Bool.{Bool, true, false, cond, not}
 use mathlib.Core.List.{List, [], _∷_}
 use Prim.Native.Nat.{ℕ, _+_, _*_, _/_, _%_}
 use lib.Dec.{eqb, ltb, leb}
 use lib.ListN.{length, getD}
 use Rattle.job.specs.declared.Request.{Request}
+use Rattle.job.specs.declared.Wait.{Wait}
 use Rattle.job.specs.Job.{mostNodes, mostHeads, kindOf}
 use Rattle.jobfile.specs.declared.Fields.{Fields}
 use Rattle.jobfile.specs.declared.Run.{Run}
 
--- The marks 44 4B, 52 51, 47 52 and 43 4C, low byte first: the job's,
+-- The marks 44 4B, 52 51, 41 46 (02, A3), 47 52 and 43 4C, low byte first: the job's,
 abbrev pub jobMark : ℕ
 jobMark = 0x4B44
 
 -- a request's,
 abbrev pub requestMark : ℕ
 requestMark = 0x5152
+
+-- a pair's,
+abbrev pub waitMark : ℕ
+waitMark = 0x4641
 
 -- a run's
 abbrev pub runMark : ℕ
@@ -48,6 +58,10 @@ jobSize = 6
 abbrev pub requestSize : ℕ
 requestSize = 8
 
+-- a pair 6,
+abbrev pub waitSize : ℕ
+waitSize = 6
+
 -- a run 4
 abbrev pub runSize : ℕ
 runSize = 4
@@ -60,13 +74,17 @@ closeSize = 4
 abbrev pub requestPlace : ℕ → ℕ
 requestPlace q = jobSize + requestSize * q
 
--- run i behind all requests and i runs; the close is where a run more would be,
-abbrev pub runPlace : ℕ → ℕ → ℕ
-runPlace requests i = requestPlace requests + runSize * i
+-- pair i behind all requests and i pairs,
+abbrev pub waitPlace : ℕ → ℕ → ℕ
+waitPlace requests i = requestPlace requests + waitSize * i
+
+-- run i behind all requests, all pairs and i runs; the close is where a run more would be,
+abbrev pub runPlace : ℕ → ℕ → ℕ → ℕ
+runPlace requests waits i = waitPlace requests waits + runSize * i
 
 -- and it ends the file.
-abbrev pub fileSize : ℕ → ℕ → ℕ
-fileSize requests runs = runPlace requests runs + closeSize
+abbrev pub fileSize : ℕ → ℕ → ℕ → ℕ
+fileSize requests waits runs = runPlace requests waits runs + closeSize
 
 -- A file has at most 32,768 bytes.
 abbrev pub mostBytes : ℕ
@@ -115,6 +133,24 @@ fieldsRefusal nodes heads q =
 -- The request that the numbers of an admitted one stand for.
 abbrev pub requestOf : Fields → Request
 requestOf q = record { head = q .head; kind = kindOf (q .kind); x = q .x; y = q .y }
+
+-- The pairs rise strictly, by the later request and then by the earlier one (02, A3).
+abbrev pub risesTo : Wait → Wait → Bool
+risesTo before w =
+    cond (ltb (before .later) (w .later)) true
+    (cond (eqb (before .later) (w .later)) (ltb (before .earlier) (w .earlier)) false)
+
+-- 18 when either request doesn't exist, the earlier number isn't below the later, or the pairs don't rise strictly (02, A3).
+unfoldable pub pairRefusal : ℕ → Wait → Wait → ℕ
+pairRefusal count before w =
+    cond (leb count (w .later)) 18
+    (cond (leb count (w .earlier)) 18
+    (cond (leb (w .later) (w .earlier)) 18
+    (cond (not (risesTo before w)) 18 0)))
+
+-- Every admitted pair rises from it, so it stands before the first.
+abbrev pub noPair : Wait
+noPair = record { later = 0; earlier = 0 }
 
 -- The longest runs, at most 255: a grant joins the run before it if the head is the same and the run is under 255.
 abbrev pub extends : Run → ℕ → Bool

@@ -1,15 +1,16 @@
--- Document 01, "Job file": what a file of bytes means, or the number of its refusal.
+-- Document 01, "Job file", and 02, A3: what a file of bytes means, or the number of its refusal.
 --
 --   records size m t    the rest of the file at each record of a section: t, then what follows each record of that
 --                       size, as long as the mark is m
 --   recordsWithin n size m t   the first n of them
 --   sectionRefusal check next before ts   the first refusal of a section's records, each checked with what those before it leave
---   fieldsAt t, requestAt t, runAt t   the numbers of the request, the request and the run at the start of t
---   headerRefusal, requestRefusal, requestsRefusal, runRefusal, runsRefusal, closeRefusal, balanceRefusal   the checks
+--   fieldsAt t, requestAt t, waitAt t, runAt t   the numbers of the request, the request, the pair and the run at the start of t
+--   headerRefusal, requestRefusal, requestsRefusal, waitRefusal, waitsRefusal, runRefusal, runsRefusal, closeRefusal,
+--   balanceRefusal      the checks
 --   fullRun             what stands before the first run
 --   granted rs          the schedule of the runs rs
---   nodesIn s, headsIn s, requestRecords s, runRecords s   the parts of the file s
---   runsStart s, closeStart s    the bytes where the runs and the close start
+--   nodesIn s, headsIn s, requestRecords s, waitRecords s, runRecords s   the parts of the file s
+--   waitsStart s, runsStart s, closeStart s    the bytes where the pairs, the runs and the close start
 --   fileRefusal s       the refusal of the file s, 0 for none
 --   runsIn s, jobIn s   the runs and the job of the file s
 --   Meaning             a number and a job: accepted j, or refused n
@@ -20,12 +21,13 @@ use Prim.Native.Nat.{ℕ, zero, suc, _+_, _%_}
 use lib.Dec.{eqb, ltb, leb}
 use lib.ListN.{length, getD, drop, replicate}
 use Rattle.job.specs.declared.Request.{Request}
+use Rattle.job.specs.declared.Wait.{Wait}
 use Rattle.job.specs.Job.{Job, mostRequests}
 use Rattle.jobfile.specs.declared.Fields.{Fields}
 use Rattle.jobfile.specs.declared.Run.{Run}
-use Rattle.jobfile.specs.Format.{jobMark, requestMark, runMark, closeMark, jobSize, requestSize, runSize, closeSize, requestPlace}
-use Rattle.jobfile.specs.Format.{runPlace, mostGrants, word, wordSum, _then_, sizesRefusal, fieldsRefusal, requestOf}
-use Rattle.jobfile.specs.Format.{extends, lengthRefusal}
+use Rattle.jobfile.specs.Format.{jobMark, requestMark, waitMark, runMark, closeMark, jobSize, requestSize, waitSize, runSize}
+use Rattle.jobfile.specs.Format.{closeSize, requestPlace, waitPlace, runPlace, mostGrants, word, wordSum, _then_, sizesRefusal}
+use Rattle.jobfile.specs.Format.{fieldsRefusal, requestOf, pairRefusal, noPair, extends, lengthRefusal}
 
 -- A section goes on as long as its mark follows; no section has more records than the file has bytes.
 unfoldable pub recordsWithin : ℕ → ℕ → ℕ → List ℕ → List (List ℕ)
@@ -76,6 +78,18 @@ requestRefusal nodes heads number t =
 abbrev pub requestsRefusal : ℕ → ℕ → ℕ → List (List ℕ) → ℕ
 requestsRefusal nodes heads = sectionRefusal (requestRefusal nodes heads) (λ number t. number + 1)
 
+-- 41 46, later request (16), earlier request (16), between requests and grants (02, A3).
+abbrev pub waitAt : List ℕ → Wait
+waitAt t = record { later = word (drop 2 t); earlier = word (drop 4 t) }
+
+-- The whole record, then the pair, beside the number of requests and the pair before it.
+unfoldable pub waitRefusal : ℕ → Wait → List ℕ → ℕ
+waitRefusal count before t = cond (ltb (length t) waitSize) 2 (pairRefusal count before (waitAt t))
+
+-- Each with the pair before it.
+abbrev pub waitsRefusal : ℕ → Wait → List (List ℕ) → ℕ
+waitsRefusal count = sectionRefusal (waitRefusal count) (λ before t. waitAt t)
+
 -- 47 52, head (8), run (8): none or more; the head gets that many grants. 10: a grant's head not below the heads, or run 0.
 -- 11: a run's head equals that of the run before, which is under 255.
 abbrev pub runAt : List ℕ → Run
@@ -119,17 +133,25 @@ balanceRefusal s = cond (not (eqb (wordSum s % 65536) 0)) 13 0
 abbrev pub requestRecords : List ℕ → List (List ℕ)
 requestRecords s = records requestSize requestMark (drop jobSize s)
 
--- The runs stand behind the requests,
-abbrev pub runsStart : List ℕ → ℕ
-runsStart s = requestPlace (length (requestRecords s))
+-- The pairs stand behind the requests,
+abbrev pub waitsStart : List ℕ → ℕ
+waitsStart s = requestPlace (length (requestRecords s))
 
 -- as long as their mark follows,
+abbrev pub waitRecords : List ℕ → List (List ℕ)
+waitRecords s = records waitSize waitMark (drop (waitsStart s) s)
+
+-- the runs behind the pairs,
+abbrev pub runsStart : List ℕ → ℕ
+runsStart s = waitPlace (length (requestRecords s)) (length (waitRecords s))
+
+-- as long as theirs does,
 abbrev pub runRecords : List ℕ → List (List ℕ)
 runRecords s = records runSize runMark (drop (runsStart s) s)
 
 -- and the close behind the runs.
 abbrev pub closeStart : List ℕ → ℕ
-closeStart s = runPlace (length (requestRecords s)) (length (runRecords s))
+closeStart s = runPlace (length (requestRecords s)) (length (waitRecords s)) (length (runRecords s))
 
 -- Checked first: length. Then record by record. Then bytes after the close, then balance.
 unfoldable pub fileRefusal : List ℕ → ℕ
@@ -137,6 +159,7 @@ fileRefusal s =
     lengthRefusal s
     then headerRefusal s
     then requestsRefusal (nodesIn s) (headsIn s) 0 (requestRecords s)
+    then waitsRefusal (length (requestRecords s)) noPair (waitRecords s)
     then runsRefusal (headsIn s) fullRun (runRecords s)
     then closeRefusal (drop (closeStart s) s)
     then balanceRefusal s
@@ -145,13 +168,14 @@ fileRefusal s =
 abbrev pub runsIn : List ℕ → List Run
 runsIn s = map runAt (runRecords s)
 
--- A file means places, heads, requests and a list of head numbers, one per grant.
+-- A file means places, heads, requests, pairs (02, A3) and a list of head numbers, one per grant.
 unfoldable pub jobIn : List ℕ → Job
 jobIn s =
     record {
       nodes = nodesIn s;
       heads = headsIn s;
       requests = map requestAt (requestRecords s);
+      waits = map waitAt (waitRecords s);
       schedule = granted (runsIn s);
     }
 
@@ -166,7 +190,7 @@ accepted j = record { number = 0; job = j }
 
 -- A refusal gives its number and zero for every count.
 abbrev pub refused : ℕ → Meaning
-refused n = record { number = n; job = record { nodes = 0; heads = 0; requests = []; schedule = [] } }
+refused n = record { number = n; job = record { nodes = 0; heads = 0; requests = []; waits = []; schedule = [] } }
 
 -- What any file of bytes means.
 unfoldable pub meaning : List ℕ → Meaning

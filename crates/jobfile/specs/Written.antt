@@ -1,8 +1,8 @@
--- Document 01, "Job file": the file that is written for a job.
+-- Document 01, "Job file", and 02, A3: the file that is written for a job.
 --
 --   recordsBytes bytes l             the bytes of records, one behind the other
---   requestBytes q, runBytes r       the bytes of a request and of a run
---   requestsBytes qs, runsBytes rs   the bytes of requests and of runs
+--   requestBytes q, waitBytes w, runBytes r        the bytes of a request, of a pair and of a run
+--   requestsBytes qs, waitsBytes ws, runsBytes rs   the bytes of requests, of pairs and of runs
 --   nextRun r g         the run under way after a grant for head g
 --   longestRuns gs      the longest runs, at most 255, that make the schedule gs
 --   runsFrom r gs       the same with the run r under way
@@ -13,9 +13,10 @@ use mathlib.Core.Bool.{cond}
 use mathlib.Core.List.{List, [], _∷_, _++_}
 use Prim.Native.Nat.{ℕ, _+_, _-_, _%_}
 use Rattle.job.specs.declared.Request.{Request}
+use Rattle.job.specs.declared.Wait.{Wait}
 use Rattle.job.specs.Job.{Job, kindNumber}
 use Rattle.jobfile.specs.declared.Run.{Run}
-use Rattle.jobfile.specs.Format.{jobMark, requestMark, runMark, closeMark, wordBytes, wordSum, extends}
+use Rattle.jobfile.specs.Format.{jobMark, requestMark, waitMark, runMark, closeMark, wordBytes, wordSum, extends}
 
 -- Records, in order.
 abbrev pub recordsBytes : {A : Type 0} → (A → List ℕ) → List A → List ℕ
@@ -29,6 +30,14 @@ requestBytes q = wordBytes requestMark ++ (q .head ∷ kindNumber (q .kind) ∷ 
 -- The requests in file order.
 abbrev pub requestsBytes : List Request → List ℕ
 requestsBytes = recordsBytes requestBytes
+
+-- 41 46, later request (16), earlier request (16) (02, A3).
+abbrev pub waitBytes : Wait → List ℕ
+waitBytes w = wordBytes waitMark ++ wordBytes (w .later) ++ wordBytes (w .earlier)
+
+-- The pairs in file order.
+abbrev pub waitsBytes : List Wait → List ℕ
+waitsBytes = recordsBytes waitBytes
 
 -- 47 52, head (8), run (8).
 abbrev pub runBytes : Run → List ℕ
@@ -52,13 +61,14 @@ abbrev pub longestRuns : List ℕ → List Run
 longestRuns [] = []
 longestRuns (g ∷ gs) = runsFrom (record { head = g; count = 1 }) gs
 
--- The records in order: the job's, the requests, the runs, the close.
+-- The records in order: the job's, the requests, the pairs, the runs, the close.
 unfoldable pub fileWith : Job → ℕ → List ℕ
 fileWith j w =
     (wordBytes jobMark ++ wordBytes (j .nodes) ++ wordBytes (j .heads))
     ++ (requestsBytes (j .requests)
+    ++ (waitsBytes (j .waits)
     ++ (runsBytes (longestRuns (j .schedule))
-    ++ (wordBytes closeMark ++ wordBytes w)))
+    ++ (wordBytes closeMark ++ wordBytes w))))
 
 -- The difference from zero, in 16 bits, of all words but the balance.
 abbrev pub balance : Job → ℕ

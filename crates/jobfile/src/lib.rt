@@ -1,24 +1,31 @@
-// What the reader and the writer of job files share: bytes and words, the numbers of a request, a run, and the checks on them.
+// What the reader and the writer of job files share: bytes and words, places, the numbers of a request, a run, and the checks
+// on them and on a pair.
 pub mod bytes;
 
 use job::MOST_HEADS;
 use job::MOST_NODES;
+use job::Wait;
 ghost use mathlib.Core.Path.{_≡_};
-ghost use Rattle.jobfile.specs.Format.{requestPlace, runPlace, sizesRefusal, fieldsRefusal, extends};
+ghost use Rattle.jobfile.specs.Format.{requestPlace, waitPlace, runPlace, sizesRefusal, fieldsRefusal};
+ghost use Rattle.jobfile.specs.Format.{risesTo, pairRefusal, extends};
 
-// The marks of the four records, as 16-bit words, low byte first.
+// The marks of the five records, as 16-bit words, low byte first; a pair's is of 02, A3.
 pub const JOB_MARK: u16 = 0x4B44;
 
 pub const REQUEST_MARK: u16 = 0x5152;
+
+pub const WAIT_MARK: u16 = 0x4641;
 
 pub const RUN_MARK: u16 = 0x5247;
 
 pub const CLOSE_MARK: u16 = 0x4C43;
 
-// The bytes of the four records, and of the longest file.
+// The bytes of the five records, and of the longest file.
 pub const JOB_SIZE: usize = 6;
 
 pub const REQUEST_SIZE: usize = 8;
+
+pub const WAIT_SIZE: usize = 6;
 
 pub const RUN_SIZE: usize = 4;
 
@@ -40,18 +47,25 @@ pub struct Run {
     pub count: u8,
 }
 
-// Where request q stands; behind the last request stand the runs.
+// Where request q stands; behind the last request stand the pairs.
 pub fn request_place(q: u32) -> usize
     ensures { λ r. ⌜ r ≡ requestPlace q ⌝ }
 {
     JOB_SIZE + REQUEST_SIZE * (q as usize)
 }
 
-// Where run number `index` stands behind that many requests; behind the last run stands the close.
-pub fn run_place(requests: u32, index: u32) -> usize
-    ensures { λ r. ⌜ r ≡ runPlace requests index ⌝ }
+// Where pair number `index` stands behind that many requests; behind the last pair stand the runs.
+pub fn wait_place(requests: u32, index: u32) -> usize
+    ensures { λ r. ⌜ r ≡ waitPlace requests index ⌝ }
 {
-    request_place(requests) + RUN_SIZE * (index as usize)
+    request_place(requests) + WAIT_SIZE * (index as usize)
+}
+
+// Where run number `index` stands behind that many requests and pairs; behind the last run stands the close.
+pub fn run_place(requests: u32, waits: u32, index: u32) -> usize
+    ensures { λ r. ⌜ r ≡ runPlace requests waits index ⌝ }
+{
+    wait_place(requests, waits) + RUN_SIZE * (index as usize)
 }
 
 // The refusal of the number of nodes or of heads, 0 for none.
@@ -91,6 +105,38 @@ pub fn fields_refusal(nodes: u32, heads: u32, fields: Fields) -> u32
     }
     if nodes <= fields.y {
         return 8;
+    }
+    0
+}
+
+// Whether a pair comes strictly after the pair before it: by the later request, then by the earlier one.
+pub fn does_rise(before: Wait, wait: Wait) -> bool
+    ensures { λ r. ⌜ r ≡ risesTo before wait ⌝ }
+{
+    if before.later < wait.later {
+        return true;
+    }
+    if before.later != wait.later {
+        return false;
+    }
+    before.earlier < wait.earlier
+}
+
+// The refusal of a pair in a job of that many requests, 0 for none.
+pub fn pair_refusal(count: u32, before: Wait, wait: Wait) -> u32
+    ensures { λ r. ⌜ r ≡ pairRefusal count before wait ⌝ }
+{
+    if count <= wait.later {
+        return 18;
+    }
+    if count <= wait.earlier {
+        return 18;
+    }
+    if wait.later <= wait.earlier {
+        return 18;
+    }
+    if !does_rise(before, wait) {
+        return 18;
     }
     0
 }
