@@ -1,36 +1,67 @@
 -- The checks of a file in their order: the first that refuses gives the answer, and where none does, the counts are the job's.
 --
+--   behindX s              the checks behind the part X of the file, in their order
 --   RequestsRead s q       the length and the header are accepted, and q is what reading the requests gave
---   RunsRead s q r         the requests are accepted too, and r is what reading the runs gave
---   CloseRead s q r n      the runs are accepted too, and n is the refusal of the close and the balance
---   requests-told, runs-told, close-told   that they are, by what the functions promise
+--   WaitsRead s q w        the requests are accepted too, and w is what reading the pairs gave
+--   RunsRead s q w r       the pairs are accepted too, and r is what reading the runs gave
+--   CloseRead s q w r n    the runs are accepted too, and n is the refusal of the close and the balance
+--   requests-told, waits-told, runs-told, close-told   that they are, by what the functions promise
 --   length-answers .. close-answers   the answer where that check refuses
 --   counts-answer          the answer where none does
---   runs-room, close-room  where the next section starts is within the file
+--   waits-room, runs-room, close-room   where the next section starts is within the file
 use mathlib.Core.Path.{_≡_, _∙_, sym, ap}
 use mathlib.Core.List.{List}
-use Prim.Native.Nat.{ℕ, _≤_, _<_}
+use Prim.Native.Nat.{ℕ, _+_, _*_, _≤_, _<_}
 use native.Mathlib.Omega.{arith}
 use lib.ListN.{length, drop, length-drop, length-map}
 use borrow.Author.Tests.{lt-ltb, le-ltb, ne-eqb}
-use Rattle.jobfile.specs.Format.{runMark, jobSize, runSize, requestPlace, runPlace, mostBytes, _then_, lengthRefusal}
-use Rattle.jobfile.specs.Meaning.{records, nodesIn, headsIn, headerRefusal, requestsRefusal, requestAt, runsRefusal, runAt, fullRun}
-use Rattle.jobfile.specs.Meaning.{granted, closeRefusal, balanceRefusal, requestRecords, runsStart, runRecords, closeStart, fileRefusal}
-use Rattle.jobfile.specs.Meaning.{runsIn, jobIn, refused, meaning}
+use Rattle.jobfile.specs.Format.{waitMark, runMark, jobSize, waitSize, runSize, requestPlace, waitPlace, runPlace, mostBytes, _then_}
+use Rattle.jobfile.specs.Format.{noPair, lengthRefusal}
+use Rattle.jobfile.specs.Meaning.{records, nodesIn, headsIn, headerRefusal, requestsRefusal, requestAt, waitsRefusal, waitAt}
+use Rattle.jobfile.specs.Meaning.{runsRefusal, runAt, fullRun, granted, closeRefusal, balanceRefusal, requestRecords, waitsStart}
+use Rattle.jobfile.specs.Meaning.{waitRecords, runsStart, runRecords, closeStart, fileRefusal, runsIn, jobIn, refused, meaning}
 use Rattle.jobfile.specs.Admitted.{Bytes}
-use Rattle.jobfile.proofs.Records.{section-fits}
+use Rattle.jobfile.proofs.Records.{Section, Layout, refusal, section-fits}
 use Rattle.jobfile.proofs.Passed.{header-passed}
-use Rattle.jobfile.proofs.Layouts.{requestLayout, runLayout}
-use Rattle.jobfile.proofs.Backward.{request-section, run-section}
+use Rattle.jobfile.proofs.Layouts.{requestLayout, waitLayout, runLayout}
+use Rattle.jobfile.proofs.Backward.{request-section, wait-section, run-section}
 use Rattle.jobfile.proofs.RoundTrip.{meaning-number, meaning-accepted, meaning-refused}
 use Rattle.jobfile.proofs.Places.{runs-meant}
 use Rattle.reader.specs.declared.sections.RequestSection.{RequestSection}
+use Rattle.reader.specs.declared.sections.WaitSection.{WaitSection}
 use Rattle.reader.specs.declared.sections.RunSection.{RunSection}
-use Rattle.reader.specs.Reader.{countsOf, requestSectionOf, runSectionOf}
+use Rattle.reader.specs.Reader.{countsOf, requestSectionOf, waitSectionOf, runSectionOf}
+
+-- What is checked behind the runs,
+abbrev behindRuns : List ℕ → ℕ
+behindRuns s = closeRefusal (drop (closeStart s) s) then balanceRefusal s
+
+-- behind the pairs
+abbrev behindWaits : List ℕ → ℕ
+behindWaits s = runsRefusal (headsIn s) fullRun (runRecords s) then behindRuns s
+
+-- and behind the requests.
+abbrev behindRequests : List ℕ → ℕ
+behindRequests s = waitsRefusal (length (requestRecords s)) noPair (waitRecords s) then behindWaits s
 
 -- A refusal of the file is the answer.
 refusal-answers : (s : List ℕ) (n : ℕ) → fileRefusal s ≡ n → (n ≡ 0 → ⊥) → countsOf (refused n) ≡ countsOf (meaning s)
 refusal-answers s n e z = rw (meaning-refused s (λ a. z (sym e ∙ a)), e)
+
+module _ (s : List ℕ) (n behind : ℕ) (left : fileRefusal s ≡ (n then behind)) where
+  -- the first of the checks that are left answers where it refuses,
+  check-answers : (n ≡ 0 → ⊥) → countsOf (refused n) ≡ countsOf (meaning s)
+  check-answers z = refusal-answers s n (rw (ne-eqb n 0 z) at left) z
+
+  -- and leaves those behind it where it does not
+  check-passes : n ≡ 0 → fileRefusal s ≡ behind
+  check-passes z = rw z at left
+
+-- What follows a section that is not refused starts within the file.
+section-room : {A S : Type 0} (k : Layout A S) (none : S) (s : List ℕ) (start : ℕ) {ts : List (List ℕ)} {rest : List ℕ}
+    → Section (k .size) (k .mark) (drop start s) ts rest → start ≤ length s → refusal k none ts ≡ 0
+    → start + k .size * length ts ≤ length s
+section-room k none s start stands within passes = omega (arith, section-fits k none stands passes, length-drop start s)
 
 pub length-answers : (s : List ℕ) → mostBytes < length s → countsOf (refused 1) ≡ countsOf (meaning s)
 unfolding fileRefusal lengthRefusal
@@ -60,44 +91,75 @@ module _ {s : List ℕ} {q : RequestSection} (h : RequestsRead s q) where
   unfolding requestSectionOf
   request-number = ap (λ (q : RequestSection). q .number) (h .read)
 
-  pub requests-answer : (q .number ≡ 0 → ⊥) → countsOf (refused (q .number)) ≡ countsOf (meaning s)
-  unfolding fileRefusal
-  requests-answer z =
-      refusal-answers s (q .number) (simp (length-passes s (h .short), h .header, ← request-number, ne-eqb (q .number) 0 z)) z
-
   request-count : q .number ≡ 0 → q .count ≡ length (requestRecords s)
   unfolding requestSectionOf
   request-count z = ap (λ (q : RequestSection). q .count) (h .read) ∙ rw (← request-number, z)
 
-  -- the runs start within the file
-  pub runs-room : q .number ≡ 0 → requestPlace (q .count) ≤ length s
-  runs-room z =
-      let whole = header-passed s (h .header) .whole in
-      let fits = section-fits (requestLayout (nodesIn s) (headsIn s)) 0 (request-section s) (sym request-number ∙ z) in
-      omega (arith, request-count z, length-drop jobSize s, fits)
+  requests-left : fileRefusal s ≡ (q .number then behindRequests s)
+  unfolding fileRefusal
+  requests-left = simp (length-passes s (h .short), h .header, ← request-number)
 
--- The requests are accepted too, and r is what reading the runs gave.
-pub record RunsRead (s : List ℕ) (q : RequestSection) (r : RunSection) : Type 0 where
+  pub requests-answer : (q .number ≡ 0 → ⊥) → countsOf (refused (q .number)) ≡ countsOf (meaning s)
+  requests-answer = check-answers s (q .number) (behindRequests s) requests-left
+
+  -- the pairs start within the file
+  pub waits-room : q .number ≡ 0 → requestPlace (q .count) ≤ length s
+  waits-room z =
+      let whole = header-passed s (h .header) .whole in
+      let passes = sym request-number ∙ z in
+      rw (request-count z) (section-room (requestLayout (nodesIn s) (headsIn s)) 0 s jobSize (request-section s) whole passes)
+
+-- The requests are accepted too, and w is what reading the pairs gave.
+pub record WaitsRead (s : List ℕ) (q : RequestSection) (w : WaitSection) : Type 0 where
   pub before : RequestsRead s q
   pub requests : q .number ≡ 0
+  pub read : w ≡ waitSectionOf (length (requestRecords s)) (waitRecords s)
+
+pub waits-told : {s : List ℕ} {q : RequestSection} {start : ℕ} {w : WaitSection} → RequestsRead s q → q .number ≡ 0
+    → start ≡ requestPlace (q .count) → w ≡ waitSectionOf (q .count) (records waitSize waitMark (drop start s)) → WaitsRead s q w
+waits-told b z p r = record { before = b; requests = z; read = rw (p, request-count b z) at r }
+
+module _ {s : List ℕ} {q : RequestSection} {w : WaitSection} (h : WaitsRead s q w) where
+  wait-number : w .number ≡ waitsRefusal (length (requestRecords s)) noPair (waitRecords s)
+  unfolding waitSectionOf
+  wait-number = ap (λ (w : WaitSection). w .number) (h .read)
+
+  wait-count : w .number ≡ 0 → w .count ≡ length (waitRecords s)
+  unfolding waitSectionOf
+  wait-count z = ap (λ (w : WaitSection). w .count) (h .read) ∙ rw (← wait-number, z)
+
+  waits-left : fileRefusal s ≡ (w .number then behindWaits s)
+  waits-left = rw wait-number (check-passes s (q .number) (behindRequests s) (requests-left (h .before)) (h .requests))
+
+  pub waits-answer : (w .number ≡ 0 → ⊥) → countsOf (refused (w .number)) ≡ countsOf (meaning s)
+  waits-answer = check-answers s (w .number) (behindWaits s) waits-left
+
+  -- where the runs start, by the counts
+  runs-place : w .number ≡ 0 → waitPlace (q .count) (w .count) ≡ runsStart s
+  runs-place z = rw (request-count (h .before) (h .requests), wait-count z)
+
+  -- the runs start within the file
+  pub runs-room : w .number ≡ 0 → waitPlace (q .count) (w .count) ≤ length s
+  runs-room z =
+      let within = rw (request-count (h .before) (h .requests)) at (waits-room (h .before) (h .requests)) in
+      let passes = sym wait-number ∙ z in
+      rw (runs-place z) (section-room (waitLayout (length (requestRecords s))) noPair s (waitsStart s) (wait-section s) within passes)
+
+-- The pairs are accepted too, and r is what reading the runs gave.
+pub record RunsRead (s : List ℕ) (q : RequestSection) (w : WaitSection) (r : RunSection) : Type 0 where
+  pub before : WaitsRead s q w
+  pub waits : w .number ≡ 0
   pub read : r ≡ runSectionOf (headsIn s) (runRecords s)
 
-pub runs-told : {s : List ℕ} {q : RequestSection} {heads start : ℕ} {r : RunSection} → RequestsRead s q → q .number ≡ 0
-    → heads ≡ headsIn s → start ≡ requestPlace (q .count) → r ≡ runSectionOf heads (records runSize runMark (drop start s))
-    → RunsRead s q r
-runs-told b z h p r = record { before = b; requests = z; read = rw (h, p, request-count b z) at r }
+pub runs-told : {s : List ℕ} {q : RequestSection} {w : WaitSection} {heads start : ℕ} {r : RunSection} → WaitsRead s q w
+    → w .number ≡ 0 → heads ≡ headsIn s → start ≡ waitPlace (q .count) (w .count)
+    → r ≡ runSectionOf heads (records runSize runMark (drop start s)) → RunsRead s q w r
+runs-told b z h p r = record { before = b; waits = z; read = rw (h, p, runs-place b z) at r }
 
-module _ {s : List ℕ} {q : RequestSection} {r : RunSection} (h : RunsRead s q r) where
+module _ {s : List ℕ} {q : RequestSection} {w : WaitSection} {r : RunSection} (h : RunsRead s q w r) where
   run-number : r .number ≡ runsRefusal (headsIn s) fullRun (runRecords s)
   unfolding runSectionOf
   run-number = ap (λ (r : RunSection). r .number) (h .read)
-
-  pub runs-answer : (r .number ≡ 0 → ⊥) → countsOf (refused (r .number)) ≡ countsOf (meaning s)
-  unfolding fileRefusal
-  runs-answer z =
-      let b = h .before in
-      let short = length-passes s (b .short) in
-      refusal-answers s (r .number) (simp (short, b .header, ← request-number b, h .requests, ← run-number, ne-eqb (r .number) 0 z)) z
 
   run-count : r .number ≡ 0 → r .count ≡ length (runRecords s)
   unfolding runSectionOf
@@ -107,54 +169,64 @@ module _ {s : List ℕ} {q : RequestSection} {r : RunSection} (h : RunsRead s q 
   unfolding runSectionOf
   run-grants z = ap (λ (r : RunSection). r .grants) (h .read) ∙ rw (← run-number, z)
 
+  runs-left : fileRefusal s ≡ (r .number then behindRuns s)
+  runs-left = rw run-number (check-passes s (w .number) (behindWaits s) (waits-left (h .before)) (h .waits))
+
+  pub runs-answer : (r .number ≡ 0 → ⊥) → countsOf (refused (r .number)) ≡ countsOf (meaning s)
+  runs-answer = check-answers s (r .number) (behindRuns s) runs-left
+
+  -- where the close starts, by the counts
+  close-place : r .number ≡ 0 → runPlace (q .count) (w .count) (r .count) ≡ closeStart s
+  close-place z = rw (runs-place (h .before) (h .waits), run-count z)
+
   -- the close starts within the file
-  pub close-room : r .number ≡ 0 → runPlace (q .count) (r .count) ≤ length s
+  pub close-room : r .number ≡ 0 → runPlace (q .count) (w .count) (r .count) ≤ length s
   close-room z =
-      omega (
-        arith,
-        runs-room (h .before) (h .requests),
-        request-count (h .before) (h .requests),
-        run-count z,
-        length-drop (runsStart s) s,
-        section-fits (runLayout (headsIn s)) fullRun (run-section s) (sym run-number ∙ z),
-      )
+      let within = rw (runs-place (h .before) (h .waits)) at (runs-room (h .before) (h .waits)) in
+      rw (close-place z) (section-room (runLayout (headsIn s)) fullRun s (runsStart s) (run-section s) within (sym run-number ∙ z))
 
 -- The runs are accepted too, and n is the refusal of the close and the balance.
-pub record CloseRead (s : List ℕ) (q : RequestSection) (r : RunSection) (n : ℕ) : Type 0 where
-  pub before : RunsRead s q r
+pub record CloseRead (s : List ℕ) (q : RequestSection) (w : WaitSection) (r : RunSection) (n : ℕ) : Type 0 where
+  pub before : RunsRead s q w r
   pub runs : r .number ≡ 0
-  pub read : n ≡ (closeRefusal (drop (closeStart s) s) then balanceRefusal s)
+  pub read : n ≡ behindRuns s
 
-pub close-told : {s : List ℕ} {q : RequestSection} {r : RunSection} {at n : ℕ} → RunsRead s q r → r .number ≡ 0
-    → at ≡ runPlace (q .count) (r .count) → n ≡ (closeRefusal (drop at s) then balanceRefusal s) → CloseRead s q r n
-close-told b z p e = record { before = b; runs = z; read = rw (p, request-count (b .before) (b .requests), run-count b z) at e }
+pub close-told : {s : List ℕ} {q : RequestSection} {w : WaitSection} {r : RunSection} {at n : ℕ} → RunsRead s q w r → r .number ≡ 0
+    → at ≡ runPlace (q .count) (w .count) (r .count) → n ≡ (closeRefusal (drop at s) then balanceRefusal s) → CloseRead s q w r n
+close-told b z p e = record { before = b; runs = z; read = rw (p, close-place b z) at e }
 
-module _ {s : List ℕ} {q : RequestSection} {r : RunSection} {n : ℕ} (h : CloseRead s q r n) where
+module _ {s : List ℕ} {q : RequestSection} {w : WaitSection} {r : RunSection} {n : ℕ} (h : CloseRead s q w r n) where
   file-number : fileRefusal s ≡ n
-  unfolding fileRefusal
-  file-number =
-      let r = h .before in
-      let b = r .before in
-      simp (length-passes s (b .short), b .header, ← request-number b, r .requests, ← run-number r, h .runs) (sym (h .read))
+  file-number = check-passes s (r .number) (behindRuns s) (runs-left (h .before)) (h .runs) ∙ sym (h .read)
 
   pub close-answers : (n ≡ 0 → ⊥) → countsOf (refused n) ≡ countsOf (meaning s)
   close-answers z = refusal-answers s n file-number z
 
   pub counts-answer : Bytes s → n ≡ 0
-      → record { number = 0; nodes = nodesIn s; heads = headsIn s; requests = q .count; grants = r .grants; runs = r .count }
+      → record {
+        number = 0;
+        nodes = nodesIn s;
+        heads = headsIn s;
+        requests = q .count;
+        waits = w .count;
+        grants = r .grants;
+        runs = r .count;
+      }
       ≡ countsOf (meaning s)
   unfolding jobIn
   counts-answer b z =
       let accepts = meaning-accepted s (file-number ∙ z) in
       let none : meaning s .number ≡ 0 = meaning-number s ∙ file-number ∙ z in
-      let requests = request-count (h .before .before) (h .before .requests) in
-      let grants = run-grants (h .before) (h .runs) in
-      let runs = run-count (h .before) (h .runs) in
+      let ran = h .before in
+      let paired = ran .before in
+      let requests = request-count (paired .before) (paired .requests) in
       λ i. record {
         number = sym none i;
         nodes = ap (λ m. m .job .nodes) (sym accepts) i;
         heads = ap (λ m. m .job .heads) (sym accepts) i;
         requests = (requests ∙ sym (length-map (requestRecords s) requestAt) ∙ ap (λ m. length (m .job .requests)) (sym accepts)) i;
-        grants = (grants ∙ ap (λ m. length (m .job .schedule)) (sym accepts)) i;
-        runs = (runs ∙ sym (length-map (runRecords s) runAt) ∙ ap length (sym (runs-meant s b none))) i;
+        waits = (wait-count paired (ran .waits) ∙ sym (length-map (waitRecords s) waitAt)
+            ∙ ap (λ m. length (m .job .waits)) (sym accepts)) i;
+        grants = (run-grants ran (h .runs) ∙ ap (λ m. length (m .job .schedule)) (sym accepts)) i;
+        runs = (run-count ran (h .runs) ∙ sym (length-map (runRecords s) runAt) ∙ ap length (sym (runs-meant s b none))) i;
       }

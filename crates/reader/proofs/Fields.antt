@@ -1,6 +1,6 @@
 -- The numbers of a record, by the bytes and words that they are read from.
 --
---   fields-read, run-read  a record of numbers is the one at that place, if each was read from its bytes
+--   fields-read, wait-read, run-read   a record of numbers is the one at that place, if each was read from its bytes
 --   narrow, request-read   numbers read from bytes fit a request's fields, and give the request at that place
 --   run-numbers            the refusal of a run that is whole, by its numbers
 use mathlib.Core.Path.{_≡_, _∙_, sym, ap}
@@ -17,7 +17,7 @@ use Rattle.job.specs.Job.{kindOf}
 use Rattle.jobfile.specs.declared.Fields.{Fields}
 use Rattle.jobfile.specs.declared.Run.{Run}
 use Rattle.jobfile.specs.Format.{runSize, word, extends}
-use Rattle.jobfile.specs.Meaning.{fieldsAt, requestAt, runAt, runRefusal}
+use Rattle.jobfile.specs.Meaning.{fieldsAt, requestAt, waitAt, runAt, runRefusal}
 use Rattle.jobfile.specs.Admitted.{Bytes}
 use Rattle.jobfile.proofs.Records.{bytes-drop}
 
@@ -31,6 +31,11 @@ module _ (s : List ℕ) (at : ℕ) where
         x = (ex ∙ ap word (sym (drop-drop 4 at s))) i;
         y = (ey ∙ ap word (sym (drop-drop 6 at s))) i;
       }
+
+  pub wait-read : (later earlier : ℕ) → later ≡ word (drop (at + 2) s) → earlier ≡ word (drop (at + 4) s)
+      → record { later = later; earlier = earlier } ≡ waitAt (drop at s)
+  wait-read later earlier l e =
+      λ i. record { later = (l ∙ ap word (sym (drop-drop 2 at s))) i; earlier = (e ∙ ap word (sym (drop-drop 4 at s))) i }
 
   pub run-read : (head count : ℕ) → head ≡ getD s (at + 2) 0 → count ≡ getD s (at + 3) 0
       → record { head = head; count = count } ≡ runAt (drop at s)

@@ -5,7 +5,8 @@
 --   runsBetween start at                    how many runs there are from the first to a place
 --   RunsTo s h start at before grants       so many of them are read, and these are their grants
 --   X-start, X-next, X-refused, X-end       the invariant holds at first, after a record, and what it gives at each way out
---   run-whole, run-marked, run-short        what a whole run has, and why a run that is none is refused
+--   record-whole, record-marked             a whole record is within the file, and has its mark
+--   record-short, wait-short, run-short     what has the mark but is no whole record is cut short, and so refused
 use mathlib.Core.Path.{_≡_, refl, sym, ap, _∙_}
 use mathlib.Core.Bool.{true, false, true≢false}
 use mathlib.Core.List.{List, [], _∷_, map}
@@ -17,12 +18,14 @@ use lib.Dec.{ltb}
 use lib.ListN.{length, getD, drop, length-drop, length-append, length-replicate}
 use borrow.Author.Tests.{eq-eqb, ne-eqb, eqb-true, ltb-false}
 use Rattle.basics.proofs.Conditions.{split}
+use Rattle.job.specs.declared.Wait.{Wait}
 use Rattle.jobfile.specs.declared.Run.{Run}
-use Rattle.jobfile.specs.Format.{requestMark, runMark, jobSize, runSize, mostGrants, word, _then_}
-use Rattle.jobfile.specs.Meaning.{records, sectionRefusal, requestRefusal, requestRecords, runAt, runRefusal, fullRun, granted}
+use Rattle.jobfile.specs.Format.{requestMark, waitMark, runMark, jobSize, waitSize, runSize, mostGrants, word, _then_, noPair}
+use Rattle.jobfile.specs.Meaning.{records, sectionRefusal, requestRefusal, requestRecords, waitAt, waitRefusal, runAt, runRefusal}
+use Rattle.jobfile.specs.Meaning.{fullRun, granted}
 use Rattle.jobfile.proofs.Records.{records-here, records-end, Layout, places, refusal}
-use Rattle.jobfile.proofs.Layouts.{requestLayout, runLayout}
-use Rattle.reader.specs.Reader.{requestSectionOf, runSectionOf, isRun}
+use Rattle.jobfile.proofs.Layouts.{requestLayout, waitLayout, runLayout}
+use Rattle.reader.specs.Reader.{requestSectionOf, waitSectionOf, runSectionOf, isRecord}
 
 module _ {A S : Type 0} (k : Layout A S) (s : List ℕ) (start : ℕ) (none : S) where
   pub record ReadTo (at : ℕ) (before : S) (count : ℕ) : Type 0 where
@@ -80,6 +83,48 @@ module _ (nodes heads : ℕ) {s : List ℕ} {at count : ℕ} (h : ReadTo (reques
   unfolding requestSectionOf
   requests-end m = rw (read-passes h m, read-count h m)
 
+module _ (size m : ℕ) where
+  -- a whole record is within the file
+  pub record-whole : (s : List ℕ) (at : ℕ) → isRecord size m (drop at s) ≡ true → at ≤ length s → at + size ≤ length s
+  record-whole s at is within =
+      split (ltb (length (drop at s)) size) (λ e. absurd (true≢false (sym (rw e at is))))
+      (λ e. omega (arith, ltb-false (length (drop at s)) size e, length-drop at s))
+
+  -- and has its mark
+  pub record-marked : (t : List ℕ) → isRecord size m t ≡ true → word t ≡ m
+  record-marked t is = split (ltb (length t) size) (λ e. absurd (true≢false (sym (rw e at is)))) (λ e. eqb-true (word t) m (rw e at is))
+
+  -- and what has the mark but is no whole record, is cut short
+  record-short : (t : List ℕ) → isRecord size m t ≡ false → word t ≡ m → ltb (length t) size ≡ true
+  record-short t none mark =
+      split (ltb (length t) size) (λ e. e) (λ e. absurd (true≢false (sym (eq-eqb (word t) m mark) ∙ rw e at none)))
+
+pub wait-short : (requests : ℕ) (before : Wait) (t : List ℕ) → isRecord waitSize waitMark t ≡ false → word t ≡ waitMark
+    → 2 ≡ waitRefusal requests before t
+unfolding waitRefusal
+wait-short requests before t none mark = rw (record-short waitSize waitMark t none mark)
+
+pub run-short : (heads : ℕ) (before : Run) (t : List ℕ) → isRecord runSize runMark t ≡ false → word t ≡ runMark
+    → 2 ≡ runRefusal heads before t
+unfolding runRefusal
+run-short heads before t none mark = rw (record-short runSize runMark t none mark)
+
+module _ (requests : ℕ) {s : List ℕ} {start at : ℕ} {before : Wait} {count : ℕ}
+    (h : ReadTo (waitLayout requests) s start noPair at before count) where
+  pub waits-next : (next : Wait) → word (drop at s) ≡ waitMark → waitRefusal requests before (drop at s) ≡ 0
+      → next ≡ waitAt (drop at s) → ReadTo (waitLayout requests) s start noPair (at + waitSize) next (count + 1)
+  waits-next next m e r = rw r (read-next h m e)
+
+  pub waits-refused : (n : ℕ) → word (drop at s) ≡ waitMark → n ≡ waitRefusal requests before (drop at s) → (n ≡ 0 → ⊥)
+      → record { number = n; count = 0 } ≡ waitSectionOf requests (records waitSize waitMark (drop start s))
+  unfolding waitSectionOf
+  waits-refused n m e z = rw (read-refused h m n e z, ne-eqb n 0 z)
+
+  pub waits-end : (word (drop at s) ≡ waitMark → ⊥)
+      → record { number = 0; count = count } ≡ waitSectionOf requests (records waitSize waitMark (drop start s))
+  unfolding waitSectionOf
+  waits-end m = rw (read-passes h m, read-count h m)
+
 -- how many runs there are from the first to a place
 abbrev pub runsBetween : ℕ → ℕ → ℕ
 runsBetween start at = (at - start) / runSize
@@ -97,22 +142,6 @@ module _ (s : List ℕ) (heads start : ℕ) where
   pub runs-start : start ≤ length s → RunsTo start fullRun 0
   runs-start l =
       record { to = rw none-between (read-start (runLayout heads) s start fullRun l); few = omega arith; granting = omega arith }
-
--- a whole run is within the file
-pub run-whole : (s : List ℕ) (at : ℕ) → isRun (drop at s) ≡ true → at ≤ length s → at + runSize ≤ length s
-run-whole s at is within =
-    split (ltb (length (drop at s)) runSize) (λ e. absurd (true≢false (sym (rw e at is))))
-    (λ e. omega (arith, ltb-false (length (drop at s)) runSize e, length-drop at s))
-
--- a whole run has a run's mark
-pub run-marked : (t : List ℕ) → isRun t ≡ true → word t ≡ runMark
-run-marked t is = split (ltb (length t) runSize) (λ e. absurd (true≢false (sym (rw e at is)))) (λ e. eqb-true (word t) runMark (rw e at is))
-
--- and what has its mark but is none, is cut short
-pub run-short : (heads : ℕ) (before : Run) (t : List ℕ) → isRun t ≡ false → word t ≡ runMark → 2 ≡ runRefusal heads before t
-unfolding runRefusal
-run-short heads before t none mark =
-    split (ltb (length t) runSize) (λ e. rw e) (λ e. absurd (true≢false (sym (eq-eqb (word t) runMark mark) ∙ rw e at none)))
 
 module _ {s : List ℕ} {heads start at : ℕ} {before : Run} {grants : ℕ} (h : RunsTo s heads start at before grants) where
   one-more : runsBetween start (at + runSize) ≡ runsBetween start at + 1

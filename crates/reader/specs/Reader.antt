@@ -2,21 +2,23 @@
 --
 --   countsOf m                  the number of a meaning and the counts of its job
 --   requestSectionOf n h ts     the refusal or the count of the requests at the places ts
+--   waitSectionOf q ts          the refusal or the count of the pairs at the places ts, behind q requests
 --   runSectionOf h ts           the refusal, or the count and the grants, of the runs at the places ts
---   isRun t                     a whole run's record stands at the place t
+--   isRecord size m t           a whole record of that size, with the mark m, stands at the place t
 use mathlib.Core.Bool.{Bool, false, cond}
 use mathlib.Core.List.{List, map}
 use Prim.Native.Nat.{ℕ}
 use lib.Dec.{eqb, ltb}
 use lib.ListN.{length}
-use Rattle.jobfile.specs.Format.{runMark, runSize, word}
-use Rattle.jobfile.specs.Meaning.{Meaning, requestsRefusal, runsRefusal, runAt, fullRun, granted}
+use Rattle.jobfile.specs.Format.{word, noPair}
+use Rattle.jobfile.specs.Meaning.{Meaning, requestsRefusal, waitsRefusal, runsRefusal, runAt, fullRun, granted}
 use Rattle.jobfile.specs.Written.{longestRuns}
 use Rattle.reader.specs.declared.Checked.{Checked}
 use Rattle.reader.specs.declared.sections.RequestSection.{RequestSection}
+use Rattle.reader.specs.declared.sections.WaitSection.{WaitSection}
 use Rattle.reader.specs.declared.sections.RunSection.{RunSection}
 
--- The counts: places, heads, requests, grants, and the runs.
+-- The counts: places, heads, requests, pairs (02, A3), grants, and the runs.
 abbrev pub countsOf : Meaning → Checked
 countsOf m =
     record {
@@ -24,6 +26,7 @@ countsOf m =
       nodes = m .job .nodes;
       heads = m .job .heads;
       requests = length (m .job .requests);
+      waits = length (m .job .waits);
       grants = length (m .job .schedule);
       runs = length (longestRuns (m .job .schedule));
     }
@@ -32,6 +35,12 @@ countsOf m =
 unfoldable pub requestSectionOf : ℕ → ℕ → List (List ℕ) → RequestSection
 requestSectionOf nodes heads ts =
     let number = requestsRefusal nodes heads 0 ts in
+    record { number = number; count = cond (eqb number 0) (length ts) 0 }
+
+-- The pairs of the file (02, A3), behind so many requests: the first refusal, or how many there are.
+unfoldable pub waitSectionOf : ℕ → List (List ℕ) → WaitSection
+waitSectionOf requests ts =
+    let number = waitsRefusal requests noPair ts in
     record { number = number; count = cond (eqb number 0) (length ts) 0 }
 
 -- The runs of the file: the first refusal, or how many there are and the grants that they give.
@@ -44,6 +53,6 @@ runSectionOf heads ts =
       grants = cond (eqb number 0) (length (granted (map runAt ts))) 0;
     }
 
--- A run's mark, and the whole of its record.
-abbrev pub isRun : List ℕ → Bool
-isRun t = cond (ltb (length t) runSize) false (eqb (word t) runMark)
+-- The whole of a record, with its mark.
+abbrev pub isRecord : ℕ → ℕ → List ℕ → Bool
+isRecord size m t = cond (ltb (length t) size) false (eqb (word t) m)

@@ -1,23 +1,29 @@
-// The reader of job files: it checks a file, and reads the requests and the runs of an accepted one where they stand.
+// The reader of job files: it checks a file, and reads the requests, the pairs (02, A3) and the runs of an accepted one where
+// they stand.
 mod records;
 mod sections;
 
 use crate::records::request_here;
 use crate::records::run_here;
+use crate::records::wait_here;
 use crate::sections::close_refusal;
 use crate::sections::header_refusal;
 use crate::sections::read_requests;
 use crate::sections::read_runs;
+use crate::sections::read_waits;
 use job::Request;
+use job::Wait;
 use jobfile::MOST_BYTES;
 use jobfile::Run;
 use jobfile::bytes::word_at;
 use jobfile::request_place;
 use jobfile::run_place;
+use jobfile::wait_place;
 ghost use mathlib.Core.Path.{_≡_};
 ghost use Prim.Native.Nat.{_<_, _≤_};
 ghost use lib.ListN.{length, getD};
 ghost use Rattle.job.specs.declared.Request.{Request};
+ghost use Rattle.job.specs.declared.Wait.{Wait};
 ghost use Rattle.jobfile.specs.declared.Run.{Run};
 ghost use Rattle.jobfile.specs.Format.{mostBytes};
 ghost use Rattle.jobfile.specs.Meaning.{headerRefusal, refused, meaning};
@@ -30,6 +36,7 @@ pub struct Checked {
     pub nodes: u32,
     pub heads: u32,
     pub requests: u32,
+    pub waits: u32,
     pub grants: u32,
     pub runs: u32,
 }
@@ -43,6 +50,7 @@ pub fn refuse(number: u32) -> Checked
         nodes: 0,
         heads: 0,
         requests: 0,
+        waits: 0,
         grants: 0,
         runs: 0,
     }
@@ -60,11 +68,15 @@ fn check_records(file: &[u8]) -> Checked
     if requests.number != 0 {
         return refuse(requests.number);
     }
-    let runs = read_runs(file, heads, request_place(requests.count));
+    let waits = read_waits(file, requests.count, request_place(requests.count));
+    if waits.number != 0 {
+        return refuse(waits.number);
+    }
+    let runs = read_runs(file, heads, wait_place(requests.count, waits.count));
     if runs.number != 0 {
         return refuse(runs.number);
     }
-    let number = close_refusal(file, run_place(requests.count, runs.count));
+    let number = close_refusal(file, run_place(requests.count, waits.count, runs.count));
     if number != 0 {
         return refuse(number);
     }
@@ -73,6 +85,7 @@ fn check_records(file: &[u8]) -> Checked
         nodes: nodes,
         heads: heads,
         requests: requests.count,
+        waits: waits.count,
         grants: runs.grants,
         runs: runs.count,
     }
@@ -101,12 +114,23 @@ pub fn request_at(file: &[u8], q: u32) -> Request
     request_here(file, request_place(q))
 }
 
-// Run number `index` of an accepted file, which has that many requests.
-pub fn run_at(file: &[u8], requests: u32, index: u32) -> Run
+// Pair number `index` of an accepted file, which has that many requests.
+pub fn wait_at(file: &[u8], requests: u32, index: u32) -> Wait
     requires { ⌜ meaning (now file) .number ≡ 0 ⌝ }
     requires { ⌜ requests ≡ length (meaning (now file) .job .requests) ⌝ }
+    requires { ⌜ index < length (meaning (now file) .job .waits) ⌝ }
+    ensures { λ r. ⌜ ((none : Wait) → r ≡ getD (meaning (now (file .entry)) .job .waits) index none) ⌝ }
+{
+    wait_here(file, wait_place(requests, index))
+}
+
+// Run number `index` of an accepted file, which has that many requests and pairs.
+pub fn run_at(file: &[u8], requests: u32, waits: u32, index: u32) -> Run
+    requires { ⌜ meaning (now file) .number ≡ 0 ⌝ }
+    requires { ⌜ requests ≡ length (meaning (now file) .job .requests) ⌝ }
+    requires { ⌜ waits ≡ length (meaning (now file) .job .waits) ⌝ }
     requires { ⌜ index < length (longestRuns (meaning (now file) .job .schedule)) ⌝ }
     ensures { λ r. ⌜ ((none : Run) → r ≡ getD (longestRuns (meaning (now (file .entry)) .job .schedule)) index none) ⌝ }
 {
-    run_here(file, run_place(requests, index))
+    run_here(file, run_place(requests, waits, index))
 }

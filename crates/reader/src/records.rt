@@ -1,23 +1,37 @@
-// One record: the request or the run at a place of the file, and its refusal, 0 for none.
+// One record: the request, the pair or the run at a place of the file, and its refusal, 0 for none.
 use job::Kind;
 use job::MOST_REQUESTS;
 use job::Request;
+use job::Wait;
 use jobfile::Fields;
 use jobfile::REQUEST_SIZE;
-use jobfile::RUN_MARK;
 use jobfile::RUN_SIZE;
 use jobfile::Run;
+use jobfile::WAIT_SIZE;
 use jobfile::bytes::whole_word;
 use jobfile::bytes::word_at;
 use jobfile::does_extend;
 use jobfile::fields_refusal;
+use jobfile::pair_refusal;
 ghost use mathlib.Core.Path.{_≡_};
 ghost use Prim.Native.Nat.{_+_, _≤_};
 ghost use lib.ListN.{length, drop};
 ghost use Rattle.job.specs.Job.{kindOf};
-ghost use Rattle.jobfile.specs.Format.{requestSize, runSize, mostBytes};
-ghost use Rattle.jobfile.specs.Meaning.{fieldsAt, requestAt, runAt, requestRefusal, runRefusal};
-ghost use Rattle.reader.specs.Reader.{isRun};
+ghost use Rattle.jobfile.specs.Format.{requestSize, waitSize, runSize, mostBytes};
+ghost use Rattle.jobfile.specs.Meaning.{fieldsAt, requestAt, waitAt, runAt, requestRefusal, waitRefusal, runRefusal};
+ghost use Rattle.reader.specs.Reader.{isRecord};
+
+// Whether a whole record of that size and mark stands at a place: a loop over such records then needs one test of the length
+// for each.
+pub fn is_record(file: &[u8], at: usize, size: usize, mark: u16) -> bool
+    requires { ⌜ at ≤ length (now file) ⌝ }
+    ensures { λ r. ⌜ r ≡ isRecord size mark (drop at (now (file .entry))) ⌝ }
+{
+    if file.len() - at < size {
+        return false;
+    }
+    word_at(file, at) == mark
+}
 
 // The kind of an admitted number.
 fn kind_of(number: u32) -> Kind
@@ -77,6 +91,30 @@ pub fn request_refusal(file: &[u8], at: usize, nodes: u32, heads: u32, number: u
     fields_refusal(nodes, heads, fields_here(file, at))
 }
 
+// The pair at a place (02, A3), whose record is whole.
+pub fn wait_here(file: &[u8], at: usize) -> Wait
+    requires { ⌜ at + waitSize ≤ length (now file) ⌝ }
+    ensures { λ r. ⌜ r ≡ waitAt (drop at (now (file .entry))) ⌝ }
+{
+    let later = whole_word(file, at + 2);
+    let earlier = whole_word(file, at + 4);
+    Wait {
+        later: later as u32,
+        earlier: earlier as u32,
+    }
+}
+
+// The refusal of the pair at a place, behind so many requests and the pair before it: the whole record, the pair.
+pub fn wait_refusal(file: &[u8], at: usize, requests: u32, before: Wait) -> u32
+    requires { ⌜ at ≤ length (now file) ⌝ }
+    ensures { λ r. ⌜ r ≡ waitRefusal requests before (drop at (now (file .entry))) ⌝ }
+{
+    if file.len() - at < WAIT_SIZE {
+        return 2;
+    }
+    pair_refusal(requests, before, wait_here(file, at))
+}
+
 // The run at a place, whose record is whole.
 pub fn run_here(file: &[u8], at: usize) -> Run
     requires { ⌜ at + runSize ≤ length (now file) ⌝ }
@@ -88,17 +126,6 @@ pub fn run_here(file: &[u8], at: usize) -> Run
         head: head,
         count: count,
     }
-}
-
-// Whether a whole run's record stands at a place: the loop over the runs then needs one test of the length for each.
-pub fn is_run(file: &[u8], at: usize) -> bool
-    requires { ⌜ at ≤ length (now file) ⌝ }
-    ensures { λ r. ⌜ r ≡ isRun (drop at (now (file .entry))) ⌝ }
-{
-    if file.len() - at < RUN_SIZE {
-        return false;
-    }
-    word_at(file, at) == RUN_MARK
 }
 
 // The refusal of the run at a place, behind the run before it: the whole record, the head, the count, the run before.

@@ -1,8 +1,12 @@
-// The sections of a file in order: the header, the requests, the runs, the close. A number of 0 is no refusal.
-use crate::records::is_run;
+// The sections of a file in order: the header, the requests, the pairs (02, A3), the runs, the close. A number of 0 is no
+// refusal.
+use crate::records::is_record;
 use crate::records::request_refusal;
 use crate::records::run_here;
 use crate::records::run_refusal;
+use crate::records::wait_here;
+use crate::records::wait_refusal;
+use job::Wait;
 use jobfile::CLOSE_MARK;
 use jobfile::CLOSE_SIZE;
 use jobfile::JOB_MARK;
@@ -12,18 +16,26 @@ use jobfile::REQUEST_SIZE;
 use jobfile::RUN_MARK;
 use jobfile::RUN_SIZE;
 use jobfile::Run;
+use jobfile::WAIT_MARK;
+use jobfile::WAIT_SIZE;
 use jobfile::bytes::sum_words;
 use jobfile::bytes::word_at;
 use jobfile::sizes_refusal;
 ghost use mathlib.Core.Path.{_≡_};
 ghost use Prim.Native.Nat.{_≤_};
 ghost use lib.ListN.{length, drop};
-ghost use Rattle.jobfile.specs.Format.{runMark, jobSize, runSize, mostBytes, _then_};
+ghost use Rattle.jobfile.specs.Format.{waitMark, runMark, jobSize, waitSize, runSize, mostBytes, _then_};
 ghost use Rattle.jobfile.specs.Meaning.{records, headerRefusal, closeRefusal, balanceRefusal, requestRecords};
-ghost use Rattle.reader.specs.Reader.{requestSectionOf, runSectionOf};
+ghost use Rattle.reader.specs.Reader.{requestSectionOf, waitSectionOf, runSectionOf};
 
 // The requests of a file: how many there are, or their refusal.
 pub struct RequestSection {
+    pub number: u32,
+    pub count: u32,
+}
+
+// The pairs of a file: how many there are, or their refusal.
+pub struct WaitSection {
     pub number: u32,
     pub count: u32,
 }
@@ -76,6 +88,42 @@ pub fn read_requests(file: &[u8], nodes: u32, heads: u32) -> RequestSection
     }
 }
 
+// Reads the pairs from where they start, behind so many requests.
+pub fn read_waits(file: &[u8], requests: u32, start: usize) -> WaitSection
+    requires { ⌜ start ≤ length (now file) ⌝ }
+    requires { ⌜ length (now file) ≤ mostBytes ⌝ }
+    ensures { λ r. ⌜ r ≡ waitSectionOf requests (records waitSize waitMark (drop start (now (file .entry)))) ⌝ }
+{
+    let mut at = start;
+    let mut before = Wait {
+        later: 0,
+        earlier: 0,
+    };
+    let mut count: u32 = 0;
+    while is_record(file, at, WAIT_SIZE, WAIT_MARK) {
+        let number = wait_refusal(file, at, requests, before);
+        if number != 0 {
+            return WaitSection {
+                number: number,
+                count: 0,
+            };
+        }
+        before = wait_here(file, at);
+        at += WAIT_SIZE;
+        count += 1;
+    }
+    if word_at(file, at) == WAIT_MARK {
+        return WaitSection {
+            number: 2,
+            count: 0,
+        };
+    }
+    WaitSection {
+        number: 0,
+        count: count,
+    }
+}
+
 // Reads the runs from where they start.
 pub fn read_runs(file: &[u8], heads: u32, start: usize) -> RunSection
     requires { ⌜ start ≤ length (now file) ⌝ }
@@ -88,7 +136,7 @@ pub fn read_runs(file: &[u8], heads: u32, start: usize) -> RunSection
         count: 255,
     };
     let mut grants: u32 = 0;
-    while is_run(file, at) {
+    while is_record(file, at, RUN_SIZE, RUN_MARK) {
         let number = run_refusal(file, at, heads, before);
         if number != 0 {
             return RunSection {

@@ -6,8 +6,9 @@ use Prim.Native.Nat.{ℕ}
 use denote.Ref.{now}
 use borrow.Author.Needs.{needs}
 use Rattle.jobfile.proofs.Passed.{header-passed}
-use Rattle.reader.proofs.Checks.{RequestsRead, requests-told, requests-answer, runs-room, RunsRead, runs-told, runs-answer}
-use Rattle.reader.proofs.Checks.{close-room, CloseRead, close-told, close-answers, counts-answer}
+use Rattle.reader.proofs.Checks.{RequestsRead, requests-told, requests-answer, waits-room, WaitsRead, waits-told, waits-answer}
+use Rattle.reader.proofs.Checks.{runs-room, RunsRead, runs-told, runs-answer, close-room, CloseRead, close-told, close-answers}
+use Rattle.reader.proofs.Checks.{counts-answer}
 use Rattle.reader.proofs.check_records.Statement.{statement}
 use Rattle.reader.proofs.check_records.Tie as tie
 
@@ -18,7 +19,10 @@ start c = c .before .before .before
 abbrev after-requests : tie.After-struct-known2 → tie.After-struct-known
 after-requests c = c .before .before .before .before
 
-abbrev after-runs : tie.After-close-refusal → tie.After-struct-known2
+abbrev after-waits : tie.After-struct-known3 → tie.After-struct-known2
+after-waits c = c .before .before .before .before
+
+abbrev after-runs : tie.After-close-refusal → tie.After-struct-known3
 after-runs c = c .before .before .before
 
 abbrev file : tie.After-struct-known → List ℕ
@@ -29,18 +33,25 @@ requests c =
     let words = c .before .before in
     requests-told (start words .pre) (words .before .word-at .ensures) (words .word-at2 .ensures) (c .before .read-requests .ensures)
 
-runs : (c : tie.After-struct-known2)
-    → RunsRead (file (after-requests c)) (after-requests c .before .read-requests .result) (c .before .read-runs .result)
-runs c =
-    let read = after-requests c in
-    let ran = c .before in
-    runs-told (requests read) (ran .before .before .if1 .left) (read .before .before .word-at2 .ensures)
-    (ran .before .request-place .ensures) (ran .read-runs .ensures)
+waits : (c : tie.After-struct-known2)
+    → WaitsRead (file (after-requests c)) (after-requests c .before .read-requests .result) (c .before .read-waits .result)
+waits c =
+    let waited = c .before in
+    waits-told (requests (after-requests c)) (waited .before .before .if1 .left) (waited .before .request-place .ensures)
+    (waited .read-waits .ensures)
 
-close : (c : tie.After-close-refusal) → let ran = after-runs c in let read = after-requests ran in
-    CloseRead (file read) (read .before .read-requests .result) (ran .before .read-runs .result) (c .close-refusal .result)
+runs : (c : tie.After-struct-known3) → let waited = after-waits c in let read = after-requests waited in
+    RunsRead (file read) (read .before .read-requests .result) (waited .before .read-waits .result) (c .before .read-runs .result)
+runs c =
+    let ran = c .before in
+    runs-told (waits (after-waits c)) (ran .before .before .if2 .left)
+    (after-requests (after-waits c) .before .before .word-at2 .ensures) (ran .before .wait-place .ensures) (ran .read-runs .ensures)
+
+close : (c : tie.After-close-refusal) → let ran = after-runs c in let waited = after-waits ran in let read = after-requests waited in
+    CloseRead (file read) (read .before .read-requests .result) (waited .before .read-waits .result) (ran .before .read-runs .result)
+    (c .close-refusal .result)
 close c =
-    close-told (runs (after-runs c)) (c .before .before .if2 .left) (c .before .run-place .ensures) (c .close-refusal .ensures)
+    close-told (runs (after-runs c)) (c .before .before .if3 .left) (c .before .run-place .ensures) (c .close-refusal .ensures)
 
 read-requests-requires : tie.Need-read-requests-requires
 read-requests-requires c κs = (header-passed _ (start c .pre .1) .whole, start c .pre .0)
@@ -48,30 +59,39 @@ read-requests-requires c κs = (header-passed _ (start c .pre .1) .whole, start 
 returns : tie.Need-returns
 returns c = c .refuse .ensures ∙ requests-answer (requests (c .before .before)) (c .before .if1 .taken)
 
-read-runs-requires : tie.Need-read-runs-requires
-read-runs-requires c κs =
+read-waits-requires : tie.Need-read-waits-requires
+read-waits-requires c κs =
     let read = requests (c .before .before) in
-    (rw (c .request-place .ensures) (runs-room read (c .before .if1 .left)), read .short)
+    (rw (c .request-place .ensures) (waits-room read (c .before .if1 .left)), read .short)
 
 returns-2 : tie.Need-returns-2
-returns-2 c = c .refuse2 .ensures ∙ runs-answer (runs (c .before .before)) (c .before .if2 .taken)
+returns-2 c = c .refuse2 .ensures ∙ waits-answer (waits (c .before .before)) (c .before .if2 .taken)
+
+read-runs-requires : tie.Need-read-runs-requires
+read-runs-requires c κs =
+    let waited = waits (c .before .before) in
+    (rw (c .wait-place .ensures) (runs-room waited (c .before .if2 .left)), waited .before .short)
+
+returns-3 : tie.Need-returns-3
+returns-3 c = c .refuse3 .ensures ∙ runs-answer (runs (c .before .before)) (c .before .if3 .taken)
 
 close-refusal-requires : tie.Need-close-refusal-requires
 close-refusal-requires c κs =
     let ran = runs (c .before .before) in
-    (rw (c .run-place .ensures) (close-room ran (c .before .if2 .left)), ran .before .short)
-
-returns-3 : tie.Need-returns-3
-returns-3 c = c .refuse3 .ensures ∙ close-answers (close (c .before .before)) (c .before .if3 .taken)
+    (rw (c .run-place .ensures) (close-room ran (c .before .if3 .left)), ran .before .before .short)
 
 returns-4 : tie.Need-returns-4
-returns-4 c =
-    let words = after-requests (after-runs (c .before)) .before .before in
+returns-4 c = c .refuse4 .ensures ∙ close-answers (close (c .before .before)) (c .before .if4 .taken)
+
+returns-5 : tie.Need-returns-5
+returns-5 c =
+    let words = after-requests (after-waits (after-runs (c .before))) .before .before in
     simp (words .before .word-at .ensures, words .word-at2 .ensures)
-    (counts-answer (close (c .before)) (λ i. omega (arith, words .before .before .shared-slice-known .given i)) (c .if3 .left))
+    (counts-answer (close (c .before)) (λ i. omega (arith, words .before .before .shared-slice-known .given i)) (c .if4 .left))
 
 pub check-records-spec : {M : Type 1} → statement M
 check-records-spec =
     tie.close (tie.spec (λ c κs. search needs) (λ c. search needs) (λ c κs. search needs) (λ c. search needs)
-    read-requests-requires (λ c κs. search needs) returns (λ c κs. search needs) read-runs-requires (λ c κs. search needs)
-    returns-2 (λ c κs. search needs) close-refusal-requires (λ c κs. search needs) returns-3 returns-4)
+    read-requests-requires (λ c κs. search needs) returns (λ c κs. search needs) read-waits-requires (λ c κs. search needs)
+    returns-2 (λ c κs. search needs) read-runs-requires (λ c κs. search needs) returns-3 (λ c κs. search needs)
+    close-refusal-requires (λ c κs. search needs) returns-4 returns-5)

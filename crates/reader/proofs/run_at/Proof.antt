@@ -1,4 +1,4 @@
--- `reader::run_at`: a run stands behind the requests and the runs before it.
+-- `reader::run_at`: a run stands behind the requests, the pairs and the runs before it.
 use native.Mathlib.Omega.{arith}
 use denote.Ref.{now}
 use borrow.Author.Needs.{needs}
@@ -12,15 +12,17 @@ run-here-requires c κs =
     let start = c .before .before in
     let s = now (start .args .file) in
     let bytes : Bytes s = λ i. omega (arith, c .before .shared-slice-known .given i) in
-    omega (arith, c .run-place .ensures, start .pre .1 .0, start .pre .1 .1, file-length s bytes (start .pre .0))
+    let given = start .pre .1 in
+    omega (arith, c .run-place .ensures, given .0, given .1 .0, given .1 .1, file-length s bytes (start .pre .0))
 
 returns : tie.Need-returns
 returns c = λ none.
     let start = c .before .before .before in
     let s = now (start .args .file) in
     let bytes : Bytes s = λ i. omega (arith, c .before .before .shared-slice-known .given i) in
-    let stands = run-stands s bytes (start .pre .0) (start .args .index) none (start .pre .1 .1) in
-    rw (stands, ← start .pre .1 .0, ← c .before .run-place .ensures) (c .run-here .ensures)
+    let given = start .pre .1 in
+    let stands = run-stands s bytes (start .pre .0) (start .args .index) none (given .1 .1) in
+    rw (stands, ← given .0, ← given .1 .0, ← c .before .run-place .ensures) (c .run-here .ensures)
 
 pub run-at-spec : {M : Type 1} → statement M
 run-at-spec =

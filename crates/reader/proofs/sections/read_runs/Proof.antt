@@ -8,8 +8,8 @@ use lib.ListN.{length, drop}
 use denote.Ref.{now}
 use borrow.Author.Needs.{needs}
 use Rattle.jobfile.specs.Format.{runMark, runSize, word}
-use Rattle.reader.specs.Reader.{isRun}
-use Rattle.reader.proofs.Loops.{RunsTo, runs-start, run-whole, run-marked, run-short, runs-next, runs-refused, runs-end}
+use Rattle.reader.specs.Reader.{isRecord}
+use Rattle.reader.proofs.Loops.{record-whole, record-marked, RunsTo, runs-start, run-short, runs-next, runs-refused, runs-end}
 use Rattle.reader.proofs.sections.read_runs.Statement.{statement}
 use Rattle.reader.proofs.sections.read_runs.Tie as tie
 
@@ -26,11 +26,11 @@ here c = c .before
 abbrev left : tie.Then1 Inv-loop μ-loop → List ℕ
 left c = let looped = c .before .before in drop (looped .loop .at) (now (looped .before .before .args .file))
 
-whole : (c : tie.Then1 Inv-loop μ-loop) → isRun (left c) ≡ true
-whole c = sym (c .before .is-run .ensures) ∙ c .if1 .taken
+whole : (c : tie.Then1 Inv-loop μ-loop) → isRecord runSize runMark (left c) ≡ true
+whole c = sym (c .before .is-record .ensures) ∙ c .if1 .taken
 
 marked : (c : tie.Then1 Inv-loop μ-loop) → word (left c) ≡ runMark
-marked c = run-marked (left c) (whole c)
+marked c = record-marked runSize runMark (left c) (whole c)
 
 loop-holds : tie.Need-loop-holds Inv-loop μ-loop
 loop-holds c = runs-start _ _ _ (c .before .pre .0)
@@ -43,7 +43,8 @@ returns c =
 run-here-requires : tie.Need-run-here-requires Inv-loop μ-loop
 run-here-requires c κs =
     let run = here (c .before) in
-    run-whole (now (run .before .before .before .before .args .file)) _ (whole run) (run .before .before .loop .inv .to .within)
+    record-whole runSize runMark (now (run .before .before .before .before .args .file)) _ (whole run)
+    (run .before .before .loop .inv .to .within)
 
 add-at : tie.Need-add-at Inv-loop μ-loop
 add-at c = omega arith
@@ -63,8 +64,8 @@ returns-2 : tie.Need-returns-2 Inv-loop μ-loop
 returns-2 c =
     let ended = c .before .before in
     let mark = sym (c .before .word-at .ensures) ∙ c .if3 .taken in
-    runs-refused (ended .before .before .loop .inv) 2 mark (run-short _ _ _ (sym (ended .before .is-run .ensures) ∙ ended .if1 .left) mark)
-    (λ z. omega arith)
+    let none = sym (ended .before .is-record .ensures) ∙ ended .if1 .left in
+    runs-refused (ended .before .before .loop .inv) 2 mark (run-short _ _ _ none mark) (λ z. omega arith)
 
 sub-count : tie.Need-sub-t13 Inv-loop μ-loop
 sub-count c = omega (arith, c .before .before .before .before .loop .inv .to .place)
