@@ -1,39 +1,57 @@
 -- The writer's answer, test by test, and what it says that nothing is refused.
 --
 --   numbersRefusal d    the refusal of the numbers of a draft, before the length of its file
+--   each-refuses, pairs-refuse, grants-refuse   which it is, once the sizes and the count of requests are not refused
 --   length-file         the length of a draft's file
 --   answer-numbers, answer-length, answer-buffer, answer-written   the four ways that a check ends
 --   Ready d room        what is known of a draft that is not refused
 use mathlib.Core.Path.{_≡_, _∙_, sym}
-use Prim.Native.Nat.{ℕ, _+_, _*_, _-_, _/_, _≤_, _<_}
+use Prim.Native.Nat.{ℕ, _/_, _≤_, _<_}
 use native.Mathlib.Omega.{arith}
 use lib.Dec.{eqb, ltb}
 use lib.ListN.{length, length-map}
 use borrow.Author.Tests.{ne-eqb, lt-ltb, le-ltb, ltb-false}
 use Rattle.basics.proofs.Conditions.{split}
-use Rattle.jobfile.specs.Format.{runSize, closeSize, requestPlace, fileSize, mostBytes, _then_}
 use Rattle.job.specs.Job.{mostNodes, mostHeads, mostRequests}
-use Rattle.jobfile.specs.Format.{sizesRefusal, lengthRefusal}
+use Rattle.jobfile.specs.Format.{fileSize, mostBytes, _then_, sizesRefusal, noPair, lengthRefusal}
 use Rattle.jobfile.specs.Written.{longestRuns, written}
-use Rattle.jobfile.specs.Draft.{Draft, fieldsOf, jobOf, countRefusal, eachRefusal, grantsRefusal, draftRefusal}
+use Rattle.jobfile.specs.Draft.{Draft, fieldsOf, pairsOf, jobOf, countRefusal, eachRefusal, pairsRefusal, grantsRefusal, draftRefusal}
 use Rattle.jobfile.proofs.Refusals.{passed, through, sized}
 use Rattle.jobfile.proofs.Places.{length-written}
 use Rattle.writer.specs.Write.{bufferRefusal, writeRefusal, refused, answer}
-use Rattle.writer.proofs.Requests.{fields-count, each-fits}
+use Rattle.writer.proofs.Requests.{fields-count, count-passes, each-fits}
+use Rattle.writer.proofs.Pairs.{pairs-count, pairs-fit}
 
 abbrev pub numbersRefusal : Draft → ℕ
 numbersRefusal d =
     sizesRefusal (d .nodes) (d .heads)
     then countRefusal (length (fieldsOf (d .requests)))
     then eachRefusal (d .nodes) (d .heads) (fieldsOf (d .requests))
+    then pairsRefusal (length (fieldsOf (d .requests))) noPair (pairsOf (d .waits))
     then grantsRefusal (d .heads) (d .schedule)
+
+-- Each request, then each pair, then each grant.
+module _ (d : Draft) (number : ℕ) (sizes : sizesRefusal (d .nodes) (d .heads) ≡ 0) (few : length (d .requests) / 4 ≤ mostRequests) where
+  pub each-refuses : number ≡ eachRefusal (d .nodes) (d .heads) (fieldsOf (d .requests)) → (number ≡ 0 → ⊥) → number ≡ numbersRefusal d
+  each-refuses told some = rw (sizes, count-passes (d .requests) few, ← told, ne-eqb number 0 some)
+
+  module _ (each : eachRefusal (d .nodes) (d .heads) (fieldsOf (d .requests)) ≡ 0) where
+    pub pairs-refuse : number ≡ pairsRefusal (length (d .requests) / 4) noPair (pairsOf (d .waits)) → (number ≡ 0 → ⊥)
+        → number ≡ numbersRefusal d
+    pairs-refuse told some =
+        rw (sizes, count-passes (d .requests) few, each, fields-count, ← told, ne-eqb number 0 some)
+
+    pub grants-refuse : pairsRefusal (length (d .requests) / 4) noPair (pairsOf (d .waits)) ≡ 0
+        → number ≡ grantsRefusal (d .heads) (d .schedule) → number ≡ numbersRefusal d
+    grants-refuse pairs told = rw (sizes, count-passes (d .requests) few, each, fields-count, pairs) told
 
 then-then : (a b c : ℕ) → ((a then b) then c) ≡ (a then (b then c))
 then-then a b c = split (eqb a 0) (λ e. rw e) (λ e. rw (e, e))
 
-pub length-file : (d : Draft) → length (written (jobOf d)) ≡ fileSize (length (d .requests) / 4) (length (longestRuns (d .schedule)))
+pub length-file : (d : Draft)
+    → length (written (jobOf d)) ≡ fileSize (length (d .requests) / 4) (length (d .waits) / 2) (length (longestRuns (d .schedule)))
 unfolding jobOf
-length-file d = length-written (jobOf d) ∙ simp (length-map, fields-count)
+length-file d = length-written (jobOf d) ∙ simp (length-map, fields-count, pairs-count)
 
 module _ (d : Draft) (room : ℕ) where
   in-order : writeRefusal d room ≡ (numbersRefusal d then lengthRefusal (written (jobOf d)) then bufferRefusal (written (jobOf d)) room)
@@ -59,55 +77,50 @@ module _ (d : Draft) (n : ℕ) (is : n ≡ numbersRefusal d) (none : n ≡ 0) wh
       let few = through (countRefusal count) _ (through (sizesRefusal (d .nodes) (d .heads)) _ passes .second) .first in
       rw fields-count at (ltb-false mostRequests count (passed (ltb mostRequests count) 8 0 few .test))
 
-  module _ (room start runs : ℕ) (placed : start ≡ requestPlace (length (d .requests) / 4))
-      (counted : runs ≡ length (longestRuns (d .schedule))) where
-    long : (mostBytes - (start + closeSize)) / runSize < runs → mostBytes < length (written (jobOf d))
-    long many = omega (arith, few-requests, length-file d)
-
-    short : runs ≤ (mostBytes - (start + closeSize)) / runSize → length (written (jobOf d)) ≤ mostBytes
-    short few = omega (arith, few-requests, length-file d)
-
-    pub answer-length : (mostBytes - (start + closeSize)) / runSize < runs → refused 1 ≡ answer d room
+  module _ (room : ℕ) where
+    pub answer-length : mostBytes < length (written (jobOf d)) → refused 1 ≡ answer d room
     unfolding lengthRefusal
-    answer-length many =
-        refuses d room 1 (rw (in-order d room, passes, lt-ltb mostBytes (length (written (jobOf d))) (long many))) (λ e. omega arith)
+    answer-length long =
+        refuses d room 1 (rw (in-order d room, passes, lt-ltb mostBytes (length (written (jobOf d))) long)) (λ e. omega arith)
 
-    module _ (few : runs ≤ (mostBytes - (start + closeSize)) / runSize) where
+    module _ (short : length (written (jobOf d)) ≤ mostBytes) where
       rest : writeRefusal d room ≡ bufferRefusal (written (jobOf d)) room
       unfolding lengthRefusal
-      rest = rw (in-order d room, passes, le-ltb mostBytes (length (written (jobOf d))) (short few))
+      rest = rw (in-order d room, passes, le-ltb mostBytes (length (written (jobOf d))) short)
 
-      pub answer-buffer : room < start + closeSize + runSize * runs → refused 14 ≡ answer d room
+      pub answer-buffer : room < length (written (jobOf d)) → refused 14 ≡ answer d room
       unfolding bufferRefusal
-      answer-buffer small =
-          refuses d room 14 (rw (rest, lt-ltb room (length (written (jobOf d))) (omega (arith, length-file d)))) (λ e. omega arith)
+      answer-buffer small = refuses d room 14 (rw (rest, lt-ltb room (length (written (jobOf d))) small)) (λ e. omega arith)
 
-      pub answer-written : (bytes : ℕ) → bytes ≡ start + closeSize + runSize * runs → bytes ≤ room
+      pub answer-written : (bytes : ℕ) → bytes ≡ length (written (jobOf d)) → bytes ≤ room
           → record { number = 0; bytes = bytes } ≡ answer d room
       unfolding answer bufferRefusal
-      answer-written bytes is fits =
-          let file : bytes ≡ length (written (jobOf d)) = omega (arith, length-file d) in
-          rw (rest, ← file, le-ltb room bytes fits)
+      answer-written bytes file fits = rw (rest, ← file, le-ltb room bytes fits)
 
 pub record Ready (d : Draft) (room : ℕ) : Type 0 where
   pub few-nodes : d .nodes ≤ mostNodes
   pub few-heads : d .heads ≤ mostHeads
-  -- every request fits the largest job
+  -- every request and every pair fits the largest job
   pub fits : eachRefusal mostNodes mostHeads (fieldsOf (d .requests)) ≡ 0
+  pub pairs : pairsRefusal mostRequests noPair (pairsOf (d .waits)) ≡ 0
   -- and the file fits the buffer
   pub enough : length (written (jobOf d)) ≤ room
 
 pub ready : (d : Draft) (room : ℕ) → writeRefusal d room ≡ 0 → Ready d room
-unfolding writeRefusal draftRefusal bufferRefusal
+unfolding writeRefusal draftRefusal countRefusal bufferRefusal
 ready d room passes =
+    let count = length (fieldsOf (d .requests)) in
     let a = through (draftRefusal d) _ passes in
     let b = through (sizesRefusal (d .nodes) (d .heads)) _ (a .first) in
-    let e = through (countRefusal (length (fieldsOf (d .requests)))) _ (b .second) in
-    let each = through (eachRefusal (d .nodes) (d .heads) (fieldsOf (d .requests))) _ (e .second) .first in
+    let e = through (countRefusal count) _ (b .second) in
+    let each = through (eachRefusal (d .nodes) (d .heads) (fieldsOf (d .requests))) _ (e .second) in
+    let rise = through (pairsRefusal count noPair (pairsOf (d .waits))) _ (each .second) .first in
     let size = sized (d .nodes) (d .heads) (b .first) in
+    let few = ltb-false mostRequests count (passed (ltb mostRequests count) 8 0 (e .first) .test) in
     record {
       few-nodes = size .few-nodes;
       few-heads = size .few-heads;
-      fits = each-fits (d .nodes) (d .heads) (fieldsOf (d .requests)) size each;
+      fits = each-fits (d .nodes) (d .heads) (fieldsOf (d .requests)) size (each .first);
+      pairs = pairs-fit count noPair (pairsOf (d .waits)) few rise;
       enough = ltb-false room (length (written (jobOf d))) (passed (ltb room (length (written (jobOf d)))) 13 0 (a .second) .test);
     }

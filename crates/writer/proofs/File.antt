@@ -2,7 +2,7 @@
 --
 --   header j            the first record of a job's file
 --   body-closed         the body with its close is the file
---   file-stored         the four parts, stored behind one another, are the file
+--   file-stored         the five parts, stored behind one another, are the file
 --   left-refused, left-written   what the writer leaves
 --   left-means          what it leaves means what it was given
 use mathlib.Core.Path.{_≡_, refl, _∙_, sym, ap}
@@ -10,24 +10,24 @@ use mathlib.Core.List.{List, _++_, map, append-assoc}
 use Prim.Native.Nat.{ℕ, _+_, _*_, _-_, _%_, _≤_}
 use native.Mathlib.Omega.{arith}
 use lib.Dec.{eqb}
-use lib.ListN.{length, take, drop, length-append, length-map}
+use lib.ListN.{length, take, drop, length-map}
 use lib.Seq.{sets, take-at}
 use borrow.Author.Tests.{eqb-true, ne-eqb}
 use Rattle.basics.proofs.Conditions.{split}
 use Rattle.job.specs.Job.{Job}
-use Rattle.jobfile.specs.Format.{jobMark, closeMark, jobSize, requestSize, runSize, wordBytes, wordSum, requestOf}
-use Rattle.jobfile.specs.Written.{requestsBytes, runsBytes, longestRuns, fileWith, balance, written}
-use Rattle.jobfile.specs.Draft.{Draft, fieldsOf, jobOf, draftRefusal}
+use Rattle.jobfile.specs.Format.{jobMark, closeMark, jobSize, requestSize, waitSize, runSize, wordBytes, wordSum, requestOf}
+use Rattle.jobfile.specs.Written.{requestsBytes, waitsBytes, runsBytes, longestRuns, fileWith, balance, written}
+use Rattle.jobfile.specs.Draft.{Draft, fieldsOf, pairsOf, jobOf, draftRefusal}
 use Rattle.jobfile.specs.Meaning.{accepted, meaning}
 use Rattle.jobfile.proofs.Refusals.{through}
-use Rattle.jobfile.proofs.Records.{length-records}
-use Rattle.jobfile.proofs.Layouts.{requestLayout, runLayout}
+use Rattle.jobfile.proofs.Layouts.{requestLayout, waitLayout, runLayout}
 use Rattle.jobfile.proofs.Forward.{body, file-parts, sum-parts}
 use Rattle.jobfile.proofs.RoundTrip.{written-draft}
 use Rattle.writer.specs.declared.Written.{Written}
 use Rattle.writer.specs.Write.{closeBytes, writeRefusal, answer, writes}
 use Rattle.writer.proofs.Requests.{fields-count}
-use Rattle.writer.proofs.Stores.{stored-on, sets-front}
+use Rattle.writer.proofs.Pairs.{pairs-count}
+use Rattle.writer.proofs.Stores.{stored-on, sets-front, Front, front-on}
 use Rattle.writer.proofs.Answers.{length-file, ready}
 
 abbrev header : Job → List ℕ
@@ -40,31 +40,32 @@ body-closed j =
     sym (file-parts j (balance j) ∙ append-assoc (body j) (wordBytes closeMark) (wordBytes (balance j))
     ∙ ap (λ s. body j ++ (wordBytes closeMark ++ wordBytes ((65536 - s % 65536) % 65536))) sum)
 
--- What the buffer holds with the header, then the requests, then the runs, then the close.
-pub file-stored : (d : Draft) (out headed listed scheduled closed : List ℕ) (runs close : ℕ) → length (written (jobOf d)) ≤ length out
+-- What the buffer holds with the header, then the requests, then the pairs, then the runs, then the close.
+pub file-stored : (d : Draft) (out headed listed paired scheduled closed : List ℕ) (pairs runs close : ℕ)
+    → length (written (jobOf d)) ≤ length out
     → headed ≡ sets out 0 (wordBytes jobMark ++ wordBytes (d .nodes) ++ wordBytes (d .heads))
-    → runs ≡ jobSize + requestSize * length (fieldsOf (d .requests))
+    → pairs ≡ jobSize + requestSize * length (fieldsOf (d .requests))
     → listed ≡ sets headed jobSize (requestsBytes (map requestOf (fieldsOf (d .requests))))
+    → runs ≡ pairs + waitSize * length (pairsOf (d .waits))
+    → paired ≡ sets listed pairs (waitsBytes (pairsOf (d .waits)))
     → close ≡ runs + runSize * length (longestRuns (d .schedule))
-    → scheduled ≡ sets listed runs (runsBytes (longestRuns (d .schedule)))
+    → scheduled ≡ sets paired runs (runsBytes (longestRuns (d .schedule)))
     → closed ≡ sets scheduled close (closeBytes (take close scheduled))
     → closed ≡ sets out 0 (written (jobOf d))
 unfolding jobOf
-file-stored d out headed listed scheduled closed runs close fits first behind second end third fourth =
+file-stored d out headed listed paired scheduled closed pairs runs close fits first q second w third r fourth last =
     let j = jobOf d in
-    let requests = requestsBytes (j .requests) in
-    let grants = runsBytes (longestRuns (j .schedule)) in
-    let front : length (header j ++ requests) ≡ runs =
-    length-append (header j) requests
-    ∙ ap (λ n. jobSize + n) (length-records (requestLayout 0 0) (j .requests) ∙ rw length-map) ∙ sym behind in
-    let size : length (body j) ≡ close =
-    length-append (header j ++ requests) grants ∙ omega (arith, length-records (runLayout 0) (longestRuns (j .schedule))) in
-    let two = stored-on out headed listed (header j) requests 0 jobSize (omega arith) first second in
-    let three = stored-on out listed scheduled (header j ++ requests) grants 0 runs (omega arith) two third in
-    let room : length (body j) ≤ length out = omega (arith, length-file d, fields-count (d .requests)) in
+    let one : Front out (header j) jobSize headed = record { place = refl; same = first } in
+    let two = front-on (requestLayout 0 0) (j .requests) one pairs listed (rw length-map q) second in
+    let three = front-on (waitLayout 0) (j .waits) two runs paired w third in
+    let four : Front out (body j) close scheduled =
+    front-on (runLayout 0) (longestRuns (j .schedule)) three close scheduled r fourth in
+    let room : length (body j) ≤ length out =
+    omega (arith, four .place, length-file d, fields-count (d .requests), pairs-count (d .waits)) in
     let before : take close scheduled ≡ body j =
-    ap (take close) (three ∙ sets-front out (body j) room) ∙ take-at (body j) (drop (length (body j)) out) close size in
-    stored-on out scheduled closed (body j) (closeBytes (take close scheduled)) 0 close (omega arith) three fourth
+    ap (take close) (four .same ∙ sets-front out (body j) room)
+    ∙ take-at (body j) (drop (length (body j)) out) close (sym (four .place)) in
+    stored-on out scheduled closed (body j) (closeBytes (take close scheduled)) 0 close (omega (arith, four .place)) (four .same) last
     ∙ ap (λ t. sets out 0 (body j ++ closeBytes t)) before
     ∙ ap (sets out 0) (body-closed j)
 

@@ -1,7 +1,7 @@
 -- Writer and reader are inverses: the round trips of the job file, at the writer's answer and its lent buffer.
 --
 -- Main law: inverse.
-use mathlib.Core.Path.{_≡_, _∙_, sym, ap}
+use mathlib.Core.Path.{_≡_, _∙_, ap}
 use mathlib.Core.List.{List, _++_}
 use Prim.Native.Nat.{ℕ, _≤_}
 use lib.ListN.{length, drop}

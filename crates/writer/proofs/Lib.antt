@@ -1,5 +1,6 @@
 -- The laws of the writer: what it is given, the runs that it makes, and the bytes that it stores.
 mod Requests
+mod Pairs
 mod Grants
 mod Stores
 mod Close

@@ -1,30 +1,36 @@
--- Bytes stored one after the other into a buffer, and what the loops over requests and runs keep.
+-- Bytes stored one after the other into a buffer, and what the loops over requests, pairs and runs keep.
 --
 --   sets-after, stored-on   stores that follow on others are one row of stores
 --   sets-front          what stores from the front leave
 --   request-stored      the four stores of a request make its record
 --   Storing k out₀ start all left at out   of the records `all` from the byte start on, those before `left` are stored
+--   Front out vs at after   the numbers vs, up to the byte at, stand in front of the buffer out, which is then after
+--   front-on            records that are stored behind them stand in front too
 --   RequestsStored out₀ start l i at out   the requests before the position i are stored, up to the byte at
+--   WaitsStored out₀ start l i at out      the pairs before the position i are stored, up to the byte at
 --   RunsStored out₀ start gs i at out      the runs of the grants before the i-th are stored, up to the byte at
 use mathlib.Core.Path.{_≡_, _∙_, sym, ap}
 use mathlib.Core.List.{List, [], _∷_, _++_, map}
 use Prim.Native.Nat.{ℕ, suc, _+_, _*_, _≤_, _<_}
 use native.Mathlib.Omega.{arith}
 use native.Mathlib.Nat.{add-zero, mul-zero, mul-suc}
-use lib.ListN.{length, drop, set, drop-of-length-le, length-map}
+use lib.ListN.{length, getD, drop, set, drop-of-length-le, length-append, length-map}
 use lib.Seq.{sets, sets-eq, length-sets}
 use Rattle.job.specs.declared.Request.{Request}
+use Rattle.job.specs.declared.Wait.{Wait}
 use Rattle.jobfile.specs.declared.Fields.{Fields}
-use Rattle.jobfile.specs.Format.{requestMark, requestSize, wordBytes, fieldsRefusal, requestOf}
-use Rattle.job.specs.Job.{mostNodes, mostHeads}
-use Rattle.jobfile.specs.Written.{recordsBytes, requestBytes, longestRuns}
-use Rattle.jobfile.specs.Draft.{fieldsOf, eachRefusal}
+use Rattle.jobfile.specs.Format.{requestMark, requestSize, waitSize, wordBytes, fieldsRefusal, requestOf}
+use Rattle.job.specs.Job.{mostNodes, mostHeads, mostRequests}
+use Rattle.jobfile.specs.Written.{recordsBytes, requestBytes, waitBytes, longestRuns}
+use Rattle.jobfile.specs.Draft.{fieldsOf, pairsOf, eachRefusal}
+use Rattle.jobfile.specs.Admitted.{Pairs}
 use Rattle.jobfile.proofs.KindNumbers.{kind-written}
 use Rattle.jobfile.proofs.Refusals.{Both, through, fit}
-use Rattle.jobfile.proofs.Records.{Layout}
-use Rattle.jobfile.proofs.Layouts.{requestLayout, runLayout}
-use Rattle.writer.specs.Write.{fieldsFrom}
+use Rattle.jobfile.proofs.Records.{Layout, length-records}
+use Rattle.jobfile.proofs.Layouts.{requestLayout, waitLayout, runLayout}
+use Rattle.writer.specs.Write.{fieldsFrom, pairFrom}
 use Rattle.writer.proofs.Requests.{fields-next, fields-end}
+use Rattle.writer.proofs.Pairs.{pairs-next}
 
 pub sets-after : (l vs ws : List ℕ) (i k : ℕ) → k ≡ i + length vs → sets (sets l i vs) k ws ≡ sets l i (vs ++ ws)
 sets-after l [] ws i k e = let z : k ≡ i = omega arith in rw z
@@ -84,6 +90,21 @@ module _ {A S : Type 0} {k : Layout A S} {out₀ : List ℕ} {start : ℕ} {all 
     pub stored-end : at ≡ start + k .size * length all
     stored-end = rw (none, mul-zero, add-zero) at (storing .place)
 
+-- What stands in front of a buffer, and records behind it.
+pub record Front (out vs : List ℕ) (at : ℕ) (after : List ℕ) : Type 0 where
+  pub place : at ≡ length vs
+  pub same : after ≡ sets out 0 vs
+
+pub front-on : {A S : Type 0} (k : Layout A S) (l : List A) {out vs : List ℕ} {at : ℕ} {before : List ℕ} → Front out vs at before
+    → (end : ℕ) (after : List ℕ) → end ≡ at + k .size * length l → after ≡ sets before at (recordsBytes (k .bytes) l)
+    → Front out (vs ++ recordsBytes (k .bytes) l) end after
+front-on k l {out} {vs} {at} {before} front end after is store =
+    let bytes = recordsBytes (k .bytes) l in
+    record {
+      place = rw length-append (omega (arith, length-records k l, front .place));
+      same = stored-on out before after vs bytes 0 at (omega (arith, front .place)) (front .same) store;
+    }
+
 -- The requests that admitted numbers stand for.
 abbrev pub requestsOf : List ℕ → List Request
 requestsOf l = map requestOf (fieldsOf l)
@@ -120,6 +141,35 @@ module _ {out₀ : List ℕ} {start : ℕ} {l : List ℕ} {i at : ℕ} {out : Li
 
 pub requests-over : (l : List ℕ) (i : ℕ) → length l < i + 4 → requestsOf (drop i l) ≡ []
 requests-over l i done = ap (map requestOf) (fields-end l i done)
+
+pub record WaitsStored (out₀ : List ℕ) (start : ℕ) (l : List ℕ) (i at : ℕ) (out : List ℕ) : Type 0 where
+  pub within : i ≤ length l
+  pub storing : Storing (waitLayout 0) out₀ start (pairsOf l) (pairsOf (drop i l)) at out
+  -- the pairs that are left fit the largest job
+  pub fits : (n : ℕ) (none : Wait) → n < length (pairsOf (drop i l)) → Pairs mostRequests (getD (pairsOf (drop i l)) n none)
+
+module _ {out₀ : List ℕ} {start : ℕ} {l : List ℕ} {i at : ℕ} {out : List ℕ} (h : WaitsStored out₀ start l i at out)
+    (w : Wait) (is : w ≡ pairFrom l i) (more : i + 2 ≤ length l) where
+  next-pair : pairsOf (drop i l) ≡ w ∷ pairsOf (drop (i + 2) l)
+  next-pair = rw is (pairs-next l i more)
+
+  fits-next : (n : ℕ) (none : Wait) → n < suc (length (pairsOf (drop (i + 2) l)))
+      → Pairs mostRequests (getD (w ∷ pairsOf (drop (i + 2) l)) n none)
+  fits-next = rw next-pair at (h .fits)
+
+  pub wait-fits : Pairs mostRequests w
+  wait-fits = fits-next 0 w (omega arith)
+
+  pub wait-room : start + waitSize * length (pairsOf l) ≤ length out₀ → at + waitSize ≤ length out
+  wait-room room = record-room (h .storing) w (pairsOf (drop (i + 2) l)) next-pair room
+
+  pub waits-stored-on : (after : List ℕ) → after ≡ sets out at (waitBytes w) → WaitsStored out₀ start l (i + 2) (at + waitSize) after
+  waits-stored-on after store =
+      record {
+        within = more;
+        storing = storing-on (h .storing) w (pairsOf (drop (i + 2) l)) next-pair after store;
+        fits = λ n none l. fits-next (suc n) none (omega arith);
+      }
 
 pub record RunsStored (out₀ : List ℕ) (start : ℕ) (gs : List ℕ) (i at : ℕ) (out : List ℕ) : Type 0 where
   pub within : i ≤ length gs

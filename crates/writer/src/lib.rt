@@ -15,15 +15,23 @@ pub struct Written {
 }
 
 // Writes the file of a job. `requests` has four numbers a request (head, kind, x, y), where a rest of fewer than four
-// is no request; `grants` has one head number a grant. A refusal writes nothing, and bytes behind the file stay.
-pub fn write(nodes: u32, heads: u32, requests: &[u32], grants: &[u8], out: &mut [u8]) -> Written
+// is no request; `waits` (02, A3) has two numbers a pair (later, earlier), where a rest of one is no pair; `grants` has one
+// head number a grant. A refusal writes nothing, and bytes behind the file stay.
+pub fn write(
+    nodes: u32,
+    heads: u32,
+    requests: &[u32],
+    waits: &[u32],
+    grants: &[u8],
+    out: &mut [u8],
+) -> Written
     ensures { λ r. ⌜ record { answer = r; out = now (out .exit) }
-        ≡ writes (given nodes heads (now (requests .entry)) (now (grants .entry))) (now (out .entry)) ⌝ }
+        ≡ writes (given nodes heads (now (requests .entry)) (now (waits .entry)) (now (grants .entry))) (now (out .entry)) ⌝ }
 {
-    let answer = checked(nodes, heads, requests, grants, out.len());
+    let answer = checked(nodes, heads, requests, waits, grants, out.len());
     if answer.number != 0 {
         return answer;
     }
-    put_file(nodes, heads, requests, grants, out);
+    put_file(nodes, heads, requests, waits, grants, out);
     answer
 }

@@ -1,6 +1,8 @@
 // The records of a job file, written one after the other into a lent buffer.
 use crate::checks::fields_at;
+use crate::checks::pair_at;
 use crate::checks::run_at;
+use job::Wait;
 use jobfile::CLOSE_MARK;
 use jobfile::Fields;
 use jobfile::JOB_MARK;
@@ -10,6 +12,8 @@ use jobfile::REQUEST_SIZE;
 use jobfile::RUN_MARK;
 use jobfile::RUN_SIZE;
 use jobfile::Run;
+use jobfile::WAIT_MARK;
+use jobfile::WAIT_SIZE;
 use jobfile::bytes::sum_words;
 use std::num::wrapping_sub_u16;
 ghost use mathlib.Core.Path.{_≡_};
@@ -17,11 +21,12 @@ ghost use mathlib.Core.List.{[], _∷_, _++_, map};
 ghost use Prim.Native.Nat.{_+_, _*_, _≤_};
 ghost use lib.ListN.{length, take};
 ghost use lib.Seq.{sets};
-ghost use Rattle.jobfile.specs.Format.{jobMark, jobSize, requestSize, runSize, closeSize, wordBytes, fieldsRefusal};
-ghost use Rattle.job.specs.Job.{mostNodes, mostHeads};
-ghost use Rattle.jobfile.specs.Format.{requestOf};
-ghost use Rattle.jobfile.specs.Written.{requestBytes, requestsBytes, runBytes, runsBytes, longestRuns, written};
-ghost use Rattle.jobfile.specs.Draft.{fieldsOf, eachRefusal, jobOf};
+ghost use Rattle.job.specs.Job.{mostNodes, mostHeads, mostRequests};
+ghost use Rattle.jobfile.specs.Format.{jobMark, jobSize, requestSize, waitSize, runSize, closeSize, wordBytes, fieldsRefusal};
+ghost use Rattle.jobfile.specs.Format.{requestOf, noPair};
+ghost use Rattle.jobfile.specs.Written.{requestBytes, requestsBytes, waitBytes, waitsBytes, runBytes, runsBytes, longestRuns, written};
+ghost use Rattle.jobfile.specs.Draft.{fieldsOf, pairsOf, eachRefusal, pairsRefusal, jobOf};
+ghost use Rattle.jobfile.specs.Admitted.{Pairs};
 ghost use Rattle.writer.specs.Write.{given, writeRefusal, closeBytes};
 
 // Stores two bytes.
@@ -41,14 +46,22 @@ fn put_word(out: &mut [u8], at: usize, word: u16)
     put_bytes(out, at, (word % 256) as u8, (word / 256) as u8);
 }
 
+// Stores a mark and two words behind it.
+fn put_words(out: &mut [u8], at: usize, mark: u16, first: u16, second: u16)
+    requires { ⌜ at + 6 ≤ length (now out) ⌝ }
+    ensures { λ _. ⌜ now (out .exit) ≡ sets (now (out .entry)) at (wordBytes mark ++ wordBytes first ++ wordBytes second) ⌝ }
+{
+    put_word(out, at, mark);
+    put_word(out, at + 2, first);
+    put_word(out, at + 4, second);
+}
+
 // Writes the job's record.
 fn put_header(out: &mut [u8], nodes: u16, heads: u16)
     requires { ⌜ jobSize ≤ length (now out) ⌝ }
     ensures { λ _. ⌜ now (out .exit) ≡ sets (now (out .entry)) 0 (wordBytes jobMark ++ wordBytes nodes ++ wordBytes heads) ⌝ }
 {
-    put_word(out, 0, JOB_MARK);
-    put_word(out, 2, nodes);
-    put_word(out, 4, heads);
+    put_words(out, 0, JOB_MARK, nodes, heads);
 }
 
 // Writes a request whose numbers are admitted in the largest job, so that each fits its field.
@@ -76,6 +89,32 @@ fn put_requests(out: &mut [u8], start: usize, requests: &[u32]) -> usize
         put_request(out, at, fields_at(requests, i));
         i += 4;
         at += REQUEST_SIZE;
+    }
+    at
+}
+
+// Writes a pair that is admitted in the largest job, so that both numbers fit their fields.
+fn put_wait(out: &mut [u8], at: usize, wait: Wait)
+    requires { ⌜ at + waitSize ≤ length (now out) ⌝ }
+    requires { ⌜ Pairs mostRequests wait ⌝ }
+    ensures { λ _. ⌜ now (out .exit) ≡ sets (now (out .entry)) at (waitBytes wait) ⌝ }
+{
+    put_words(out, at, WAIT_MARK, wait.later as u16, wait.earlier as u16);
+}
+
+// Writes the pairs, and gives the position behind them.
+fn put_waits(out: &mut [u8], start: usize, waits: &[u32]) -> usize
+    requires { ⌜ start + waitSize * length (pairsOf (now waits)) ≤ length (now out) ⌝ }
+    requires { ⌜ pairsRefusal mostRequests noPair (pairsOf (now waits)) ≡ 0 ⌝ }
+    ensures { λ r. ⌜ r ≡ start + waitSize * length (pairsOf (now (waits .entry))) ⌝ }
+    ensures { λ _. ⌜ now (out .exit) ≡ sets (now (out .entry)) start (waitsBytes (pairsOf (now (waits .entry)))) ⌝ }
+{
+    let mut at = start;
+    let mut i = 0;
+    while 2 <= waits.len() - i {
+        put_wait(out, at, pair_at(waits, i));
+        i += 2;
+        at += WAIT_SIZE;
     }
     at
 }
@@ -119,13 +158,22 @@ fn put_close(out: &mut [u8], at: usize)
 }
 
 // Writes the file of a job that is admitted, into a buffer that it fits.
-pub fn put_file(nodes: u32, heads: u32, requests: &[u32], grants: &[u8], out: &mut [u8])
-    requires { ⌜ writeRefusal (given nodes heads (now requests) (now grants)) (length (now out)) ≡ 0 ⌝ }
+pub fn put_file(
+    nodes: u32,
+    heads: u32,
+    requests: &[u32],
+    waits: &[u32],
+    grants: &[u8],
+    out: &mut [u8],
+)
+    requires { ⌜ writeRefusal (given nodes heads (now requests) (now waits) (now grants)) (length (now out)) ≡ 0 ⌝ }
     ensures { λ _. ⌜ now (out .exit)
-        ≡ sets (now (out .entry)) 0 (written (jobOf (given nodes heads (now (requests .entry)) (now (grants .entry))))) ⌝ }
+        ≡ sets (now (out .entry)) 0
+        (written (jobOf (given nodes heads (now (requests .entry)) (now (waits .entry)) (now (grants .entry))))) ⌝ }
 {
     put_header(out, nodes as u16, heads as u16);
-    let runs = put_requests(out, JOB_SIZE, requests);
+    let pairs = put_requests(out, JOB_SIZE, requests);
+    let runs = put_waits(out, pairs, waits);
     let close = put_runs(out, runs, grants);
     put_close(out, close);
 }
