@@ -2,6 +2,7 @@
 --
 --   getD-mapped    what stands at a place of the mapped list
 --   set-mapped     a store in the mapped list is the map of a store
+--   getD-set-each  what holds at every place, and of what is stored, holds at every place after the store
 --   getD-sets-in, getD-sets-below   what stands at a place after several stores in a row: among them, or before them
 --   length-three   the length of three pieces
 --   take-next      one element more: what a loop over a list adds in a turn
@@ -25,6 +26,14 @@ module _ {A B : Type 0} (f : A → B) where
   set-mapped (a ∷ l) (suc i) v = ap {B = List B} (λ r. f a ∷ r) (set-mapped l i v)
 
 module _ {A : Type 0} where
+  pub getD-set-each : (P : A → Type 0) (l : List A) (i : ℕ) (v d : A) → P v → ((j : ℕ) → P (getD l j d))
+      → (j : ℕ) → P (getD (set l i v) j d)
+  getD-set-each P [] i v d new each j = each j
+  getD-set-each P (a ∷ l) zero v d new each zero = new
+  getD-set-each P (a ∷ l) zero v d new each (suc j) = each (suc j)
+  getD-set-each P (a ∷ l) (suc i) v d new each zero = each 0
+  getD-set-each P (a ∷ l) (suc i) v d new each (suc j) = getD-set-each P l i v d new (λ k. each (suc k)) j
+
   pub getD-sets-below : (vs l : List A) (i j : ℕ) (d : A) → j < i → getD (sets l i vs) j d ≡ getD l j d
   getD-sets-below [] l i j d h = refl
   getD-sets-below (v ∷ vs) l i j d h =

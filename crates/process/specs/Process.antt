@@ -14,10 +14,13 @@
 --   restart k            the start of a request of kind k
 --   tidyUp k             the start of the find after the link
 --   noWait               the number of no request, in a task
+--   isWaiting h          the head h waits for a request
+--   waitingFor h e       the head h with e as what it waits for
 --   begin q n            the head as it begins request q, number n
 --   queued h n           the head h with n as its request
-use mathlib.Core.Bool.{Bool, true, false, cond}
+use mathlib.Core.Bool.{Bool, true, false, cond, not}
 use Prim.Native.Nat.{ℕ, _+_, _<_}
+use lib.Dec.{eqb}
 use Rattle.job.specs.declared.Kind.{Kind}
 use Rattle.job.specs.declared.Kind.the-variants.{Union, SameSet}
 use Rattle.job.specs.declared.Request.{Request}
@@ -126,9 +129,18 @@ abbrev pub tidyUp : Task → Head
 tidyUp k =
     record { stage = Find Tidy ReadNode; task = record { x = k .x; y = k .x; request = k .request; waits = k .waits } }
 
--- A head waits for no request: 0 is none, as for points and grants, so a request waited for would be told one higher.
+-- (02, A3) The head record has the lowest unfinished request that it waits for. 0 is none, as for points and grants, so that a
+-- request waited for is told one higher.
 abbrev pub noWait : ℕ
 noWait = 0
+
+-- A head that waits for a request.
+abbrev pub isWaiting : Head → Bool
+isWaiting h = not (eqb (h .task .waits) noWait)
+
+-- The head with what it waits for changed, and nothing else.
+abbrev pub waitingFor : Head → ℕ → Head
+waitingFor h e = record { stage = h .stage; task = record { x = h .task .x; y = h .task .y; request = h .task .request; waits = e } }
 
 -- A head's next request begins at its next grant: x and y are the request's two places.
 abbrev pub begin : Request → ℕ → Head

@@ -7,7 +7,7 @@ use job::Kind;
 use job::Request;
 use word::Node;
 ghost use mathlib.Core.Path.{_≡_};
-ghost use Rattle.process.specs.Process.{begin, isResting, firstErrand};
+ghost use Rattle.process.specs.Process.{begin, isResting, isWaiting, waitingFor, firstErrand};
 
 // A find by halving, on a node that it is given: the word that it touches next. The numbers are the rank and the parent t
 // of the word first read, and t's parent u.
@@ -42,7 +42,8 @@ pub enum Stage {
 }
 
 // What a head is doing it for: its current x and y, the request that it serves, or its next one while it rests, and the
-// request that it waits for (none today). Its eight bytes and the stage's keep the heads in registers during a play.
+// request that this one waits for, told one higher (02, A3). Its eight bytes and the stage's keep the heads in registers
+// during a play.
 pub struct Task {
     pub x: u16,
     pub y: u16,
@@ -122,5 +123,24 @@ pub fn is_resting(head: Head) -> bool
         Stage::Raise(_) => false,
         Stage::ReadRankLinked => false,
         Stage::RaiseFound(_) => false,
+    }
+}
+
+// Whether a head waits for a request.
+pub fn is_waiting(head: Head) -> bool
+    ensures { λ r. ⌜ r ≡ isWaiting head ⌝ }
+{
+    let task = head.task;
+    task.waits != NO_WAIT
+}
+
+// The head with what it waits for changed.
+pub fn waiting_for(head: Head, waits: u16) -> Head
+    ensures { λ r. ⌜ r ≡ waitingFor head waits ⌝ }
+{
+    let task = head.task;
+    Head {
+        task: Task { waits, ..task },
+        ..head
     }
 }

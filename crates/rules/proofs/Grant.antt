@@ -1,29 +1,32 @@
 -- One grant keeps the invariant: idle, or serving a head that goes on with its request or begins its next one.
 --
--- Main laws: step-outcome, whatever the stage; served-effect, what the grant does to a head that it serves; step-invariant.
+-- Main laws: served-within and served-free, what it says that a head is served; step-outcome, whatever the stage; served-effect,
+-- what the grant does to a head that it serves; step-invariant.
 use mathlib.Core.Path.{_≡_, refl, sym, ap, _∙_, subst}
 use mathlib.Core.Bool.{Bool, true, false, cond, true≢false}
 use mathlib.Core.List.{List, _∷_}
 use Prim.Native.Nat.{ℕ, suc, _<_}
 use native.Mathlib.Omega.{arith}
 use lib.ListN.{length}
-use borrow.Author.Tests.{ltb-true, eq-eqb}
-use Rattle.basics.proofs.Conditions.{split}
+use borrow.Author.Tests.{eqb-true, ltb-true, eq-eqb}
+use Rattle.basics.proofs.Conditions.{split, both-left, both-right}
 use Rattle.job.specs.declared.Request.{Request}
+use Rattle.job.specs.declared.Wait.{Wait}
 use Rattle.process.specs.declared.Stage.{Stage}
 use Rattle.process.specs.declared.Stage.the-variants.{Resting, Find, RereadX, ReadRankX, ReadRankY, Link, Raise, ReadRankLinked, RaiseFound}
 use Rattle.process.specs.declared.Task.{Task}
 use Rattle.process.specs.declared.Head.{Head}
-use Rattle.process.specs.Process.{traitsOf, isResting, begin}
+use Rattle.process.specs.Process.{traitsOf, isResting, noWait, begin}
 use Rattle.process.specs.Access.{accessAt, accessOf}
 use Rattle.process.specs.Advance.{advanceAt, advanceOf}
 use Rattle.forest.proofs.Later.{later-refl}
 use Rattle.linearization.specs.Partition.{Labels}
 use Rattle.linearization.specs.Entry.{occurrences}
 use Rattle.linearization.proofs.Replay.{labelsTo-all, replayed-fact, replayed-map}
+use Rattle.rules.specs.declared.Row.{Row}
 use Rattle.rules.specs.Table.{at, parent, rank, seen, touched}
-use Rattle.rules.specs.State.{State, requestAt, hasWork}
-use Rattle.rules.specs.Step.{ready, headAt, advanced, served, passed, step}
+use Rattle.rules.specs.State.{State, requestAt, hasWork, waitOf}
+use Rattle.rules.specs.Step.{isServed, ready, headAt, advanced, served, passed, step}
 use Rattle.rules.specs.Run.{Happening, happened}
 use Rattle.rules.specs.Run.Happening.{idle}
 use Rattle.rules.specs.History.{linkOf}
@@ -39,6 +42,16 @@ use Rattle.rules.proofs.Others.{timed-other, phase-other, placed-other}
 use Rattle.rules.proofs.Positions.{phase-of}
 use Rattle.rules.proofs.Serving.{Serving, more, effect-invariant, Effect}
 use Rattle.rules.proofs.Effects.{outcome-effect}
+
+-- ---- whom a grant serves
+
+-- a head that is served has work left, and waits for nothing
+module _ (qs : List Request) (ws : List Wait) (report : List Row) (head : Head) (is : isServed qs ws report head ≡ true) where
+  pub served-within : head .task .request < length qs
+  served-within = ltb-true (head .task .request) (length qs) (both-left (hasWork qs head) _ is)
+
+  pub served-free : waitOf ws report head ≡ noWait
+  served-free = eqb-true (waitOf ws report head) noWait (both-right (hasWork qs head) _ is)
 
 -- The request of a head with work left is being served, if the head is not at rest, or waits for it.
 module _ {head : Head} {past : List Happening} {times : ℕ} where
@@ -179,11 +192,11 @@ module _ {qs : List Request} {n : ℕ} {B : Labels} {roots₀ : ℕ} {S : State}
         → Effect qs n B roots₀ S (served qs S h head) (more S head past) (head .task .request) (advanced S head)
     served-effect {head} srv = outcome-effect qs n B roots₀ S past h head inv srv (served-outcome srv)
 
-    pub step-invariant : Invariant qs n B roots₀ (step qs S h) (happened qs S h ∷ past)
+    pub step-invariant : (ws : List Wait) → Invariant qs n B roots₀ (step qs ws S h) (happened qs ws S h ∷ past)
     unfolding step happened
-    step-invariant =
-        split (hasWork qs (headAt S h))
+    step-invariant ws =
+        split (isServed qs ws (S .report) (headAt S h))
         (λ t.
-        let serving = serving-ready (ltb-true q (length qs) t) in
+        let serving = serving-ready (served-within qs ws (S .report) (headAt S h) t) in
         rw t (effect-invariant present inside inv serving (served-effect serving)))
         (λ t. rw t idle-invariant)

@@ -115,6 +115,13 @@ final-number Together f z = omega arith
 final-number Yes f z = omega arith
 final-number No f z = omega arith
 
+pub not-final-number : (a : Answer) → isFinal a ≡ false → answerNumber a ≡ 0
+not-final-number Unfinished f = refl
+not-final-number Joined f = absurd (true≢false f)
+not-final-number Together f = absurd (true≢false f)
+not-final-number Yes f = absurd (true≢false f)
+not-final-number No f = absurd (true≢false f)
+
 -- a last grant is 0 exactly while the answer is
 last-answer : (a : Answer) (now : ℕ) → cond (isFinal a) now 0 ≡ cond (eqb (answerNumber a) 0) 0 now
 last-answer Unfinished now = refl
@@ -167,6 +174,19 @@ pub row-last-bound : (q : ℕ) (past : List Happening) → rowOf q past .last �
 unfolding rowOf
 row-last-bound q past =
     split (eqb (answerOf q past) 0) (λ t. rw t (omega arith)) (λ t. rw t (last-bound (isOf q) past))
+
+-- a request that is finished has a last grant
+last-there : (q : ℕ) (past : List Happening) → answerOf q past ≢ 0 → lastWhere (isOf q) past ≢ 0
+last-there q [] d = absurd (d refl)
+last-there q (idle ∷ past) d = last-there q past d
+last-there q (serving r act ∷ past) d =
+    split (eqb r q)
+    (λ t z. let last : suc (length past) ≡ 0 = rw t at z in absurd (omega arith))
+    (λ f z. last-there q past (λ e. d (rw f e)) (rw f at z))
+
+pub finished-last : (q : ℕ) (past : List Happening) → rowOf q past .answer ≢ 0 → rowOf q past .last ≢ 0
+unfolding rowOf
+finished-last q past d z = last-there q past d (rw (ne-eqb (answerOf q past) 0 d) at z)
 
 pub row-first-bound : (q : ℕ) (past : List Happening) → rowOf q past .first ≤ length past
 unfolding rowOf

@@ -12,6 +12,7 @@ use borrow.Author.Tests.{ne-eqb, lt-ltb}
 use Rattle.basics.proofs.Conditions.{split}
 use Rattle.basics.proofs.Counts.{count-more}
 use Rattle.job.specs.declared.Request.{Request}
+use Rattle.job.specs.declared.Wait.{Wait}
 use Rattle.word.specs.declared.Node.{Node}
 use Rattle.word.specs.Word.{before, key}
 use Rattle.word.proofs.Laws.{before-key}
@@ -21,13 +22,13 @@ use Rattle.forest.proofs.Later.{Later, later-refl}
 use Rattle.linearization.specs.Partition.{Labels}
 use Rattle.rules.specs.declared.Row.{Row}
 use Rattle.rules.specs.Table.{parent, rank}
-use Rattle.rules.specs.Report.{noRow}
+use Rattle.rules.specs.Report.{noRow, rowAt}
 use Rattle.rules.specs.State.{State, requestAt, start, tallyOf}
 use Rattle.rules.specs.Start.{Start}
 use Rattle.rules.specs.Step.{step}
 use Rattle.rules.specs.Run.{Happening, run, history}
 use Rattle.rules.specs.History.{countWhere, isOf, rowOf}
-use Rattle.rules.specs.Linearized.{rowAt, Playable}
+use Rattle.rules.specs.Linearized.{Playable}
 use Rattle.rules.specs.Laws.{some, isUnfinished, headsLeft, Lawful, Follows}
 use Rattle.rules.proofs.History.{row-other}
 use Rattle.rules.proofs.Invariant.{labels, Invariant}
@@ -132,9 +133,9 @@ start-counted qs m t = record { idle = refl; failed = refl; links = refl }
 start-truthful : AllTruthful []
 start-truthful a m = absurd (elim m [ ])
 
-pub run-heads : (qs : List Request) (S : State) (gs : List ℕ) → length (run qs S gs .heads) ≡ length (S .heads)
-run-heads qs S [] = refl
-run-heads qs S (h ∷ gs) = run-heads qs (step qs S h) gs ∙ step-heads qs S h
+pub run-heads : (qs : List Request) (ws : List Wait) (S : State) (gs : List ℕ) → length (run qs ws S gs .heads) ≡ length (S .heads)
+run-heads qs ws S [] = refl
+run-heads qs ws S (h ∷ gs) = run-heads qs ws (step qs ws S h) gs ∙ step-heads qs ws S h
 
 -- a cut of an accepted job is an accepted job
 pub playable-cut : {n m : ℕ} {qs : List Request} (gs hs : List ℕ) → Playable n m qs (gs ++ hs) → Playable n m qs gs
@@ -146,39 +147,40 @@ playable-cut gs hs playable =
       granted = λ h k. playable .granted h (Memᴰ·append-left hs k);
     }
 
-module _ {n : ℕ} (qs : List Request) (m : ℕ) {s : Start} (begin : Startable n s) where
+module _ {n : ℕ} (qs : List Request) (ws : List Wait) (m : ℕ) {s : Start} (begin : Startable n s) where
   abbrev first : State
   first = start qs m (s .table)
 
   granted-start : {gs : List ℕ} → Playable n m qs gs → (h : ℕ) → List·Memᴰ h gs → h < length (first .heads)
   granted-start playable h k = omega (arith, playable .granted h k, length-heads qs 0 m)
 
-  granted-later : (gs hs : List ℕ) → Playable n m qs (gs ++ hs) → (h : ℕ) → List·Memᴰ h hs → h < length (run qs first gs .heads)
-  granted-later gs hs playable h k = omega (arith, granted-start playable h (Memᴰ·append-right gs k), run-heads qs first gs)
+  granted-later : (gs hs : List ℕ) → Playable n m qs (gs ++ hs) → (h : ℕ) → List·Memᴰ h hs → h < length (run qs ws first gs .heads)
+  granted-later gs hs playable h k = omega (arith, granted-start playable h (Memᴰ·append-right gs k), run-heads qs ws first gs)
 
   -- m heads are played with, of which `heads` have requests
   pub run-lawful : {gs : List ℕ} → Playable n m qs gs → (heads : ℕ) → heads ≤ m → ((q : ℕ) → q < length qs → requestAt qs q .head < heads)
-      → Lawful (s .groups) n heads qs (run qs first gs .table) (run qs first gs .report)
-      (tallyOf qs (run qs first gs)) (run qs first gs .now) (history qs first [] gs)
+      → Lawful (s .groups) n heads qs (run qs ws first gs .table) (run qs ws first gs .report)
+      (tallyOf qs (run qs ws first gs)) (run qs ws first gs .now) (history qs ws first [] gs)
   run-lawful {gs} playable heads few served =
-      let many : heads ≤ length (run qs first gs .heads) = omega (arith, few, run-heads qs first gs, length-heads qs 0 m) in
+      let many : heads ≤ length (run qs ws first gs .heads) = omega (arith, few, run-heads qs ws first gs, length-heads qs 0 m) in
       let inside = playable-inside playable in
       let granted = granted-start playable in
       let inv = start-invariant qs m begin in
       let counted = run-layer inside counted-layer first [] gs granted inv (start-counted qs m (s .table)) in
       let truthful = run-layer inside truthful-layer first [] gs granted inv start-truthful in
       let turn = run-layer inside in-turn-layer first [] gs granted inv (start-in-turn qs) in
-      invariant-lawful (started-invariant playable begin) heads many served counted truthful turn
+      invariant-lawful (started-invariant playable ws begin) heads many served counted truthful turn
 
-  pub run-follows : (gs hs : List ℕ) → Playable n m qs (gs ++ hs) → Follows n (run qs first gs .table) (run qs first (gs ++ hs) .table)
+  pub run-follows : (gs hs : List ℕ) → Playable n m qs (gs ++ hs)
+      → Follows n (run qs ws first gs .table) (run qs ws first (gs ++ hs) .table)
   run-follows gs hs playable =
-      let S = run qs first gs in
-      let past = history qs first [] gs in
+      let S = run qs ws first gs in
+      let past = history qs ws first [] gs in
       let inside = playable-inside playable in
       let granted = granted-later gs hs playable in
-      let inv = started-invariant (playable-cut gs hs playable) begin in
+      let inv = started-invariant (playable-cut gs hs playable) ws begin in
       let sets = labels qs (s .labels) S in
       let same = later-refl n (parent (S .table)) (rank (S .table)) sets in
       let later = run-layer inside (later-layer (parent (S .table)) (rank (S .table)) sets) S past hs granted inv same in
-      subst (λ S′. Follows n (S .table) (S′ .table)) (sym (run-prefix qs first gs hs))
-      (later-follows inv (run-invariant inside S past hs granted inv) later)
+      subst (λ S′. Follows n (S .table) (S′ .table)) (sym (run-prefix qs ws first gs hs))
+      (later-follows inv (run-invariant ws inside S past hs granted inv) later)

@@ -21,3 +21,5 @@ pub mod Grant
 pub mod Theorem
 pub mod Layer
 pub mod Laws
+pub mod Lowest
+pub mod Waits

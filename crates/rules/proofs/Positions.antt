@@ -18,11 +18,11 @@ use Rattle.job.specs.declared.Request.{Request}
 use Rattle.process.specs.declared.Head.{Head}
 use Rattle.linearization.specs.Partition.{Labels}
 use Rattle.linearization.specs.Entry.{occurrences}
+use Rattle.rules.specs.Report.{rowAt}
 use Rattle.rules.specs.State.{State, requestAt, resting, hasWork, working}
 use Rattle.rules.specs.Step.{headAt, plus}
 use Rattle.rules.specs.Run.{Happening}
 use Rattle.rules.specs.History.{rowOf}
-use Rattle.rules.specs.Linearized.{rowAt}
 use Rattle.rules.specs.Laws.{some, isUnfinished, headsLeft, Anchored}
 use Rattle.rules.proofs.Invariant.{Phase, Invariant}
 use Rattle.rules.proofs.Invariant.Phase.{over, current, waiting}

@@ -91,6 +91,12 @@ pub data After (qs : List Request) (n : ℕ) (B : Labels) (S′ : State) (past�
   finishes : isFinal (a .event .answer) ≡ true → a .head .stage ≡ Resting → Over q past′ (occurrences q (S′ .entries))
       → After qs n B S′ past′ q a
 
+-- a head whose request is not finished is busy with it
+pub after-busy : {qs : List Request} {n : ℕ} {B : Labels} {S′ : State} {past′ : List Happening} {q : ℕ} {a : Advanced}
+    → After qs n B S′ past′ q a → isFinal (a .event .answer) ≡ false → isResting (a .head) ≡ false
+after-busy (continues unfinished busy knows timed now) f = busy
+after-busy (finishes final rests done) f = absurd (true≢false (sym final ∙ f))
+
 pub record Effect (qs : List Request) (n : ℕ) (B : Labels) (roots₀ : ℕ) (S S′ : State) (past′ : List Happening) (q : ℕ) (a : Advanced)
     : Type 0 where
   pub kept : Kept (momentOf qs n B S) (S′ .table) (labels qs B S′)
@@ -125,7 +131,7 @@ module _ {qs : List Request} {n : ℕ} {B : Labels} {roots₀ : ℕ} {S : State}
 
   keeps : a .head .task .request ≡ q
   unfolding advanceOf
-  keeps = advance-keeps (head .task) (seen (S .table) (accessOf head)) (suc (S .now)) (head .stage)
+  keeps = advance-keeps (head .task) (seen (S .table) (accessOf head)) (suc (S .now)) (head .stage) .request
 
   unserved : (p : ℕ) → p ≢ q → Other p (serving-of S head)
   unserved p d = other-served p q (actionOf S head) d

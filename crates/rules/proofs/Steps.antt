@@ -1,9 +1,9 @@
 -- What every step of a head keeps: the request that it serves, and what its x and y say of the request's two nodes.
 --
---   Keeps k a         the step a of a head with the task k leaves its request
+--   Keeps k h         the head h has the request of the task k, and waits for what it waits for
 --
--- Main laws: advance-keeps, no step changes the request served; ends-one and ends-two, from x and y to the request's two nodes;
--- searching-moved and finding-exchange, x or y moves within its set, or the two are exchanged.
+-- Main laws: advance-keeps, no step changes the request served or what the head waits for; ends-one and ends-two, from x and y to
+-- the request's two nodes; searching-moved and finding-exchange, x or y moves within its set, or the two are exchanged.
 use mathlib.Core.Path.{_≡_, refl, sym, ap, _∙_}
 use mathlib.Core.Logic.{_≢_}
 use mathlib.Core.Bool.{Bool, true, false, cond}
@@ -35,34 +35,41 @@ use Rattle.rules.proofs.Stages.{Moment, Finding, Searching}
 
 -- ---- a head keeps its request
 
+pub record Keeps (k : Task) (h : Head) : Type 0 where
+  pub request : h .task .request ≡ k .request
+  pub waits : h .task .waits ≡ k .waits
+
 module _ (k : Task) where
-  abbrev Keeps : Advanced → Type 0
-  Keeps a = a .head .task .request ≡ k .request
+  kept : {st : Stage} {x y : ℕ} → Keeps k (record { stage = st; task = record { x = x; y = y; request = k .request; waits = k .waits } })
+  kept = record { request = refl; waits = refl }
 
-  ended-keeps : (e : Errand) (now : ℕ) → Keeps (ended k e now)
-  ended-keeps UnionX now = refl
-  ended-keeps UnionY now = cond-both Keeps (eqb (k .x) (k .y)) refl refl
-  ended-keeps SameX now = refl
-  ended-keeps SameY now = cond-both Keeps (eqb (k .x) (k .y)) refl refl
-  ended-keeps Tidy now = refl
+  abbrev AllKept : Advanced → Type 0
+  AllKept a = Keeps k (a .head)
 
-  followed-keeps : (e : Errand) (now : ℕ) (w : Walked) → Keeps (followed k e now w)
-  followed-keeps e now (On s) = refl
-  followed-keeps e now (Failed s) = refl
-  followed-keeps e now (Up v) = refl
+  ended-keeps : (e : Errand) (now : ℕ) → Keeps k (ended k e now .head)
+  ended-keeps UnionX now = kept
+  ended-keeps UnionY now = cond-both AllKept (eqb (k .x) (k .y)) kept kept
+  ended-keeps SameX now = kept
+  ended-keeps SameY now = cond-both AllKept (eqb (k .x) (k .y)) kept kept
+  ended-keeps Tidy now = kept
+
+  followed-keeps : (e : Errand) (now : ℕ) (w : Walked) → Keeps k (followed k e now w .head)
+  followed-keeps e now (On s) = kept
+  followed-keeps e now (Failed s) = kept
+  followed-keeps e now (Up v) = kept
   followed-keeps e now Ended = ended-keeps e now
 
-  pub advance-keeps : (w : Node) (now : ℕ) (st : Stage) → advanceAt k w now st .head .task .request ≡ k .request
-  advance-keeps w now Resting = refl
+  pub advance-keeps : (w : Node) (now : ℕ) (st : Stage) → Keeps k (advanceAt k w now st .head)
+  advance-keeps w now Resting = kept
   advance-keeps w now (Find e s) = followed-keeps e now (walked (nodeAt k e) w s)
-  advance-keeps w now (RereadX p) = cond-both Keeps (eqb (w .parent) (k .x)) refl refl
-  advance-keeps w now ReadRankX = refl
-  advance-keeps w now (ReadRankY r) = cond-both Keeps (before (w .rank) (k .y) r (k .x)) refl refl
-  advance-keeps w now (Link r e) = cond-both Keeps (same w (record { rank = r; parent = k .x }))
-      (cond-both (λ (h : Head). h .task .request ≡ k .request) e refl refl) refl
-  advance-keeps w now (Raise r) = refl
-  advance-keeps w now ReadRankLinked = refl
-  advance-keeps w now (RaiseFound r) = refl
+  advance-keeps w now (RereadX p) = cond-both AllKept (eqb (w .parent) (k .x)) kept kept
+  advance-keeps w now ReadRankX = kept
+  advance-keeps w now (ReadRankY r) = cond-both AllKept (before (w .rank) (k .y) r (k .x)) kept kept
+  advance-keeps w now (Link r e) = cond-both AllKept (same w (record { rank = r; parent = k .x }))
+      (cond-both (Keeps k) e kept kept) kept
+  advance-keeps w now (Raise r) = kept
+  advance-keeps w now ReadRankLinked = kept
+  advance-keeps w now (RaiseFound r) = kept
 
 -- ---- what x and y say of the request's nodes
 

@@ -17,6 +17,7 @@ use lib.ListN.{length, getD, length-set, length-replicate, getD-replicate}
 use borrow.Author.Tests.{eq-eqb, ne-eqb}
 use Rattle.basics.proofs.Conditions.{split}
 use Rattle.job.specs.declared.Request.{Request}
+use Rattle.job.specs.declared.Wait.{Wait}
 use Rattle.word.specs.declared.Node.{Node}
 use Rattle.word.specs.Word.{nodeLimit}
 use Rattle.process.specs.declared.Head.{Head}
@@ -29,14 +30,14 @@ use Rattle.linearization.specs.Partition.{Labels}
 use Rattle.linearization.specs.Entry.{Entry, occurrences}
 use Rattle.linearization.proofs.Replay.{Replayed, ended, replayed-fact, replayed-rising, replayed-replies, replayed-map}
 use Rattle.rules.specs.Table.{parent, rank}
-use Rattle.rules.specs.Report.{noRow}
-use Rattle.rules.specs.State.{State, requestAt, seek, resting, headsFrom, start, hasWork}
+use Rattle.rules.specs.Report.{noRow, rowAt}
+use Rattle.rules.specs.State.{State, requestAt, seek, resting, headsFrom, start}
 use Rattle.rules.specs.Start.{Start, freshStart, Initial}
 use Rattle.rules.specs.Start.Initial.{alone}
-use Rattle.rules.specs.Step.{headAt, ready, advanced, settled, step}
+use Rattle.rules.specs.Step.{isServed, headAt, ready, advanced, settled, step}
 use Rattle.rules.specs.Run.{Happening, run, happened, history}
 use Rattle.rules.specs.History.{rowOf, linkOf}
-use Rattle.rules.specs.Linearized.{operationAt, rowAt, promised, isListed, Playable, Linearized}
+use Rattle.rules.specs.Linearized.{operationAt, promised, isListed, Playable, Linearized}
 use Rattle.rules.proofs.Table.{length-fresh, fresh-singletons}
 use Rattle.rules.proofs.Requests.{seek-own, seek-least}
 use Rattle.rules.proofs.Stages.{Inside}
@@ -120,32 +121,34 @@ start-invariant {n} {s} qs m begin =
 
 -- ---- the run
 
-pub step-heads : (qs : List Request) (S : State) (h : ℕ) → length (step qs S h .heads) ≡ length (S .heads)
+pub step-heads : (qs : List Request) (ws : List Wait) (S : State) (h : ℕ) → length (step qs ws S h .heads) ≡ length (S .heads)
 unfolding step
-step-heads qs S h =
-    split (hasWork qs (headAt S h))
+step-heads qs ws S h =
+    split (isServed qs ws (S .report) (headAt S h))
     (λ t. rw t (length-set (S .heads) h (settled qs h (advanced S (ready qs (headAt S h))))))
     (λ t. rw t refl)
 
-module _ {qs : List Request} {n : ℕ} {B : Labels} {roots₀ : ℕ} (inside : (q : ℕ) → q < length qs → Inside n (requestAt qs q)) where
+module _ {qs : List Request} (ws : List Wait) {n : ℕ} {B : Labels} {roots₀ : ℕ}
+    (inside : (q : ℕ) → q < length qs → Inside n (requestAt qs q)) where
   pub run-invariant : (S : State) (past : List Happening) (gs : List ℕ) → ((h : ℕ) → List·Memᴰ h gs → h < length (S .heads))
-      → Invariant qs n B roots₀ S past → Invariant qs n B roots₀ (run qs S gs) (history qs S past gs)
+      → Invariant qs n B roots₀ S past → Invariant qs n B roots₀ (run qs ws S gs) (history qs ws S past gs)
   run-invariant S past [] granted inv = inv
   run-invariant S past (h ∷ gs) granted inv =
-      run-invariant (step qs S h) (happened qs S h ∷ past) gs
-      (λ k m. rw (step-heads qs S h) (granted k (List·Memᴰ·tail m)))
-      (step-invariant inside inv h (granted h (List·Memᴰ·head refl)))
+      run-invariant (step qs ws S h) (happened qs ws S h ∷ past) gs
+      (λ k m. rw (step-heads qs ws S h) (granted k (List·Memᴰ·tail m)))
+      (step-invariant inside inv h (granted h (List·Memᴰ·head refl)) ws)
 
 -- ---- cuts
 
-pub run-prefix : (qs : List Request) (S : State) (gs hs : List ℕ) → run qs S (gs ++ hs) ≡ run qs (run qs S gs) hs
-run-prefix qs S [] hs = refl
-run-prefix qs S (h ∷ gs) hs = run-prefix qs (step qs S h) gs hs
+module _ (qs : List Request) (ws : List Wait) where
+  pub run-prefix : (S : State) (gs hs : List ℕ) → run qs ws S (gs ++ hs) ≡ run qs ws (run qs ws S gs) hs
+  run-prefix S [] hs = refl
+  run-prefix S (h ∷ gs) hs = run-prefix (step qs ws S h) gs hs
 
-pub history-prefix : (qs : List Request) (S : State) (past : List Happening) (gs hs : List ℕ)
-    → history qs S past (gs ++ hs) ≡ history qs (run qs S gs) (history qs S past gs) hs
-history-prefix qs S past [] hs = refl
-history-prefix qs S past (h ∷ gs) hs = history-prefix qs (step qs S h) (happened qs S h ∷ past) gs hs
+  pub history-prefix : (S : State) (past : List Happening) (gs hs : List ℕ)
+      → history qs ws S past (gs ++ hs) ≡ history qs ws (run qs ws S gs) (history qs ws S past gs) hs
+  history-prefix S past [] hs = refl
+  history-prefix S past (h ∷ gs) hs = history-prefix (step qs ws S h) (happened qs ws S h ∷ past) gs hs
 
 -- ---- from the invariant to the statement
 
@@ -201,16 +204,17 @@ module _ {n m : ℕ} {qs : List Request} {gs : List ℕ} (playable : Playable n 
   pub playable-inside : (q : ℕ) → q < length qs → Inside n (requestAt qs q)
   playable-inside q l = record { x = playable .left q l; y = playable .right q l }
 
-  module _ {s : Start} (begin : Startable n s) where
+  module _ (ws : List Wait) {s : Start} (begin : Startable n s) where
     abbrev S : State
     S = start qs m (s .table)
 
-    pub started-invariant : Invariant qs n (s .labels) (s .groups) (run qs S gs) (history qs S [] gs)
+    pub started-invariant : Invariant qs n (s .labels) (s .groups) (run qs ws S gs) (history qs ws S [] gs)
     started-invariant =
-        run-invariant playable-inside S [] gs (λ h k. omega (arith, playable .granted h k, length-heads qs 0 m))
+        run-invariant ws playable-inside S [] gs (λ h k. omega (arith, playable .granted h k, length-heads qs 0 m))
         (start-invariant qs m begin)
 
-    pub linearized : Linearized (s .labels) n qs (run qs S gs .table) (run qs S gs .report) (run qs S gs .entries) (history qs S [] gs)
+    pub linearized : Linearized (s .labels) n qs (run qs ws S gs .table) (run qs ws S gs .report) (run qs ws S gs .entries)
+        (history qs ws S [] gs)
     linearized = invariant-linearized started-invariant
 
 -- ---- the starts that a run may have

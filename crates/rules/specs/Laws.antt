@@ -24,13 +24,12 @@ use Rattle.word.specs.Word.{before}
 use Rattle.forest.specs.Forest.{rootCount, Together}
 use Rattle.rules.specs.declared.Row.{Row}
 use Rattle.rules.specs.Table.{parent, rank}
-use Rattle.rules.specs.Report.{noRow}
+use Rattle.rules.specs.Report.{noRow, rowAt, unfinished}
 use Rattle.rules.specs.State.{requestAt}
 use Rattle.rules.specs.Action.{Agrees}
 use Rattle.rules.specs.Run.{Happening}
 use Rattle.rules.specs.Run.Happening.{idle, serving}
 use Rattle.rules.specs.History.{lastButOne, countWhere, isIdle, hasFailed, hasLink, isOf, rowOf, pointOf}
-use Rattle.rules.specs.Linearized.{rowAt}
 
 -- Some number below n passes the test.
 abbrev pub some : (ℕ → Bool) → ℕ → Bool
@@ -39,7 +38,7 @@ some test (suc n) = cond (test n) true (some test n)
 
 -- A request of head h whose answer is still 0.
 abbrev pub isUnfinished : List Request → List Row → ℕ → ℕ → Bool
-isUnfinished qs report h q = cond (eqb (requestAt qs q .head) h) (eqb (rowAt report q .answer) 0) false
+isUnfinished qs report h q = cond (eqb (requestAt qs q .head) h) (unfinished report q) false
 
 -- The heads with work left, told by the requests and the report alone.
 abbrev pub headsLeft : List Request → List Row → ℕ → ℕ

@@ -10,3 +10,4 @@ pub mod History
 pub mod Cases
 pub mod Linearized
 pub mod Laws
+pub mod Waits

@@ -2,7 +2,6 @@
 -- report, the entries of the line-up, and the history of the run. Words in quotation marks are the demand's own.
 --
 --   operationAt qs q   request q as the sequential specification (document 01: the plain book) sees it
---   rowAt report q     the report row of request q
 --   promised n         what the specification is to answer to a listed request whose report row has the answer n
 --   isListed row link  a request with this report row, which linked at the grant `link` (0: not), is in the line-up
 --   Playable           an accepted job: nodes have words, requests are about nodes, grants are for heads
@@ -13,7 +12,7 @@ use mathlib.Core.Bool.{Bool, true, cond, not}
 use mathlib.Core.List.{List, map, List·Memᴰ}
 use Prim.Native.Nat.{ℕ, _<_, _≤_}
 use lib.Dec.{eqb}
-use lib.ListN.{length, getD}
+use lib.ListN.{length}
 use Rattle.job.specs.declared.Answer.{Answer}
 use Rattle.job.specs.declared.Answer.the-variants.{Joined, Together, Yes, No}
 use Rattle.job.specs.declared.Request.{Request}
@@ -24,7 +23,7 @@ use Rattle.linearization.specs.Entry.{Entry, Rising, occurrences, operations}
 use Rattle.forest.specs.Forest as forest
 use Rattle.rules.specs.declared.Row.{Row}
 use Rattle.rules.specs.Table.{parent}
-use Rattle.rules.specs.Report.{noRow}
+use Rattle.rules.specs.Report.{rowAt}
 use Rattle.rules.specs.State.{requestAt}
 use Rattle.rules.specs.Run.{Happening}
 use Rattle.rules.specs.History.{linkOf, pointOf}
@@ -32,10 +31,6 @@ use Rattle.rules.specs.History.{linkOf, pointOf}
 -- "It is handed the line-up's requests in their order, of each only its kind and two places as the job has them."
 abbrev pub operationAt : List Request → ℕ → Operation
 operationAt qs q = record { kind = requestAt qs q .kind; x = requestAt qs q .x; y = requestAt qs q .y }
-
--- The four numbers of request q.
-abbrev pub rowAt : List Row → ℕ → Row
-rowAt report q = getD report q noRow
 
 -- "every request gets its reported answer (listed unfinished ones: joined)"
 abbrev pub promised : ℕ → Answer

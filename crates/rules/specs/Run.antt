@@ -1,14 +1,15 @@
 -- Document 01, "Whole runs and the plain book": a run is the list of grants, each on what the one before it left.
 --
---   run qs S gs           the state after the grants gs
+--   run qs ws S gs        the state after the grants gs
 --   actionOf S head       what a grant does that serves that head
 --   Happening             what one grant was: idle, or used for request q, with what it did
 --   happenedBy S turn     what a grant was, by whom it serves
---   happened qs S h       what a grant to head h is in the state S
---   history qs S past gs  what the grants were, the newest first: the grant number of the newest is the list's length
+--   happened qs ws S h    what a grant to head h is in the state S
+--   history qs ws S past gs  what the grants were, the newest first: the grant number of the newest is the list's length
 use mathlib.Core.List.{List, [], _∷_}
 use Prim.Native.Nat.{ℕ}
 use Rattle.job.specs.declared.Request.{Request}
+use Rattle.job.specs.declared.Wait.{Wait}
 use Rattle.process.specs.declared.Head.{Head}
 use Rattle.process.specs.Access.{accessOf}
 use Rattle.rules.specs.Table.{seen}
@@ -18,9 +19,9 @@ use Rattle.rules.specs.Step.{Turn, turn, advanced, step}
 use Rattle.rules.specs.Step.Turn.{idled, serves}
 
 -- A run is the list of grants of an accepted job, in any mix.
-abbrev pub run : List Request → State → List ℕ → State
-run qs S [] = S
-run qs S (h ∷ gs) = run qs (step qs S h) gs
+abbrev pub run : List Request → List Wait → State → List ℕ → State
+run qs ws S [] = S
+run qs ws S (h ∷ gs) = run qs ws (step qs ws S h) gs
 
 -- The head's access, the word that it sees, and where that leads.
 abbrev pub actionOf : State → Head → Action
@@ -37,10 +38,10 @@ happenedBy S idled = idle
 happenedBy S (serves head) = serving (head .task .request) (actionOf S head)
 
 -- What a grant to head h is.
-unfoldable pub happened : List Request → State → ℕ → Happening
-happened qs S h = happenedBy S (turn qs S h)
+unfoldable pub happened : List Request → List Wait → State → ℕ → Happening
+happened qs ws S h = happenedBy S (turn qs ws S h)
 
 -- What the grants of a run were, one by one.
-abbrev pub history : List Request → State → List Happening → List ℕ → List Happening
-history qs S past [] = past
-history qs S past (h ∷ gs) = history qs (step qs S h) (happened qs S h ∷ past) gs
+abbrev pub history : List Request → List Wait → State → List Happening → List ℕ → List Happening
+history qs ws S past [] = past
+history qs ws S past (h ∷ gs) = history qs ws (step qs ws S h) (happened qs ws S h ∷ past) gs

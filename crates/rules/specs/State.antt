@@ -11,21 +11,25 @@
 --   hasWork qs head      the head has an unfinished request
 --   working qs heads     how many heads have work left
 --   tallyOf qs S         the four counters
-use mathlib.Core.Bool.{Bool, cond}
+--   holds report q w     the pair w lets request q wait
+--   lowestWait ws report q   the request that q waits for, told one higher, or none
+--   waitOf ws report head    the same of a head: what its next request waits for while it rests
+use mathlib.Core.Bool.{Bool, false, cond}
 use mathlib.Core.List.{List, [], _∷_}
 use Prim.Native.Nat.{ℕ, zero, suc}
 use lib.Dec.{eqb, ltb}
 use lib.ListN.{length, getD, drop, replicate}
 use Rattle.job.specs.declared.Kind.the-variants.{Union}
 use Rattle.job.specs.declared.Request.{Request}
+use Rattle.job.specs.declared.Wait.{Wait}
 use Rattle.job.specs.declared.Tally.{Tally}
 use Rattle.word.specs.declared.Node.{Node}
 use Rattle.process.specs.declared.Stage.the-variants.{Resting}
 use Rattle.process.specs.declared.Head.{Head}
-use Rattle.process.specs.Process.{noWait}
+use Rattle.process.specs.Process.{isResting, noWait}
 use Rattle.linearization.specs.Entry.{Entry}
 use Rattle.rules.specs.declared.Row.{Row}
-use Rattle.rules.specs.Report.{noRow}
+use Rattle.rules.specs.Report.{noRow, unfinished}
 
 -- What stands past the last request.
 abbrev pub noRequest : Request
@@ -91,3 +95,18 @@ working qs (head ∷ heads) = cond (hasWork qs head) (suc (working qs heads)) (w
 -- The tally: idle grants, failed swaps, links, and the heads with work left now.
 abbrev pub tallyOf : List Request → State → Tally
 tallyOf qs S = record { idle = S .idle; failed = S .failed; links = S .links; working = working qs (S .heads) }
+
+-- ---- waiting (02, A3)
+
+-- The later request of a pair waits as long as the earlier one is unfinished.
+abbrev pub holds : List Row → ℕ → Wait → Bool
+holds report q w = cond (eqb (w .later) q) (unfinished report (w .earlier)) false
+
+-- The lowest unfinished request that q waits for: the pairs of q rise, so it is that of the first which holds.
+abbrev pub lowestWait : List Wait → List Row → ℕ → ℕ
+lowestWait [] report q = noWait
+lowestWait (w ∷ ws) report q = cond (holds report q w) (suc (w .earlier)) (lowestWait ws report q)
+
+-- A request waits only before it begins: a head that serves one waits for none.
+abbrev pub waitOf : List Wait → List Row → Head → ℕ
+waitOf ws report head = cond (isResting head) (lowestWait ws report (head .task .request)) noWait

@@ -36,7 +36,7 @@ outcome (refused file n) = means (meaning file)
 abbrev pub wanted : Case → Outcome
 wanted (played c) = left (rules.wanted c)
 wanted (enquired c) = told (query.wanted c)
-wanted (refused file n) = means (record { number = n; job = record { nodes = 0; heads = 0; requests = []; schedule = [] } })
+wanted (refused file n) = means (record { number = n; job = record { nodes = 0; heads = 0; requests = []; waits = []; schedule = [] } })
 
 abbrev pub starred : List Case
 starred =
@@ -49,4 +49,4 @@ pub record Shown : Type 0 where
   -- what the definitions leave of each case is what is expected of it
   pub holds : map outcome starred ≡ map wanted starred
   -- and no case is missing: the starred ones, and those that reach the traps
-  pub whole : length starred ≡ 39
+  pub whole : length starred ≡ 47
