@@ -4,6 +4,10 @@ pub mod Shown
 pub mod Raisable
 pub mod Room
 pub mod Seek
+pub mod Pairs
+pub mod Renewed
+pub mod Waiting
 pub mod Reached
 pub mod Served
 pub mod Needs
+pub mod Known

@@ -4,20 +4,21 @@
 -- and serve-done, what the parts leave together; idle-shown and idle-done, the grant that serves nobody.
 use mathlib.Core.Path.{_≡_, refl, sym, ap, _∙_, subst}
 use mathlib.Core.Logic.{_≢_}
-use mathlib.Core.Bool.{Bool, true, false, cond}
+use mathlib.Core.Bool.{Bool, true, false, cond, not}
 use mathlib.Core.List.{List, [], _∷_, map}
 use Prim.Native.Nat.{ℕ, suc, _+_, _*_, _-_, _/_, _%_, _^_, _≤_, _<_}
 use native.Mathlib.Omega.{arith}
 use lib.Dec.{eqb, ltb}
-use lib.ListN.{length, getD, set, drop, length-drop}
-use borrow.Author.Tests.{ltb-true, ne-eqb}
-use Rattle.basics.proofs.Conditions.{split}
+use lib.ListN.{length, getD, set, drop, length-drop, length-set, length-map}
+use borrow.Author.Tests.{eqb-true, ltb-true, ne-eqb, not-true, not-false}
+use Rattle.basics.proofs.Conditions.{split, cond-both}
 use Rattle.reader.specs.declared.Checked.{Checked}
 use Rattle.job.specs.declared.Request.{Request}
+use Rattle.job.specs.declared.Wait.{Wait}
 use Rattle.word.specs.Word.{decode, encode}
 use Rattle.process.specs.declared.Head.{Head}
 use Rattle.process.specs.declared.Advanced.{Advanced}
-use Rattle.process.specs.Process.{Raisable, queued}
+use Rattle.process.specs.Process.{Raisable, isResting, noWait, isWaiting, queued}
 use Rattle.process.specs.Access.{accessOf}
 use Rattle.process.specs.Advance.{advanceOf}
 use Rattle.linearization.specs.Partition.{Labels}
@@ -29,39 +30,44 @@ use Rattle.job.specs.Job.{mostHeads}
 use Rattle.jobfile.specs.Meaning.{meaning}
 use Rattle.mask.proofs.Laws.{flag-of, left-least}
 use Rattle.rules.specs.Table.{seen, touched}
-use Rattle.rules.specs.Report.{charge, noRow, isFinal}
-use Rattle.rules.specs.State.{requestAt, State, seek, resting, hasWork}
+use Rattle.rules.specs.declared.Row.{Row}
+use Rattle.rules.specs.Report.{charge, noRow, rowAt, isFinal}
+use Rattle.rules.specs.State.{requestAt, State, seek, resting, hasWork, waitOf}
 use Rattle.rules.specs.Start.{Start}
-use Rattle.rules.specs.Step.{ready, headAt, advanced, settled, served, passed, step}
+use Rattle.rules.specs.Step.{isServed, ready, headAt, advanced, settled, served, passed, step}
 use Rattle.rules.specs.Run.{Happening, happened}
 use Rattle.rules.specs.Run.Happening.{idle}
 use Rattle.rules.specs.History.{countWhere, isOf, rowOf, linkOf}
-use Rattle.rules.specs.Linearized.{isListed, rowAt}
+use Rattle.rules.specs.Linearized.{isListed}
 use Rattle.rules.proofs.Requests.{seek-bound}
 use Rattle.rules.proofs.Steps.{advance-keeps}
 use Rattle.rules.proofs.Invariant.{Invariant}
-use Rattle.rules.proofs.Serving.{Serving}
-use Rattle.rules.proofs.Grant.{serving-ready, step-invariant}
+use Rattle.rules.proofs.Serving.{Serving, after-busy}
+use Rattle.rules.proofs.Grant.{serving-ready, served-effect, step-invariant}
 use Rattle.rules.proofs.Theorem.{invariant-linearized}
 use Rattle.stepper.specs.declared.Done.{Done}
+use Rattle.stepper.specs.declared.Granted.{Granted}
 use Rattle.table.specs.Touch.{Touchable}
-use Rattle.stepper.specs.Buffers.{rowIn, stored}
-use Rattle.stepper.specs.Shown.{Buffers, buffers, shown, doneOf, stateAfter, historyAfter, requestsIn, Playing, Standing, Grantable}
-use Rattle.stepper.proofs.Seek.{playing-count}
+use Rattle.stepper.specs.Buffers.{rowIn, stored, rowsOf}
+use Rattle.stepper.specs.Shown.{Buffers, buffers, noted, shown, idleDone, doneOf, stateAfter, historyAfter, requestsIn, waitsIn}
+use Rattle.stepper.specs.Shown.{Playing, Standing, Grantable, Stepped}
+use Rattle.stepper.specs.Waits.{frees, Renewable}
+use Rattle.stepper.proofs.Seek.{playing-count, playing-waits}
 use Rattle.stepper.proofs.Lists.{length-rows}
 use Rattle.stepper.proofs.Room.{entries-few}
 use Rattle.stepper.proofs.Reached.{Reached, playing-admitted, playing-inside, reached}
-use Rattle.stepper.proofs.Served.{step-served, happened-served, head-shown, head-touchable, head-raisable}
-use Rattle.stepper.proofs.Served.{row-here, moved-here, served-shown}
+use Rattle.stepper.proofs.Served.{step-served, happened-served, record-shown, head-shown, head-touchable, head-raisable}
+use Rattle.stepper.proofs.Served.{row-here, moved-here, seats-renewable, served-shown}
 
--- what the step of a head without work left is
-step-idle : (qs : List Request) (S : State) (h : ℕ) → hasWork qs (headAt S h) ≡ false → step qs S h ≡ passed S
-unfolding step
-step-idle qs S h t = rw t refl
+-- what the step of a head is that is not served
+module _ (qs : List Request) (ws : List Wait) (S : State) (h : ℕ) (unserved : isServed qs ws (S .report) (headAt S h) ≡ false) where
+  step-idle : step qs ws S h ≡ passed S
+  unfolding step
+  step-idle = rw unserved refl
 
-happened-idle : (qs : List Request) (S : State) (h : ℕ) → hasWork qs (headAt S h) ≡ false → happened qs S h ≡ idle
-unfolding happened
-happened-idle qs S h t = rw t refl
+  happened-idle : happened qs ws S h ≡ idle
+  unfolding happened
+  happened-idle = rw unserved refl
 
 count-bound : (f : Happening → Bool) (past : List Happening) → countWhere f past ≤ length past
 count-bound f [] = omega arith
@@ -111,7 +117,10 @@ module _ {file : List ℕ} {counts : Checked} {h number : ℕ} {b : Buffers} (pl
   abbrev past : List Happening
   past = historyAfter origin (meaning file .job) gs
 
-  here : Reached origin qs (meaning file .job .nodes) b number S past lent
+  abbrev ws : List Wait
+  ws = waitsIn file
+
+  here : Reached origin qs ws (meaning file .job .nodes) b number S past lent
   here = reached playing standing
 
   -- the mask tells whether the head has work left
@@ -119,16 +128,57 @@ module _ {file : List ℕ} {counts : Checked} {h number : ℕ} {b : Buffers} (pl
   work-shown =
       ap (λ c. eqb (c .mask / 2 ^ h % 2) 1) (here .shows) ∙ flag-of (hasWork qs) (resting 0) (S .heads) h (omega (arith, here .heads))
 
-  -- an idle grant leaves the buffers
-  pub idle-shown : eqb (b .mask / 2 ^ h % 2) 1 ≡ false → b ≡ shown qs (step qs S h) lent
-  idle-shown bit = here .shows ∙ ap (λ T. shown qs T lent) (sym (step-idle qs S h (sym work-shown ∙ bit)))
+  -- there is a record for each head
+  pub records-all : length (b .heads) ≡ mostHeads
+  records-all = ap (λ c. length (c .heads)) (here .shows) ∙ length-map (S .heads) (noted ws (S .report)) ∙ here .heads
 
-  pub idle-done : eqb (b .mask / 2 ^ h % 2) 1 ≡ false → record { idle = true; failed = false; linked = false } ≡ doneOf (happened qs S h)
-  idle-done bit = ap doneOf (sym (happened-idle qs S h (sym work-shown ∙ bit)))
+  pub rows-room : 4 * counts .requests ≤ length (b .report)
+  rows-room =
+      omega (
+        arith,
+        ap (λ c. length (c .report)) (here .shows),
+        length-rows (S .report),
+        here .invariant .reports,
+        playing-count playing,
+      )
 
-  module _ (bit : eqb (b .mask / 2 ^ h % 2) 1 ≡ true) where
+  -- and its record whether it waits
+  wait-shown : isWaiting (getD (b .heads) h (resting 0)) ≡ not (eqb (waitOf ws (S .report) (headAt S h)) noWait)
+  wait-shown = ap isWaiting (record-shown here h present)
+
+  -- an idle grant leaves the buffers as they are
+  module _ (r : Granted) (is : r ≡ record { heads = b .heads; entries = b .entries; mask = b .mask; done = idleDone }) where
+    abbrev Idled : Granted → Type 0
+    Idled g =
+        Stepped file h (buffers (g .heads) (b .table) (b .report) (b .linearization) (g .entries) (g .mask)) (g .done) origin gs lent
+
+    idled-here : isServed qs ws (S .report) (headAt S h) ≡ false → Idled r
+    idled-here unserved =
+        subst Idled (sym is)
+        (record {
+          buffers = here .shows ∙ ap (λ T. shown qs ws T lent) (sym (step-idle qs ws S h unserved));
+          done = ap doneOf (sym (happened-idle qs ws S h unserved));
+        })
+
+    -- a head has no work left,
+    pub idle-stepped : eqb (b .mask / 2 ^ h % 2) 1 ≡ false → Idled r
+    idle-stepped bit = idled-here (rw (sym work-shown ∙ bit))
+
+    -- or waits
+    pub waiting-stepped : isWaiting (getD (b .heads) h (resting 0)) ≡ true → Idled r
+    waiting-stepped waits =
+        let some : eqb (waitOf ws (S .report) (headAt S h)) noWait ≡ false = not-true _ (sym wait-shown ∙ waits) in
+        idled-here (rw some (cond-both (λ t. t ≡ false) (hasWork qs (headAt S h)) refl refl))
+
+  module _ (bit : eqb (b .mask / 2 ^ h % 2) 1 ≡ true) (free : isWaiting (getD (b .heads) h (resting 0)) ≡ false) where
     work : hasWork qs (headAt S h) ≡ true
     work = sym work-shown ∙ bit
+
+    none : eqb (waitOf ws (S .report) (headAt S h)) noWait ≡ true
+    none = not-false _ (sym wait-shown ∙ free)
+
+    goes : isServed qs ws (S .report) (headAt S h) ≡ true
+    goes = rw (work, none)
 
     in-service : Serving qs (meaning file .job .nodes) (origin .labels) S past h (ready qs (headAt S h))
     in-service =
@@ -139,7 +189,7 @@ module _ {file : List ℕ} {counts : Checked} {h number : ℕ} {b : Buffers} (pl
     next-within =
         omega (
           arith,
-          ap (λ c. getD (c .heads) h (resting 0) .task .request) (here .shows),
+          ap (λ k. k .task .request) (record-shown here h present),
           ltb-true (headAt S h .task .request) (length qs) work,
           playing-count playing,
         )
@@ -154,7 +204,7 @@ module _ {file : List ℕ} {counts : Checked} {h number : ℕ} {b : Buffers} (pl
 
     module _ (head : Head) (is-head : head ≡ ready qs (getD (b .heads) h (resting 0))) where
       to-head : head ≡ ready qs (headAt S h)
-      to-head = is-head ∙ head-shown here h present in-service
+      to-head = is-head ∙ head-shown here h present in-service (eqb-true (waitOf ws (S .report) (headAt S h)) noWait none)
 
       pub raisable : Raisable (head .stage)
       raisable = subst (λ k. Raisable (k .stage)) (sym to-head) (head-raisable here h present in-service)
@@ -184,7 +234,7 @@ module _ {file : List ℕ} {counts : Checked} {h number : ℕ} {b : Buffers} (pl
         unfolding advanceOf
         moved-within =
             let w = seen (map decode (b .table)) (accessOf head) in
-            let kept = advance-keeps (head .task) w number (head .stage) in
+            let kept = advance-keeps (head .task) w number (head .stage) .request in
             omega (arith, ap (λ m. m .head .task .request) is-moved, kept, request-within, playing-count playing)
 
         -- the head serves a request of its own
@@ -193,7 +243,7 @@ module _ {file : List ℕ} {counts : Checked} {h number : ℕ} {b : Buffers} (pl
         own-request =
             let w = seen (map decode (b .table)) (accessOf head) in
             let kept : moved .head .task .request ≡ ready qs (headAt S h) .task .request =
-            ap (λ m. m .head .task .request) is-moved ∙ advance-keeps (head .task) w number (head .stage)
+            ap (λ m. m .head .task .request) is-moved ∙ advance-keeps (head .task) w number (head .stage) .request
             ∙ ap (λ k. k .task .request) to-head in
             ap (λ q. requestAt qs q .head) kept ∙ in-service .own
 
@@ -209,8 +259,8 @@ module _ {file : List ℕ} {counts : Checked} {h number : ℕ} {b : Buffers} (pl
             omega (
               arith,
               more,
-              ap (λ T. length (T .entries)) (step-served qs S h work),
-              invariant-few (step-invariant (playing-inside playing) (here .invariant) h (omega (arith, here .heads))),
+              ap (λ T. length (T .entries)) (step-served qs ws S h goes),
+              invariant-few (step-invariant (playing-inside playing) (here .invariant) h (omega (arith, here .heads)) ws),
             )
 
         pub insertable : moved .event .point ≢ 0 → Insertable (b .linearization) (b .entries)
@@ -230,6 +280,12 @@ module _ {file : List ℕ} {counts : Checked} {h number : ℕ} {b : Buffers} (pl
             cond (eqb (moved .event .point) 0) (b .linearization)
             (inserted (b .linearization) (b .entries) (moved .event .point) (k .task .request))
 
+        -- a head whose request goes on is busy with it
+        still-busy : isFinal (advanced S (ready qs (headAt S h)) .event .answer) ≡ false
+            → isResting (advanced S (ready qs (headAt S h)) .head) ≡ false
+        still-busy =
+            after-busy (served-effect (playing-inside playing) (here .invariant) h (omega (arith, here .heads)) in-service .after)
+
         module _ (table′ report′ linearization′ : List ℕ) (entries′ mask′ : ℕ) (next : Head)
             (is-table : table′ ≡ map encode (touched (map decode (b .table)) (accessOf head)))
             (is-report : report′ ≡ charged-report head)
@@ -237,58 +293,90 @@ module _ {file : List ℕ} {counts : Checked} {h number : ℕ} {b : Buffers} (pl
             (is-entries : entries′ ≡ cond (eqb (moved .event .point) 0) (b .entries) (b .entries + 1))
             (is-next : next ≡ settled qs h moved)
             (is-mask : mask′ ≡ cond (ltb (next .task .request) (counts .requests)) (b .mask) (b .mask - 2 ^ h)) where
-          pub serve-shown :
-              buffers (set (b .heads) h next) table′ report′ linearization′ entries′ mask′
-              ≡ shown qs (step qs S h) lent
-          serve-shown =
+          pub serve-shown : (heads′ : List Head)
+              → heads′ ≡ cond (frees (counts .waits) (moved .event .answer)) (map (noted ws (rowsOf report′)) (set (b .heads) h next))
+              (set (b .heads) h next)
+              → buffers heads′ table′ report′ linearization′ entries′ mask′ ≡ shown qs ws (step qs ws S h) lent
+          serve-shown heads′ is-heads =
               served-shown here h present in-service moved table′ report′ linearization′ entries′ mask′ next to-moved
               (is-table ∙ ap (λ k. map encode (touched (map decode (b .table)) (accessOf k))) to-head)
               (is-report ∙ ap charged-report to-head)
               (is-linearization ∙ ap entered-linearization to-head)
               is-entries is-next
               (is-mask ∙ ap (λ k. cond (ltb (next .task .request) k) (b .mask) (b .mask - 2 ^ h)) (playing-count playing))
-              work
+              heads′ still-busy
+              (is-heads ∙ ap (λ k. cond (frees k (moved .event .answer)) (map (noted ws (rowsOf report′)) (set (b .heads) h next))
+              (set (b .heads) h next)) (playing-waits playing))
+              goes
+
+          pub serve-renewable : isFinal (moved .event .answer) ≡ true
+              → Renewable ws (rowsOf report′) (set (b .heads) h next) h (head .task .request)
+          serve-renewable final =
+              subst (λ k. Renewable ws (rowsOf report′) (set (b .heads) h next) h (k .task .request)) (sym to-head)
+              (seats-renewable here h present in-service moved table′ report′ linearization′ entries′ mask′ next to-moved
+              (is-table ∙ ap (λ k. map encode (touched (map decode (b .table)) (accessOf k))) to-head)
+              (is-report ∙ ap charged-report to-head)
+              (is-linearization ∙ ap entered-linearization to-head)
+              is-entries is-next
+              (is-mask ∙ ap (λ k. cond (ltb (next .task .request) k) (b .mask) (b .mask - 2 ^ h)) (playing-count playing))
+              final)
 
         pub serve-done : (done : Done) → done ≡ record { idle = false; failed = moved .event .failed; linked = moved .event .linked }
-            → done ≡ doneOf (happened qs S h)
+            → done ≡ doneOf (happened qs ws S h)
         serve-done done is =
             is
             ∙ ap (λ m. record { idle = false; failed = m .event .failed; linked = m .event .linked })
             (to-moved ∙ moved-here here h present in-service)
-            ∙ ap doneOf (sym (happened-served qs S h work))
+            ∙ ap doneOf (sym (happened-served qs ws S h goes))
 
 -- ---- what the parts of a grant ask
 
 module _ {file : List ℕ} {counts : Checked} {h number : ℕ} {b : Buffers} (r : Grantable file counts h number b)
-    (bit : eqb (b .mask / 2 ^ h % 2) 1 ≡ true) where
+    (bit : eqb (b .mask / 2 ^ h % 2) 1 ≡ true) (free : isWaiting (getD (b .heads) h (resting 0)) ≡ false) where
   pub ready-next : getD (b .heads) h (resting 0) .task .request < counts .requests
-  ready-next = next-within (r .playing) (r .head) (r .standing) bit
+  ready-next = next-within (r .playing) (r .head) (r .standing) bit free
+
+  pub ready-records : (next : Head) → length (set (b .heads) h next) ≡ mostHeads
+  ready-records next = length-set (b .heads) h next ∙ records-all (r .playing) (r .head) (r .standing)
+
+  -- a report with a row written has its length
+  pub ready-rows : (report′ : List ℕ) (at : ℕ) (row : Row) → report′ ≡ stored (b .report) at row → 4 * counts .requests ≤ length report′
+  ready-rows report′ at row is = rw is (simp length-set (rows-room (r .playing) (r .head) (r .standing)))
 
   pub ready-mask : 2 ^ h ≤ b .mask
-  ready-mask = mask-least (r .playing) (r .head) (r .standing) bit
+  ready-mask = mask-least (r .playing) (r .head) (r .standing) bit free
 
   pub ready-small : b .entries < 4294967295
-  ready-small = entries-small (r .playing) (r .head) (r .standing) bit
+  ready-small = entries-small (r .playing) (r .head) (r .standing) bit free
 
   module _ (head : Head) (is-head : head ≡ ready (requestsIn file) (getD (b .heads) h (resting 0))) where
     pub ready-raisable : Raisable (head .stage)
-    ready-raisable = raisable (r .playing) (r .head) (r .standing) bit head is-head
+    ready-raisable = raisable (r .playing) (r .head) (r .standing) bit free head is-head
 
     pub ready-touchable : Touchable (map decode (b .table)) (accessOf head)
-    ready-touchable = touchable-here (r .playing) (r .head) (r .standing) bit head is-head
+    ready-touchable = touchable-here (r .playing) (r .head) (r .standing) bit free head is-head
+
+    -- a request is told one higher
+    pub ready-number : head .task .request < 65535
+    ready-number =
+        omega (
+          arith,
+          request-within (r .playing) (r .head) (r .standing) bit free head is-head,
+          playing-admitted (r .playing) .few-requests,
+        )
 
     pub ready-room : 4 * head .task .request + 4 ≤ length (b .report)
-    ready-room = charge-room (r .playing) (r .head) (r .standing) bit head is-head
+    ready-room = charge-room (r .playing) (r .head) (r .standing) bit free head is-head
 
     pub ready-used : number < 4294967296 → rowIn (b .report) (4 * head .task .request) .used < 4294967295
-    ready-used = charge-used (r .playing) (r .head) (r .standing) bit head is-head
+    ready-used = charge-used (r .playing) (r .head) (r .standing) bit free head is-head
 
     module _ (moved : Advanced) (is-moved : moved ≡ advanceOf head (seen (map decode (b .table)) (accessOf head)) number) where
       pub ready-insertable : moved .event .point ≢ 0 → Insertable (b .linearization) (b .entries)
-      ready-insertable = insertable (r .playing) (r .head) (r .standing) bit head is-head moved is-moved
+      ready-insertable = insertable (r .playing) (r .head) (r .standing) bit free head is-head moved is-moved
 
       pub ready-moved : moved .head .task .request < counts .requests
-      ready-moved = moved-within (r .playing) (r .head) (r .standing) bit head is-head moved is-moved
+      ready-moved = moved-within (r .playing) (r .head) (r .standing) bit free head is-head moved is-moved
 
       pub ready-own : requestAt (requestsIn file) (moved .head .task .request) .head ≡ h
-      ready-own = own-request (r .playing) (r .head) (r .standing) bit head is-head moved is-moved
+      ready-own = own-request (r .playing) (r .head) (r .standing) bit free head is-head moved is-moved

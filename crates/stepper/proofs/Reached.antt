@@ -13,6 +13,7 @@ use lib.ListN.{length, getD, take, drop, take-append-drop}
 use lib.Seq.{take-suc}
 use Rattle.reader.specs.declared.Checked.{Checked}
 use Rattle.job.specs.declared.Request.{Request}
+use Rattle.job.specs.declared.Wait.{Wait}
 use Rattle.job.specs.Job.{Job, mostHeads}
 use Rattle.jobfile.specs.Meaning.{meaning}
 use Rattle.jobfile.specs.Admitted.{Admitted}
@@ -26,13 +27,15 @@ use Rattle.rules.proofs.Stages.{Inside}
 use Rattle.rules.proofs.Invariant.{Invariant}
 use Rattle.rules.proofs.Theorem.{length-heads, run-prefix, started-invariant, initial-startable}
 use Rattle.rules.proofs.Laws.{run-heads}
-use Rattle.stepper.specs.Shown.{Buffers, shown, startOf, stateAfter, historyAfter, requestsIn, Playing, Standing}
+use Rattle.rules.proofs.Waits.{Unwaiting, start-unwaiting, run-unwaiting}
+use Rattle.stepper.specs.Shown.{Buffers, shown, startOf, stateAfter, historyAfter, requestsIn, waitsIn, Playing, Standing}
 
-pub record Reached (origin : Start) (qs : List Request) (n : ℕ) (b : Buffers) (number : ℕ) (S : State) (past : List Happening)
-    (lent : List ℕ) : Type 0 where
+pub record Reached (origin : Start) (qs : List Request) (ws : List Wait) (n : ℕ) (b : Buffers) (number : ℕ) (S : State)
+    (past : List Happening) (lent : List ℕ) : Type 0 where
   pub invariant : Invariant qs n (origin .labels) (origin .groups) S past
   pub heads : length (S .heads) ≡ mostHeads
-  pub shows : b ≡ shown qs S lent
+  pub shows : b ≡ shown qs ws S lent
+  pub unwaiting : Unwaiting S
   pub next : number ≡ suc (S .now)
   pub room : 2 * length qs ≤ length lent
 
@@ -50,18 +53,18 @@ cut-granted j a k h m =
     admitted-granted j a h (subst (List·Memᴰ h) (take-append-drop k (j .schedule)) (Memᴰ·append-left (drop k (j .schedule)) m))
 
 pub after-next : (origin : Start) (j : Job) (gs : List ℕ) (k : ℕ) → k < length gs
-    → stateAfter origin j (take (k + 1) gs) ≡ step (j .requests) (stateAfter origin j (take k gs)) (getD gs k 0)
+    → stateAfter origin j (take (k + 1) gs) ≡ step (j .requests) (j .waits) (stateAfter origin j (take k gs)) (getD gs k 0)
 after-next origin j gs k l =
     let one : k + 1 ≡ suc k = omega arith in
     ap (λ i. stateAfter origin j (take i gs)) one ∙ ap (stateAfter origin j) (take-suc gs k 0 l)
-    ∙ run-prefix (j .requests) (startOf origin j) (take k gs) (getD gs k 0 ∷ [])
+    ∙ run-prefix (j .requests) (j .waits) (startOf origin j) (take k gs) (getD gs k 0 ∷ [])
 
 -- ---- a run counts its grants
 
-length-history : (qs : List Request) (S : State) (past : List Happening) (gs : List ℕ)
-    → length (history qs S past gs) ≡ length gs + length past
-length-history qs S past [] = omega arith
-length-history qs S past (h ∷ gs) = omega (arith, length-history qs (step qs S h) (happened qs S h ∷ past) gs)
+length-history : (qs : List Request) (ws : List Wait) (S : State) (past : List Happening) (gs : List ℕ)
+    → length (history qs ws S past gs) ≡ length gs + length past
+length-history qs ws S past [] = omega arith
+length-history qs ws S past (h ∷ gs) = omega (arith, length-history qs ws (step qs ws S h) (happened qs ws S h ∷ past) gs)
 
 -- ---- after any grants for heads
 
@@ -81,10 +84,10 @@ module _ {origin : Start} (j : Job) (initial : Initial (j .nodes) origin) (admit
       (historyAfter origin j gs)
   after-invariant =
       let playable = after-playable j admitted gs granted in
-      started-invariant playable (initial-startable (playable .few) initial)
+      started-invariant playable (j .waits) (initial-startable (playable .few) initial)
 
   pub after-now : stateAfter origin j gs .now ≡ length gs
-  after-now = omega (arith, after-invariant .clock, length-history (j .requests) (startOf origin j) [] gs)
+  after-now = omega (arith, after-invariant .clock, length-history (j .requests) (j .waits) (startOf origin j) [] gs)
 
 -- ---- what an accepted file says
 
@@ -98,13 +101,16 @@ module _ {file : List ℕ} {counts : Checked} (playing : Playing file counts) wh
       record { x = s .x; y = s .y }
 
   pub reached : {origin : Start} {b : Buffers} {number : ℕ} {gs lent : List ℕ} → Standing origin (meaning file .job) b number gs lent
-      → Reached origin (requestsIn file) (meaning file .job .nodes) b number
+      → Reached origin (requestsIn file) (waitsIn file) (meaning file .job .nodes) b number
       (stateAfter origin (meaning file .job) gs) (historyAfter origin (meaning file .job) gs) lent
   reached {origin} {gs = gs} standing =
       record {
         invariant = after-invariant (meaning file .job) (standing .initial) playing-admitted gs (standing .granted);
-        heads = run-heads (requestsIn file) (startOf origin (meaning file .job)) gs ∙ length-heads (requestsIn file) 0 mostHeads;
+        heads = run-heads (requestsIn file) (waitsIn file) (startOf origin (meaning file .job)) gs
+            ∙ length-heads (requestsIn file) 0 mostHeads;
         shows = standing .shows;
+        unwaiting = run-unwaiting (requestsIn file) (waitsIn file) (startOf origin (meaning file .job)) gs
+            (start-unwaiting (requestsIn file) mostHeads (origin .table));
         next = omega (arith, standing .next, after-now (meaning file .job) (standing .initial) playing-admitted gs (standing .granted));
         room = standing .room;
       }

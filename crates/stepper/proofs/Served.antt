@@ -1,20 +1,25 @@
 -- One served grant: the buffers that showed a state show the state after the rules' step.
 --
 -- Main laws: served-shown, by what each part of the grant left; step-served and happened-served, what the step is.
-use mathlib.Core.Path.{_≡_, refl, sym, ap, ap₂, _∙_, subst}
-use mathlib.Core.Bool.{true, cond}
+use mathlib.Core.Path.{_≡_, refl, sym, ap, ap₂, _∙_, subst, subst₂}
+use mathlib.Core.Bool.{true, false, cond}
 use mathlib.Core.List.{List, _++_, map}
 use Prim.Native.Nat.{ℕ, suc, _+_, _*_, _-_, _^_, _<_}
 use native.Mathlib.Omega.{arith}
+use native.Mathlib.Decide.{ℕ-discrete}
 use lib.Dec.{eqb, ltb}
 use lib.ListN.{length, getD, set, drop}
-use Rattle.basics.proofs.Conditions.{split}
-use Rattle.job.specs.Job.{mostHeads}
+use lib.Seq.{getD-set-same, getD-set-other}
+use borrow.Author.Tests.{eqb-true, eq-eqb, ne-eqb}
+use Rattle.basics.proofs.Conditions.{split, both-left}
+use Rattle.basics.proofs.Lists.{getD-mapped}
+use Rattle.job.specs.Job.{answerNumber, mostHeads}
 use Rattle.job.specs.declared.Request.{Request}
+use Rattle.job.specs.declared.Wait.{Wait}
 use Rattle.word.specs.Word.{decode, encode}
 use Rattle.process.specs.declared.Head.{Head}
 use Rattle.process.specs.declared.Advanced.{Advanced}
-use Rattle.process.specs.Process.{Raisable}
+use Rattle.process.specs.Process.{Raisable, isResting, noWait, waitingFor}
 use Rattle.process.specs.Access.{accessOf}
 use Rattle.process.specs.Advance.{advanceOf}
 use Rattle.forest.proofs.Sound.{rank-limit}
@@ -23,34 +28,39 @@ use Rattle.linearization.specs.Entry.{flat, inserted}
 use Rattle.mask.specs.Mask.{maskOf}
 use Rattle.mask.proofs.Laws.{mask-kept, mask-left}
 use Rattle.rules.specs.Table.{parent, rank, seen, touched}
-use Rattle.rules.specs.Report.{charge, noRow}
-use Rattle.rules.specs.State.{State, resting, hasWork}
+use Rattle.rules.specs.declared.Row.{Row}
+use Rattle.rules.specs.Report.{charge, noRow, rowAt, unfinished, isFinal}
+use Rattle.rules.specs.State.{State, resting, hasWork, waitOf}
 use Rattle.rules.specs.Start.{Start}
-use Rattle.rules.specs.Step.{ready, headAt, advanced, settled, entered, served, step}
+use Rattle.rules.specs.Step.{isServed, ready, headAt, advanced, settled, entered, served, step}
 use Rattle.rules.specs.Run.{Happening, actionOf, happened}
 use Rattle.rules.specs.Run.Happening.{serving}
+use Rattle.rules.proofs.History.{final-number, not-final-number}
 use Rattle.rules.proofs.Invariant.{momentOf, Invariant}
 use Rattle.rules.proofs.Serving.{Serving}
+use Rattle.rules.proofs.Waits.{next-unwaiting}
 use Rattle.table.specs.Touch.{Within, Worded, Touchable}
 use Rattle.table.proofs.Words.{decode-words}
 use Rattle.table.proofs.Within.{access-within}
-use Rattle.stepper.specs.Buffers.{rowIn, stored, flatRows}
-use Rattle.stepper.specs.Shown.{Buffers, shown}
-use Rattle.stepper.proofs.Lists.{row-shown, stored-shown}
+use Rattle.stepper.specs.Buffers.{rowIn, stored, flatRows, rowsOf}
+use Rattle.stepper.specs.Shown.{Buffers, noted, shown}
+use Rattle.stepper.specs.Waits.{frees, Renewable}
+use Rattle.stepper.proofs.Lists.{row-shown, stored-shown, rows-back}
 use Rattle.stepper.proofs.Shown.{entered-shown, count-shown}
 use Rattle.stepper.proofs.Raisable.{stage-raisable}
 use Rattle.stepper.proofs.Reached.{Reached}
+use Rattle.stepper.proofs.Waiting.{noted-free, busy-free, none-free, noted-same, Answered, renewable, again-shown, left-shown}
 
--- What the step of a head with work left is.
-pub step-served : (qs : List Request) (S : State) (h : ℕ) → hasWork qs (headAt S h) ≡ true
-    → step qs S h ≡ served qs S h (ready qs (headAt S h))
+-- What the step of a head is that is served.
+pub step-served : (qs : List Request) (ws : List Wait) (S : State) (h : ℕ) → isServed qs ws (S .report) (headAt S h) ≡ true
+    → step qs ws S h ≡ served qs S h (ready qs (headAt S h))
 unfolding step
-step-served qs S h t = rw t refl
+step-served qs ws S h t = rw t refl
 
-pub happened-served : (qs : List Request) (S : State) (h : ℕ) → hasWork qs (headAt S h) ≡ true
-    → happened qs S h ≡ serving (ready qs (headAt S h) .task .request) (actionOf S (ready qs (headAt S h)))
+pub happened-served : (qs : List Request) (ws : List Wait) (S : State) (h : ℕ) → isServed qs ws (S .report) (headAt S h) ≡ true
+    → happened qs ws S h ≡ serving (ready qs (headAt S h) .task .request) (actionOf S (ready qs (headAt S h)))
 unfolding happened
-happened-served qs S h t = rw t refl
+happened-served qs ws S h t = rw t refl
 
 -- A table of a run has words.
 pub invariant-worded : {qs : List Request} {n groups : ℕ} {B : Labels} {S : State} {past : List Happening} → Invariant qs n B groups S past
@@ -61,8 +71,16 @@ invariant-worded {n = n} inv =
       parent = λ i h. omega (arith, inv .sound .formed .limit, inv .sound .formed .inside i (omega (arith, inv .nodes)));
     }
 
-module _ {origin : Start} {qs : List Request} {n : ℕ} {b : Buffers} {number : ℕ} {S : State} {past : List Happening} {lent : List ℕ}
-    (here : Reached origin qs n b number S past lent) (h : ℕ) (present : h < mostHeads)
+-- A head's record.
+pub record-shown : {origin : Start} {qs : List Request} {ws : List Wait} {n : ℕ} {b : Buffers} {number : ℕ} {S : State}
+    {past : List Happening} {lent : List ℕ} → Reached origin qs ws n b number S past lent → (h : ℕ) → h < mostHeads
+    → getD (b .heads) h (resting 0) ≡ noted ws (S .report) (headAt S h)
+record-shown {ws = ws} {S = S} here h present =
+    ap (λ c. getD (c .heads) h (resting 0)) (here .shows)
+    ∙ getD-mapped (noted ws (S .report)) (S .heads) h (resting 0) (resting 0) (omega (arith, here .heads))
+
+module _ {origin : Start} {qs : List Request} {ws : List Wait} {n : ℕ} {b : Buffers} {number : ℕ} {S : State} {past : List Happening}
+    {lent : List ℕ} (here : Reached origin qs ws n b number S past lent) (h : ℕ) (present : h < mostHeads)
     (in-service : Serving qs n (origin .labels) S past h (ready qs (headAt S h))) where
   abbrev head : Head
   head = ready qs (headAt S h)
@@ -73,9 +91,10 @@ module _ {origin : Start} {qs : List Request} {n : ℕ} {b : Buffers} {number : 
       subst (λ k. Within k (accessOf head)) (sym (here .invariant .nodes))
       (access-within (momentOf qs n (origin .labels) S) _ (head .task) (head .stage) (in-service .knows))
 
-  -- the head is as the rules have it
-  pub head-shown : ready qs (getD (b .heads) h (resting 0)) ≡ head
-  head-shown = ap (λ c. ready qs (getD (c .heads) h (resting 0))) (here .shows)
+  -- the head is as the rules have it, but for what it waits for
+  pub head-shown : waitOf ws (S .report) (headAt S h) ≡ noWait → ready qs (getD (b .heads) h (resting 0)) ≡ head
+  head-shown free =
+      ap (ready qs) (record-shown here h present ∙ noted-free ws (S .report) (headAt S h) (here .unwaiting h) free)
 
   -- the words are those of the rules' nodes
   nodes-shown : map decode (b .table) ≡ S .table
@@ -119,8 +138,11 @@ module _ {origin : Start} {qs : List Request} {n : ℕ} {b : Buffers} {number : 
     table-shown : table′ ≡ map encode (touched (S .table) (accessOf head))
     table-shown = is-table ∙ ap (λ t. map encode (touched t (accessOf head))) nodes-shown
 
-    report-shown : report′ ≡ flatRows (set (S .report) (head .task .request)
-        (charge (getD (S .report) (head .task .request) noRow) (suc (S .now)) (advanced S head .event .answer)))
+    abbrev rows : List Row
+    rows = set (S .report) (head .task .request)
+        (charge (getD (S .report) (head .task .request) noRow) (suc (S .now)) (advanced S head .event .answer))
+
+    pub report-shown : report′ ≡ flatRows rows
     report-shown =
         let old = getD (S .report) (head .task .request) noRow in
         let new = charge old (suc (S .now)) (advanced S head .event .answer) in
@@ -151,23 +173,107 @@ module _ {origin : Start} {qs : List Request} {n : ℕ} {b : Buffers} {number : 
         (λ t. rw t (sym (mask-kept (hasWork qs) (resting 0) (S .heads) h (settled qs h (advanced S head)) (t ∙ sym work))))
         (λ t. rw t (mask-left (hasWork qs) (resting 0) (S .heads) h (omega (arith, here .heads)) work (settled qs h (advanced S head)) t))
 
-    pub served-shown : hasWork qs (headAt S h) ≡ true
+    -- ---- what the heads wait for
+
+    abbrev seats : List Head
+    seats = set (map (noted ws (S .report)) (S .heads)) h (settled qs h (advanced S head))
+
+    -- the records before they are looked at again
+    pub seats-shown : set (b .heads) h next ≡ seats
+    seats-shown = ap₂ (λ c k. set (c .heads) h k) (here .shows) to-next
+
+    answer-now : rowAt rows (head .task .request) .answer ≡ answerNumber (advanced S head .event .answer)
+    unfolding charge
+    answer-now =
+        ap (λ r. r .answer)
+        (getD-set-same (S .report) (head .task .request) _ noRow (omega (arith, in-service .within, here .invariant .reports)))
+
+    -- where the request is finished
+    final-answered : isFinal (advanced S head .event .answer) ≡ true → Answered (S .report) rows (head .task .request)
+    final-answered final =
+        record {
+          finished = ne-eqb (rowAt rows (head .task .request) .answer) 0 (λ z.
+              final-number (advanced S head .event .answer) final (sym answer-now ∙ z));
+          others = λ e d. ap (λ r. eqb (r .answer) 0) (getD-set-other (S .report) (head .task .request) e _ noRow d);
+        }
+
+    pub seats-renewable : isFinal (moved .event .answer) ≡ true
+        → Renewable ws (rowsOf report′) (set (b .heads) h next) h (head .task .request)
+    seats-renewable final =
+        subst₂ (λ r s. Renewable ws r s h (head .task .request))
+        (sym (ap rowsOf report-shown ∙ rows-back rows)) (sym seats-shown)
+        (renewable ws (final-answered (ap (λ m. isFinal (m .event .answer)) (sym to-advanced) ∙ final))
+        (S .heads) h (settled qs h (advanced S head)) (here .heads))
+
+    -- where it is not, every answer stays
+    kept-answers : isFinal (advanced S head .event .answer) ≡ false → (e : ℕ) → unfinished rows e ≡ unfinished (S .report) e
+    kept-answers f e = go (ℕ-discrete e (head .task .request))
+      where
+        r : ℕ
+        r = head .task .request
+
+        go : Dec (e ≡ head .task .request) → unfinished rows e ≡ unfinished (S .report) e
+        go (yes is) =
+            rw is (eq-eqb (rowAt rows r .answer) 0 (answer-now ∙ not-final-number (advanced S head .event .answer) f)
+            ∙ sym (eq-eqb (rowAt (S .report) r .answer) 0
+            (ap (λ w. w .answer) (here .invariant .rows r (in-service .within)) ∙ in-service .unfinished)))
+        go (no d) = ap (λ w. eqb (w .answer) 0) (getD-set-other (S .report) r e _ noRow d)
+
+    -- a head that is not freed keeps its record
+    module _ (busy : isFinal (advanced S head .event .answer) ≡ false → isResting (advanced S head .head) ≡ false)
+        (kept : frees (length ws) (advanced S head .event .answer) ≡ false) where
+      abbrev last : Head
+      last = settled qs h (advanced S head)
+
+      others-stay : (k : Head) → noted ws rows k ≡ noted ws (S .report) k
+      others-stay k =
+          split (eqb (length ws) 0)
+          (λ t. let none = eqb-true (length ws) 0 t in ap (waitingFor k) (none-free ws none rows k ∙ sym (none-free ws none (S .report) k)))
+          (λ f. noted-same ws (S .report) rows (kept-answers (rw f at kept)) k)
+
+      next-stays : noted ws rows last ≡ last
+      next-stays =
+          noted-free ws rows last (next-unwaiting qs S h (here .unwaiting))
+          (split (eqb (length ws) 0)
+          (λ t. none-free ws (eqb-true (length ws) 0 t) rows last)
+          (λ f. let going = rw f at kept in busy-free ws rows last (rw going (busy going))))
+
+      left-here : seats ≡ map (noted ws rows) (set (S .heads) h last)
+      left-here = left-shown ws (S .report) rows (S .heads) h last others-stay next-stays
+
+    heads-shown : (heads′ : List Head) → (isFinal (advanced S head .event .answer) ≡ false → isResting (advanced S head .head) ≡ false)
+        → heads′ ≡ cond (frees (length ws) (moved .event .answer)) (map (noted ws (rowsOf report′)) (set (b .heads) h next))
+        (set (b .heads) h next)
+        → heads′ ≡ map (noted ws rows) (set (S .heads) h (settled qs h (advanced S head)))
+    heads-shown heads′ busy is =
+        let back : rowsOf report′ ≡ rows = ap rowsOf report-shown ∙ rows-back rows in
+        is
+        ∙ (λ i. cond (frees (length ws) (to-advanced i .event .answer)) (map (noted ws (back i)) (seats-shown i)) (seats-shown i))
+        ∙ split (frees (length ws) (advanced S head .event .answer))
+        (λ t. rw t (again-shown ws (S .report) rows (S .heads) h (settled qs h (advanced S head))))
+        (λ f. rw f (left-here busy f))
+
+    pub served-shown : (heads′ : List Head)
+        → (isFinal (advanced S head .event .answer) ≡ false → isResting (advanced S head .head) ≡ false)
+        → heads′ ≡ cond (frees (length ws) (moved .event .answer)) (map (noted ws (rowsOf report′)) (set (b .heads) h next))
+        (set (b .heads) h next)
+        → isServed qs ws (S .report) (headAt S h) ≡ true
         → record {
-          heads = set (b .heads) h next;
+          heads = heads′;
           table = table′;
           report = report′;
           linearization = linearization′;
           entries = entries′;
           mask = mask′;
         }
-        ≡ shown qs (step qs S h) lent
-    served-shown work =
+        ≡ shown qs ws (step qs ws S h) lent
+    served-shown heads′ busy is-heads served =
         (λ i. record {
-          heads = set (here .shows i .heads) h (to-next i);
+          heads = heads-shown heads′ busy is-heads i;
           table = table-shown i;
           report = report-shown i;
           linearization = linearization-shown i;
           entries = entries-shown i;
-          mask = mask-shown work i;
+          mask = mask-shown (both-left (hasWork qs (headAt S h)) _ served) i;
         })
-        ∙ ap (λ T. shown qs T lent) (sym (step-served qs S h work))
+        ∙ ap (λ T. shown qs ws T lent) (sym (step-served qs ws S h served))

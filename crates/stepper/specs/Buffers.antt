@@ -3,6 +3,7 @@
 --   rowIn numbers at         the row whose four numbers start at a place
 --   stored numbers at row    the report with those four written
 --   flatRows rows            the report's numbers, four a request
+--   rowsOf numbers           the rows of a report, four numbers each
 use mathlib.Core.List.{List, [], _∷_}
 use Prim.Native.Nat.{ℕ, _+_}
 use lib.ListN.{getD, set}
@@ -20,3 +21,11 @@ stored numbers at row =
 abbrev pub flatRows : List Row → List ℕ
 flatRows [] = []
 flatRows (row ∷ rows) = row .answer ∷ row .first ∷ row .last ∷ row .used ∷ flatRows rows
+
+-- The same read back.
+abbrev pub rowsOf : List ℕ → List Row
+rowsOf [] = []
+rowsOf (a ∷ []) = []
+rowsOf (a ∷ f ∷ []) = []
+rowsOf (a ∷ f ∷ l ∷ []) = []
+rowsOf (a ∷ f ∷ l ∷ u ∷ numbers) = record { answer = a; first = f; last = l; used = u } ∷ rowsOf numbers

@@ -2,9 +2,10 @@
 --
 --   Buffers                   heads, table, report, linearization, the number of entries and the work mask
 --   buffers ..                the same, by its parts
---   shown qs S lent           what the buffers hold in state S; numbers past the entries are as lent
---   Done, doneOf a            what a grant adds to the tally
---   requestsIn file           the requests of a file
+--   noted ws report head      the head with what it waits for in its record
+--   shown qs ws S lent        what the buffers hold in state S; numbers past the entries are as lent
+--   Done, idleDone, doneOf a  what a grant adds to the tally
+--   requestsIn file, waitsIn file   the requests and the pairs of a file
 --   startOf origin j          the rules' state of the job j before its first grant, from that start
 --   stateAfter origin j gs    the same after the grants gs
 --   historyAfter origin j gs  what those grants were, the newest first
@@ -19,16 +20,19 @@ use mathlib.Core.List.{List, [], _++_, map, List·Memᴰ}
 use Prim.Native.Nat.{ℕ, suc, _*_, _≤_, _<_}
 use lib.ListN.{length, drop}
 use Rattle.job.specs.declared.Request.{Request}
+use Rattle.job.specs.declared.Wait.{Wait}
 use Rattle.job.specs.Job.{Job, mostHeads}
 use Rattle.word.specs.Word.{encode}
 use Rattle.process.specs.declared.Head.{Head}
+use Rattle.process.specs.Process.{waitingFor}
 use Rattle.linearization.specs.Entry.{flat}
 use Rattle.jobfile.specs.Meaning.{meaning}
 use Rattle.jobfile.specs.Admitted.{Bytes}
 use Rattle.mask.specs.Mask.{maskOf}
 use Rattle.reader.specs.declared.Checked.{Checked}
 use Rattle.reader.specs.Reader.{countsOf}
-use Rattle.rules.specs.State.{State, start, hasWork}
+use Rattle.rules.specs.declared.Row.{Row}
+use Rattle.rules.specs.State.{State, start, hasWork, waitOf}
 use Rattle.rules.specs.Start.{Start, Initial}
 use Rattle.rules.specs.Step.{step}
 use Rattle.rules.specs.Run.{Happening, run, happened, history}
@@ -48,10 +52,14 @@ abbrev pub buffers : List Head → List ℕ → List ℕ → List ℕ → ℕ �
 buffers heads table report linearization entries mask =
     record { heads = heads; table = table; report = report; linearization = linearization; entries = entries; mask = mask }
 
-abbrev pub shown : List Request → State → List ℕ → Buffers
-shown qs S lent =
+-- (02, A3) The head record has what the head waits for; the rules tell it by the report.
+abbrev pub noted : List Wait → List Row → Head → Head
+noted ws report head = waitingFor head (waitOf ws report head)
+
+abbrev pub shown : List Request → List Wait → State → List ℕ → Buffers
+shown qs ws S lent =
     record {
-      heads = S .heads;
+      heads = map (noted ws (S .report)) (S .heads);
       table = map encode (S .table);
       report = flatRows (S .report);
       linearization = flat (S .entries) ++ drop (2 * length (S .entries)) lent;
@@ -59,8 +67,13 @@ shown qs S lent =
       mask = maskOf (map (hasWork qs) (S .heads));
     }
 
+-- What a grant adds to the tally that serves nobody,
+abbrev pub idleDone : Done
+idleDone = record { idle = true; failed = false; linked = false }
+
+-- and what every grant adds.
 abbrev pub doneOf : Happening → Done
-doneOf idle = record { idle = true; failed = false; linked = false }
+doneOf idle = idleDone
 doneOf (serving q act) = record { idle = false; failed = act .event .failed; linked = act .event .linked }
 
 -- Every job is played with sixteen heads; those that it does not have get no request and no grant.
@@ -68,15 +81,15 @@ abbrev pub startOf : Start → Job → State
 startOf origin j = start (j .requests) mostHeads (origin .table)
 
 abbrev pub stateAfter : Start → Job → List ℕ → State
-stateAfter origin j gs = run (j .requests) (startOf origin j) gs
+stateAfter origin j gs = run (j .requests) (j .waits) (startOf origin j) gs
 
 abbrev pub historyAfter : Start → Job → List ℕ → List Happening
-historyAfter origin j gs = history (j .requests) (startOf origin j) [] gs
+historyAfter origin j gs = history (j .requests) (j .waits) (startOf origin j) [] gs
 
 -- The buffers b show the state of the job j after the grants gs, and the next grant is the one of that number.
 pub record Standing (origin : Start) (j : Job) (b : Buffers) (number : ℕ) (gs lent : List ℕ) : Type 0 where
   pub initial : Initial (j .nodes) origin
-  pub shows : b ≡ shown (j .requests) (stateAfter origin j gs) lent
+  pub shows : b ≡ shown (j .requests) (j .waits) (stateAfter origin j gs) lent
   pub next : number ≡ suc (length gs)
   -- every grant so far was for a head
   pub granted : (h : ℕ) → List·Memᴰ h gs → h < mostHeads
@@ -86,6 +99,10 @@ pub record Standing (origin : Start) (j : Job) (b : Buffers) (number : ℕ) (gs 
 -- "played record by record and stored nowhere else": the requests are read from the file itself.
 abbrev pub requestsIn : List ℕ → List Request
 requestsIn file = meaning file .job .requests
+
+-- So are the pairs.
+abbrev pub waitsIn : List ℕ → List Wait
+waitsIn file = meaning file .job .waits
 
 pub record Playing (file : List ℕ) (counts : Checked) : Type 0 where
   pub accepted : meaning file .number ≡ 0
@@ -102,8 +119,9 @@ pub record Grantable (file : List ℕ) (counts : Checked) (h number : ℕ) (b : 
 
 -- After the grants gs, one for head h leaves buffers that show the rules' step, and it was what the rules say.
 pub record Stepped (file : List ℕ) (h : ℕ) (b′ : Buffers) (was : Done) (origin : Start) (gs lent : List ℕ) : Type 0 where
-  pub buffers : b′ ≡ shown (requestsIn file) (step (requestsIn file) (stateAfter origin (meaning file .job) gs) h) lent
-  pub done : was ≡ doneOf (happened (requestsIn file) (stateAfter origin (meaning file .job) gs) h)
+  pub buffers : b′ ≡ shown (requestsIn file) (waitsIn file)
+      (step (requestsIn file) (waitsIn file) (stateAfter origin (meaning file .job) gs) h) lent
+  pub done : was ≡ doneOf (happened (requestsIn file) (waitsIn file) (stateAfter origin (meaning file .job) gs) h)
 
 -- So it is after any grants, from any start, whose state the buffers b show at the grant of that number.
 abbrev pub Grants : List ℕ → ℕ → ℕ → Buffers → Buffers → Done → Type 0

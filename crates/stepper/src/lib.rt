@@ -2,20 +2,24 @@
 mod buffers;
 mod heads;
 pub mod requests;
+pub mod waits;
 
 use crate::buffers::charge_row;
 use crate::buffers::enter;
 use crate::heads::ready_head;
 use crate::heads::settled_head;
+use crate::waits::first_due;
+use crate::waits::renewed_head;
 use job::MOST_HEADS;
+use process::Event;
 use process::Head;
 use reader::Checked;
 use word::Word;
 ghost use mathlib.Core.Path.{_≡_};
-ghost use mathlib.Core.Bool.{true, cond};
+ghost use mathlib.Core.Bool.{true, false, cond};
 ghost use Prim.Native.Nat.{_-_, _/_, _%_, _^_, _≤_, _<_};
 ghost use lib.Dec.{eqb, ltb};
-ghost use Rattle.stepper.specs.Shown.{buffers, requestsIn, Grantable, Grants};
+ghost use Rattle.stepper.specs.Shown.{buffers, idleDone, requestsIn, Grantable, Grants};
 ghost use Rattle.stepper.specs.Index.{Indexes};
 
 // What a grant takes and leaves by value: the heads of every play. Those that a job does not have get no request and no grant.
@@ -48,7 +52,36 @@ fn work_left(mask: u32, h: u32, next: u16, requests: u32) -> u32
     mask::cleared(mask, h)
 }
 
-// A grant that serves head h: one access, and what it leaves.
+// What a grant leaves that serves nobody: everything as it is.
+fn idled(heads: Heads, entries: u32, mask: u32) -> Granted
+    ensures { λ r. ⌜ r ≡ record { heads = heads; entries = entries; mask = mask; done = idleDone } ⌝ }
+{
+    Granted {
+        heads,
+        entries,
+        mask,
+        done: Done {
+            idle: true,
+            failed: false,
+            linked: false,
+        },
+    }
+}
+
+// What a grant adds to the tally that served a head.
+fn done_of(event: Event) -> Done
+    ensures { λ r. ⌜ r ≡ record { idle = false; failed = event .failed; linked = event .linked } ⌝ }
+{
+    Done {
+        idle: false,
+        failed: event.failed,
+        linked: event.linked,
+    }
+}
+
+// A grant to head h, which has work left: one access, and what it leaves; or nothing, where the head waits, which the record
+// tells that is read anyway. The loop over the records stands here, because the array keeps to its registers only so
+// (docs/DECISIONS.md, "Heads by value, and speed").
 fn serve(
     file: &[u8],
     successors: &[u16],
@@ -70,7 +103,11 @@ fn serve(
         (buffers (r .heads) (now (table .exit)) (now (report .exit)) (now (linearization .exit)) (r .entries) (r .mask)) (r .done) ⌝ }
 {
     let at = h as usize;
-    let head = ready_head(file, counts, heads[at]);
+    let found = heads[at];
+    if process::is_waiting(found) {
+        return idled(heads, entries, mask);
+    }
+    let head = ready_head(file, counts, found);
     let moved = table::stepped(table, head, number);
     let event = moved.event;
     let answer = event.answer;
@@ -79,15 +116,16 @@ fn serve(
     let task = head.task;
     charge_row(report, task.request, number, answer);
     let listed = enter(linearization, entries, event.point, task.request as u32);
+    let mut k = first_due(counts, answer);
+    while k < MOST_HEADS {
+        heads[k] = renewed_head(file, counts, report, heads[k], k as u32, h, task.request);
+        k += 1;
+    }
     Granted {
         heads,
         entries: listed,
         mask: work_left(mask, h, next.task.request, counts.requests),
-        done: Done {
-            idle: false,
-            failed: event.failed,
-            linked: event.linked,
-        },
+        done: done_of(event),
     }
 }
 
@@ -127,14 +165,5 @@ pub fn grant(
             mask,
         );
     }
-    Granted {
-        heads,
-        entries,
-        mask,
-        done: Done {
-            idle: true,
-            failed: false,
-            linked: false,
-        },
-    }
+    idled(heads, entries, mask)
 }

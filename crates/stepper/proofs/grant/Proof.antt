@@ -1,7 +1,7 @@
 -- `stepper::grant`: idle where the mask has no bit, else served.
 use mathlib.Core.Path.{sym, _∙_}
 use native.Mathlib.Omega.{arith}
-use Rattle.stepper.proofs.Needs.{idle-shown, idle-done}
+use Rattle.stepper.proofs.Needs.{idle-stepped}
 use borrow.Author.Needs.{needs}
 use Rattle.stepper.proofs.grant.Statement.{statement}
 use Rattle.stepper.proofs.grant.Tie as tie
@@ -31,12 +31,13 @@ returns c = c .before .before .before .before .before .before .serve .ensures
 
 returns-2 : tie.Need-returns-2
 returns-2 c =
-    let p = start (c .before .before) .pre .0 in
-    let t = sym (c .before .is-set .ensures) ∙ c .if1 .left in
+    let tested = c .before .before in
+    let p = start (tested .before) .pre .0 in
     λ origin gs lent standing.
-    record { buffers = idle-shown (p .playing) (p .head) standing t; done = idle-done (p .playing) (p .head) standing t }
+    idle-stepped (p .playing) (p .head) standing (c .idled .result) (c .idled .ensures)
+    (sym (tested .is-set .ensures) ∙ c .before .if1 .left)
 
 pub grant-spec : {M : Type 1} → statement M
 grant-spec =
     tie.close (tie.spec is-set-requires serve-requires (λ c. search needs) (λ c. search needs) (λ c. search needs) returns
-    returns-2)
+    (λ c κs. search needs) returns-2)
