@@ -7,7 +7,7 @@ use word::Word;
 use writer::Written;
 ghost use mathlib.Core.Path.{_≡_};
 ghost use Rattle.player.specs.Player.{left, playedOf};
-ghost use Rattle.player.specs.Demand.{LinearizedHere, LawfulHere};
+ghost use Rattle.player.specs.Demand.{LinearizedHere, LawfulHere, WaitedHere};
 ghost use Rattle.writer.specs.Write.{given, writes};
 ghost use Rattle.query.specs.Query.{queried};
 ghost use Rattle.query.specs.Faithful.{Faithful};
@@ -26,23 +26,26 @@ pub extern "C" fn grouping_play(
     ensures linearized { λ r. ⌜ (r .number ≡ 0
         → LinearizedHere (now (file .entry)) r (now (table .exit)) (now (report .exit)) (now (linearization .exit))) ⌝ }
     ensures lawful { λ r. ⌜ (r .number ≡ 0 → LawfulHere (now (file .entry)) r (now (table .exit)) (now (report .exit))) ⌝ }
+    ensures waited { λ r. ⌜ (r .number ≡ 0 → WaitedHere (now (file .entry)) r (now (report .exit)) (now (linearization .exit))) ⌝ }
 {
     player::play(file, table, report, linearization)
 }
 
-// Writes the file of a job, from four numbers a request and one head number a grant.
+// Writes the file of a job, from four numbers a request, two a pair of requests (the later one, the earlier one) and one head
+// number a grant.
 #[no_mangle]
 pub extern "C" fn grouping_write(
     nodes: u32,
     heads: u32,
     requests: &[u32],
+    waits: &[u32],
     grants: &[u8],
     out: &mut [u8],
 ) -> Written
     ensures { λ r. ⌜ record { answer = r; out = now (out .exit) }
-        ≡ writes (given nodes heads (now (requests .entry)) (now (grants .entry))) (now (out .entry)) ⌝ }
+        ≡ writes (given nodes heads (now (requests .entry)) (now (waits .entry)) (now (grants .entry))) (now (out .entry)) ⌝ }
 {
-    writer::write(nodes, heads, requests, grants, out)
+    writer::write(nodes, heads, requests, waits, grants, out)
 }
 
 // Makes a counter enquiry: are x and y in one set, within a budget of grants?

@@ -14,7 +14,7 @@ ghost use mathlib.Core.Path.{_≡_};
 ghost use Rattle.turns.specs.Turns.{Addable, countedOf, buffersOf};
 ghost use Rattle.player.specs.Player.{left, playedOf};
 ghost use Rattle.player.specs.Plan.{TurnableOn, TurnsOn};
-ghost use Rattle.player.specs.Demand.{LinearizedHere, LawfulHere};
+ghost use Rattle.player.specs.Demand.{LinearizedHere, LawfulHere, WaitedHere};
 ghost use Rattle.lent.specs.Lent.{tallyLeft};
 
 // One grant without an index: the next request of a head is searched in the file.
@@ -68,6 +68,7 @@ pub extern "C" fn grouping_play_lent(
     ensures linearized { λ r. ⌜ (r .number ≡ 0
         → LinearizedHere (now (file .entry)) r (now (table .exit)) (now (report .exit)) (now (linearization .exit))) ⌝ }
     ensures lawful { λ r. ⌜ (r .number ≡ 0 → LawfulHere (now (file .entry)) r (now (table .exit)) (now (report .exit))) ⌝ }
+    ensures waited { λ r. ⌜ (r .number ≡ 0 → WaitedHere (now (file .entry)) r (now (report .exit)) (now (linearization .exit))) ⌝ }
 {
     let plan = prepare(file, table, report, linearization);
     let counts = plan.counts;

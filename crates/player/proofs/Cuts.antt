@@ -65,6 +65,8 @@ module _ (j : Job) (admitted : Admitted j) (k : ℕ) where
         few-heads = admitted .few-heads;
         few-requests = admitted .few-requests;
         each-request = admitted .each-request;
+        each-wait = admitted .each-wait;
+        rising = admitted .rising;
         each-grant = λ g none l.
             omega (arith, getD-take k (j .schedule) g none l, admitted .each-grant g none (omega (arith, l, length-cut k (j .schedule))));
         short = omega (arith, cut-short, admitted .short);
@@ -90,7 +92,8 @@ module _ (file : List ℕ) (bytes : Bytes file) (accepts : meaning file .number 
 
   whole-cut : (k : ℕ) → length (j .schedule) ≤ k → cut k j ≡ j
   whole-cut k all =
-      ap (λ gs. record { nodes = j .nodes; heads = j .heads; requests = j .requests; schedule = gs }) (take-all k (j .schedule) all)
+      ap (λ gs. record { nodes = j .nodes; heads = j .heads; requests = j .requests; waits = j .waits; schedule = gs })
+      (take-all k (j .schedule) all)
 
   module _ (table report linearization : List ℕ) (room : LongEnough j table report linearization) where
     cut-played : (k : ℕ) → playedOf (fileCut k file) table report linearization
@@ -118,7 +121,7 @@ module _ (file : List ℕ) (bytes : Bytes file) (accepts : meaning file .number 
         let playable = after-playable j admitted (first ++ then) (λ g m. cut-granted j admitted l g (rw all at m)) in
         subst₂ (Follows (j .nodes)) (sym (nodes-after k))
         (sym (nodes-after l ∙ ap (λ gs. stateAfter (originIn file) j gs .table) (sym all)))
-        (run-follows (j .requests) mostHeads (initial-startable (playable .few) (origin-initial file)) first then playable)
+        (run-follows (j .requests) (j .waits) mostHeads (initial-startable (playable .few) (origin-initial file)) first then playable)
 
   pub cuts : Cuts file
   cuts =

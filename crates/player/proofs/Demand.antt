@@ -1,8 +1,9 @@
--- Demand 3 and the laws of every moment on the buffers: what they hold is what the rules' run leaves, and of that both hold.
+-- Demand 3, the laws of every moment and those of waiting on the buffers: what they hold is what the rules' run leaves, and of
+-- that all three hold.
 --
--- Main laws: linearized-from and lawful-from; origin-initial, a run may start from what a play starts from.
-use mathlib.Core.Path.{_≡_, refl, sym, ap, _∙_, subst, subst₂, subst₃}
-use mathlib.Core.List.{List, [], _∷_, _++_, map}
+-- Main laws: linearized-from, lawful-from and waited-from; origin-initial, a run may start from what a play starts from.
+use mathlib.Core.Path.{_≡_, sym, ap, _∙_, subst, subst₂, subst₃}
+use mathlib.Core.List.{List, _++_, map}
 use Prim.Native.Nat.{ℕ, _*_}
 use lib.ListN.{length, take, drop, length-map}
 use lib.Seq.{take-at}
@@ -19,25 +20,21 @@ use Rattle.rules.specs.Start.{Start, Initial}
 use Rattle.rules.specs.Start.Initial.{alone}
 use Rattle.rules.specs.Linearized.{Playable, Linearized}
 use Rattle.rules.specs.Laws.{Lawful}
+use Rattle.rules.specs.Waits.{Waited}
 use Rattle.rules.proofs.Invariant.{Invariant}
 use Rattle.rules.proofs.Theorem.{Startable, initial-startable, linearized}
 use Rattle.rules.proofs.Laws.{run-lawful}
-use Rattle.stepper.specs.Buffers.{flatRows}
+use Rattle.rules.proofs.Waits.{run-waited}
+use Rattle.stepper.specs.Buffers.{flatRows, rowsOf}
 use Rattle.table.proofs.Words.{decode-words}
-use Rattle.stepper.proofs.Lists.{length-rows}
+use Rattle.stepper.proofs.Lists.{length-rows, rows-back}
 use Rattle.stepper.proofs.Served.{invariant-worded}
 use Rattle.stepper.proofs.Reached.{admitted-granted, after-playable, after-invariant, after-now}
 use Rattle.turns.specs.Turns.{runOf}
 use Rattle.player.specs.Player.{Left, cutOf, originIn}
-use Rattle.player.specs.Demand.{rowsOf, historyOf, LinearizedFrom, LawfulFrom}
+use Rattle.player.specs.Demand.{historyOf, LinearizedFrom, LawfulFrom, WaitedHere}
 
 -- ---- from buffers back to lists
-
-rows-back : (rows : List Row) → rowsOf (flatRows rows) ≡ rows
-rows-back [] = refl
-rows-back (row ∷ rows) = ap {B = List Row} (λ r. row ∷ r) (rows-back rows)
-
--- ---- the theorem, of what a play leaves
 
 module _ {origin : Start} (j : Job) (initial : Initial (j .nodes) origin) (admitted : Admitted j) where
   abbrev end : State
@@ -77,7 +74,8 @@ module _ {origin : Start} (j : Job) (initial : Initial (j .nodes) origin) (admit
       (rowsOf (take (4 * length (j .requests)) (flatRows (end .report) ++ report)))
       (entriesOf (take (2 * length (end .entries)) (flat (end .entries) ++ linearization)))
   left-linearized table report linearization =
-      subst₃ Shape (sym (table-back table)) (sym (report-back report)) (sym (entries-back linearization)) (linearized playable startable)
+      subst₃ Shape (sym (table-back table)) (sym (report-back report)) (sym (entries-back linearization))
+      (linearized playable (j .waits) startable)
 
   abbrev LawfulAt : ℕ → List Node → List Row → Type 0
   LawfulAt grants t r =
@@ -87,7 +85,7 @@ module _ {origin : Start} (j : Job) (initial : Initial (j .nodes) origin) (admit
   run-is-lawful : LawfulAt (length (j .schedule)) (end .table) (end .report)
   run-is-lawful =
       subst (λ k. LawfulAt k (end .table) (end .report)) (after-now j initial admitted (j .schedule) (admitted-granted j admitted))
-      (run-lawful (j .requests) mostHeads startable playable (j .heads) (admitted .few-heads)
+      (run-lawful (j .requests) (j .waits) mostHeads startable playable (j .heads) (admitted .few-heads)
       (λ q l. admitted .each-request q noRequest l .head))
 
   left-lawful : (table report : List ℕ)
@@ -95,6 +93,13 @@ module _ {origin : Start} (j : Job) (initial : Initial (j .nodes) origin) (admit
       (rowsOf (take (4 * length (j .requests)) (flatRows (end .report) ++ report)))
   left-lawful table report =
       subst₂ (LawfulAt (length (j .schedule))) (sym (table-back table)) (sym (report-back report)) run-is-lawful
+
+  left-waited : (report linearization : List ℕ)
+      → Waited (j .waits) (rowsOf (take (4 * length (j .requests)) (flatRows (end .report) ++ report)))
+      (entriesOf (take (2 * length (end .entries)) (flat (end .entries) ++ linearization)))
+  left-waited report linearization =
+      subst₂ (Waited (j .waits)) (sym (report-back report)) (sym (entries-back linearization))
+      (run-waited (j .requests) (j .waits) mostHeads startable playable)
 
 -- ---- of a file
 
@@ -116,3 +121,8 @@ module _ {origin : Start} (file : List ℕ) (initial : Initial (meaning file .jo
   lawful-from =
       subst (λ x. LawfulFrom origin file (x .result) (x .table) (x .report)) (sym is)
       (left-lawful j initial admitted (drop (j .nodes) table) (drop (4 * length (j .requests)) report))
+
+  pub waited-from : WaitedHere file (left .result) (left .report) (left .linearization)
+  waited-from =
+      subst (λ x. WaitedHere file (x .result) (x .report) (x .linearization)) (sym is)
+      (left-waited j initial admitted (drop (4 * length (j .requests)) report) (drop (2 * length (runOf origin j .entries)) linearization))

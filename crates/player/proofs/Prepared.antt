@@ -5,19 +5,21 @@ use mathlib.Core.Path.{_≡_, refl, sym, ap, _∙_}
 use mathlib.Core.Logic.{_≢_}
 use mathlib.Core.List.{List, _++_, map}
 use Prim.Native.Nat.{ℕ, _*_, _≤_}
-use lib.ListN.{length, take, drop, replicate}
-use lib.Seq.{length-take-le}
+use lib.ListN.{length, take, drop, replicate, length-append, length-replicate}
+use native.Mathlib.Omega.{arith}
+use lib.Seq.{length-take-le, take-at}
 use borrow.Author.Tests.{eq-eqb, ne-eqb}
 use Rattle.word.specs.Word.{encode}
+use Rattle.process.specs.declared.Task.{Task}
 use Rattle.process.specs.declared.Head.{Head}
 use Rattle.job.specs.Job.{mostHeads}
 use Rattle.jobfile.specs.Meaning.{meaning}
 use Rattle.mask.specs.Mask.{maskOf}
 use Rattle.reader.specs.declared.Checked.{Checked}
 use Rattle.rules.specs.Table.{fresh}
-use Rattle.rules.specs.State.{resting}
-use Rattle.stepper.specs.Shown.{requestsIn, Playing}
-use Rattle.start.specs.Start.{firstRequests, isRequest}
+use Rattle.stepper.specs.Buffers.{rowsOf}
+use Rattle.stepper.specs.Shown.{requestsIn, waitsIn, Playing}
+use Rattle.start.specs.Start.{firstRequests, firstTask, atRest, isRequest}
 use Rattle.start.proofs.Start.{first-heads, first-flags}
 use Rattle.turns.specs.declared.Progress.{Progress}
 use Rattle.turns.specs.Turns.{firstProgress}
@@ -42,10 +44,29 @@ module _ {file : List ℕ} {counts : Checked} (playing : Playing file counts) wh
     laid-rows : length (take (4 * counts .requests) report) ≡ 4 * length (requestsIn file)
     laid-rows = length-take-le (4 * counts .requests) report rows ∙ rows-are
 
-    pub laid : (firsts : List ℕ) (heads : List Head) (mask : ℕ) (words zeros : List ℕ) (progress : Progress)
+    -- the report is as long as it was
+    pub cleared-long : (zeros : List ℕ) → zeros ≡ replicate (length (take (4 * counts .requests) report)) 0
+        → 4 * counts .requests ≤ length (zeros ++ drop (4 * counts .requests) report)
+    cleared-long zeros is =
+        omega (
+          arith,
+          length-append zeros (drop (4 * counts .requests) report),
+          ap length is,
+          length-replicate {A = ℕ} (length (take (4 * counts .requests) report)) 0,
+          length-take-le (4 * counts .requests) report rows,
+        )
+
+    pub cleared-part : (zeros : List ℕ) → zeros ≡ replicate (length (take (4 * counts .requests) report)) 0
+        → 4 * counts .requests ≤ length (take (4 * counts .requests) (zeros ++ drop (4 * counts .requests) report))
+    cleared-part zeros is =
+        omega (arith, length-take-le (4 * counts .requests) (zeros ++ drop (4 * counts .requests) report) (cleared-long zeros is))
+
+    pub laid : (firsts : List ℕ) (tasks : List Task) (heads : List Head) (mask : ℕ) (words zeros : List ℕ) (progress : Progress)
         → words ≡ map encode (fresh (length (take (counts .nodes) table)))
         → zeros ≡ replicate (length (take (4 * counts .requests) report)) 0
-        → firsts ≡ firstRequests (requestsIn file) 0 mostHeads → heads ≡ map resting firsts
+        → firsts ≡ firstRequests (requestsIn file) 0 mostHeads
+        → tasks ≡ map (firstTask (waitsIn file) (rowsOf (take (4 * counts .requests) (zeros ++ drop (4 * counts .requests) report)))) firsts
+        → heads ≡ map atRest tasks
         → mask ≡ maskOf (map (isRequest (counts .requests)) firsts) → progress ≡ firstProgress heads mask
         → _≡_ {A = Laid} (record {
           table = words ++ drop (counts .nodes) table;
@@ -53,8 +74,11 @@ module _ {file : List ℕ} {counts : Checked} (playing : Playing file counts) wh
           plan = record { counts = counts; progress = progress };
         })
         (laidOf file table report)
-    laid firsts heads mask words zeros progress is-words is-zeros are-first resting-are flags-are is-progress =
-        let heads-are = first-heads (requestsIn file) firsts heads are-first resting-are in
+    laid firsts tasks heads mask words zeros progress is-words is-zeros are-first are-tasks resting-are flags-are is-progress =
+        let clear : zeros ≡ replicate (4 * length (requestsIn file)) 0 = is-zeros ∙ ap (λ k. replicate k 0) laid-rows in
+        let part : take (4 * counts .requests) (zeros ++ drop (4 * counts .requests) report) ≡ zeros =
+        take-at zeros (drop (4 * counts .requests) report) (4 * counts .requests) (ap length clear ∙ length-replicate _ 0 ∙ sym rows-are) in
+        let heads-are = first-heads (requestsIn file) firsts (waitsIn file) _ tasks heads are-first (part ∙ clear) are-tasks resting-are in
         let mask-is = first-flags (requestsIn file) firsts mask are-first (ap (λ k. k .requests) (playing .checked)) flags-are in
         let plans : _≡_ {A = Plan} (record { counts = counts; progress = progress }) _ =
         ap (λ p. record { counts = counts; progress = p }) is-progress ∙ (λ i. planOf (playing .checked i) (heads-are i) (mask-is i)) in

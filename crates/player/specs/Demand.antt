@@ -1,11 +1,11 @@
--- Demand 3 and the laws of every moment, on what a play leaves in the lent buffers.
+-- Demand 3, the laws of every moment and those of waiting, on what a play leaves in the lent buffers.
 --
---   rowsOf numbers        the rows of a report, four numbers each
 --   historyOf origin j    what the grants of the job j were, by the rules, from that start
 --   LinearizedFrom        the linearization theorem from a start, of the exit buffers cut to what counts
 --   LawfulFrom            the laws of every moment from a start, of the same and of the play's own counts
 --   LinearizedHere, LawfulHere   the two from what the play starts from
-use mathlib.Core.List.{List, [], _∷_, map}
+--   WaitedHere            (02, A3) what holds of the requests that wait, of the same buffers
+use mathlib.Core.List.{List, map}
 use Prim.Native.Nat.{ℕ, _*_}
 use lib.ListN.{take}
 use Rattle.job.specs.declared.Played.{Played}
@@ -13,20 +13,14 @@ use Rattle.job.specs.Job.{Job}
 use Rattle.word.specs.Word.{decode}
 use Rattle.linearization.specs.Entry.{entriesOf}
 use Rattle.jobfile.specs.Meaning.{meaning}
-use Rattle.rules.specs.declared.Row.{Row}
 use Rattle.rules.specs.Start.{Start}
 use Rattle.rules.specs.Run.{Happening}
 use Rattle.rules.specs.Linearized.{Linearized}
 use Rattle.rules.specs.Laws.{Lawful}
+use Rattle.rules.specs.Waits.{Waited}
+use Rattle.stepper.specs.Buffers.{rowsOf}
 use Rattle.stepper.specs.Shown.{historyAfter}
 use Rattle.player.specs.Player.{originIn}
-
-abbrev pub rowsOf : List ℕ → List Row
-rowsOf [] = []
-rowsOf (a ∷ []) = []
-rowsOf (a ∷ f ∷ []) = []
-rowsOf (a ∷ f ∷ l ∷ []) = []
-rowsOf (a ∷ f ∷ l ∷ u ∷ numbers) = record { answer = a; first = f; last = l; used = u } ∷ rowsOf numbers
 
 abbrev pub historyOf : Start → Job → List Happening
 historyOf origin j = historyAfter origin j (j .schedule)
@@ -52,3 +46,8 @@ LinearizedHere file = LinearizedFrom (originIn file) file
 
 abbrev pub LawfulHere : List ℕ → Played → List ℕ → List ℕ → Type 0
 LawfulHere file = LawfulFrom (originIn file) file
+
+abbrev pub WaitedHere : List ℕ → Played → List ℕ → List ℕ → Type 0
+WaitedHere file played report linearization =
+    Waited (meaning file .job .waits) (rowsOf (take (4 * played .requests) report))
+    (entriesOf (take (2 * played .entries) linearization))

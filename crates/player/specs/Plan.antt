@@ -24,9 +24,10 @@ use Rattle.jobfile.specs.Meaning.{refused, meaning}
 use Rattle.mask.specs.Mask.{maskOf}
 use Rattle.reader.specs.declared.Checked.{Checked}
 use Rattle.reader.specs.Reader.{countsOf}
+use Rattle.rules.specs.Report.{noRow}
 use Rattle.rules.specs.State.{resting, headsFrom}
 use Rattle.rules.specs.Start.{Start}
-use Rattle.stepper.specs.Shown.{Buffers, buffers, requestsIn}
+use Rattle.stepper.specs.Shown.{Buffers, buffers, noted, requestsIn, waitsIn}
 use Rattle.start.specs.Start.{workFlag}
 use Rattle.turns.specs.declared.Progress.{Progress}
 use Rattle.turns.specs.Turns.{StandingAt, Turnable, Turned, firstProgress}
@@ -42,10 +43,11 @@ planOf counts heads mask = record { counts = counts; progress = firstProgress he
 abbrev pub idlePlan : Checked → Plan
 idlePlan counts = planOf counts (replicate mostHeads (resting 0)) 0
 
--- Every head rests before its first request.
+-- Every head rests before its first request, and (02, A3) its record has what that request waits for.
 abbrev pub acceptedPlan : List ℕ → Plan
 acceptedPlan file =
-    planOf (countsOf (meaning file)) (headsFrom (requestsIn file) 0 mostHeads)
+    planOf (countsOf (meaning file))
+    (map (noted (waitsIn file) (replicate (length (requestsIn file)) noRow)) (headsFrom (requestsIn file) 0 mostHeads))
     (maskOf (map (workFlag (length (requestsIn file))) (headsFrom (requestsIn file) 0 mostHeads)))
 
 pub record Laid : Type 0 where

@@ -78,7 +78,7 @@ left table report linearization result = record { table = table; report = report
 -- "Numbers past the table's places, the report's requests and the line-up's entries remain as lent."
 abbrev pub leftAt : Job → State → List ℕ → List ℕ → List ℕ → Left
 leftAt j S table report linearization =
-    let b = shown (j .requests) S linearization in
+    let b = shown (j .requests) (j .waits) S linearization in
     left (b .table ++ drop (j .nodes) table) (b .report ++ drop (4 * length (j .requests)) report) (b .linearization) (acceptedWith j S)
 
 abbrev pub cutOf : Start → Job → List ℕ → List ℕ → List ℕ → Left

@@ -1,12 +1,13 @@
 // The player: it checks a job file and the lent buffers, and then plays the file's grants on them.
-use job::MOST_HEADS;
 use job::Played;
 use job::Tally;
 use reader::Checked;
 use start::clear_report;
 use start::first_mask;
 use start::first_requests;
+use start::first_tasks;
 use start::fresh_table;
+use start::idle_heads;
 use start::resting_heads;
 use start::successors;
 use turns::Progress;
@@ -24,7 +25,7 @@ ghost use Rattle.stepper.specs.Index.{Indexes};
 ghost use Rattle.turns.specs.Turns.{buffersOf};
 ghost use Rattle.player.specs.Player.{refusedWith, left, admissionOf, playedOf};
 ghost use Rattle.player.specs.Plan.{idlePlan, laidOf, preparedOf, TurnableOn, TurnsOn, closedOf};
-ghost use Rattle.player.specs.Demand.{LinearizedHere, LawfulHere};
+ghost use Rattle.player.specs.Demand.{LinearizedHere, LawfulHere, WaitedHere};
 
 // What is known before the first grant: the counts of the job or a refusal's number, and what the play carries.
 pub struct Plan {
@@ -57,10 +58,9 @@ pub fn admission(file: &[u8], table: usize, report: usize, linearization: usize)
 fn turned_down(counts: Checked) -> Plan
     ensures { λ r. ⌜ r ≡ idlePlan counts ⌝ }
 {
-    let heads = resting_heads([0u16; MOST_HEADS]);
     Plan {
         counts,
-        progress: first_progress(heads, 0),
+        progress: first_progress(idle_heads(), 0),
     }
 }
 
@@ -77,7 +77,8 @@ fn lay_out(file: &[u8], counts: Checked, table: &mut [Word], report: &mut [u32])
     fresh_table(&mut table[..nodes]);
     clear_report(&mut report[..rows]);
     let firsts = first_requests(file, counts);
-    let heads = resting_heads(firsts);
+    let tasks = first_tasks(file, counts, &report[..rows], firsts);
+    let heads = resting_heads(tasks);
     let mask = first_mask(firsts, counts.requests);
     Plan {
         counts,
@@ -179,6 +180,7 @@ pub fn play(
     ensures linearized { λ r. ⌜ (r .number ≡ 0
         → LinearizedHere (now (file .entry)) r (now (table .exit)) (now (report .exit)) (now (linearization .exit))) ⌝ }
     ensures lawful { λ r. ⌜ (r .number ≡ 0 → LawfulHere (now (file .entry)) r (now (table .exit)) (now (report .exit))) ⌝ }
+    ensures waited { λ r. ⌜ (r .number ≡ 0 → WaitedHere (now (file .entry)) r (now (report .exit)) (now (linearization .exit))) ⌝ }
 {
     let plan = prepare(file, table, report, linearization);
     let counts = plan.counts;

@@ -14,19 +14,23 @@ use native.Mathlib.Omega.{arith}
 use lib.ListN.{length, getD, replicate, length-map}
 use Rattle.basics.proofs.Lists.{getD-mapped}
 use Rattle.job.specs.declared.Request.{Request}
+use Rattle.job.specs.declared.Wait.{Wait}
 use Rattle.job.specs.Job.{Job, mostHeads}
 use Rattle.word.specs.declared.Node.{Node}
 use Rattle.word.specs.Word.{encode}
+use Rattle.process.specs.declared.Task.{Task}
 use Rattle.process.specs.declared.Head.{Head}
 use Rattle.mask.specs.Mask.{maskOf}
 use Rattle.rules.specs.Table.{noNode, fresh}
+use Rattle.rules.specs.declared.Row.{Row}
 use Rattle.rules.specs.Report.{noRow}
 use Rattle.rules.specs.State.{seek, resting, headsFrom}
 use Rattle.rules.specs.Start.{Start, Initial}
 use Rattle.rules.proofs.Table.{length-fresh, fresh-at}
-use Rattle.stepper.specs.Buffers.{flatRows}
-use Rattle.stepper.specs.Shown.{buffers, Standing}
-use Rattle.start.specs.Start.{firstRequests, isRequest, workFlag}
+use Rattle.stepper.specs.Buffers.{flatRows, rowsOf}
+use Rattle.stepper.specs.Shown.{noted, buffers, Standing}
+use Rattle.stepper.proofs.Lists.{rows-back}
+use Rattle.start.specs.Start.{firstRequests, firstTask, atRest, isRequest, workFlag}
 
 -- ---- the table
 
@@ -43,6 +47,17 @@ pub fresh-word : (n i : ℕ) → i < n → getD (map encode (fresh n)) i 0 ≡ f
 fresh-word n i l =
     let same : 0 + i ≡ i = omega arith in
     getD-mapped encode (fresh n) i noNode 0 (omega (arith, length-fresh 0 n)) ∙ ap encode (fresh-at 0 n i l) ∙ ap firstWord same
+
+-- ---- the report
+
+pub start-rows : (k : ℕ) → flatRows (replicate k noRow) ≡ replicate (4 * k) 0
+start-rows zero = refl
+start-rows (suc k) =
+    let four : 4 * suc k ≡ suc (suc (suc (suc (4 * k)))) = omega arith in
+    rw four (ap {B = List ℕ} (λ r. 0 ∷ 0 ∷ 0 ∷ 0 ∷ r) (start-rows k))
+
+pub start-report : (k : ℕ) → rowsOf (replicate (4 * k) 0) ≡ replicate k noRow
+start-report k = ap rowsOf (sym (start-rows k)) ∙ rows-back (replicate k noRow)
 
 -- ---- the heads
 
@@ -63,9 +78,11 @@ requests-at qs h (suc m) (suc k) l =
 pub first-request : (qs : List Request) (m h : ℕ) → h < m → getD (firstRequests qs 0 m) h 0 ≡ firstRequest qs h
 first-request qs m h l = let same : 0 + h ≡ h = omega arith in requests-at qs 0 m h l ∙ ap (firstRequest qs) same
 
-resting-first : (qs : List Request) (h m : ℕ) → map resting (firstRequests qs h m) ≡ headsFrom qs h m
-resting-first qs h zero = refl
-resting-first qs h (suc m) = ap (λ l. resting (firstRequest qs h) ∷ l) (resting-first qs (suc h) m)
+resting-first : (ws : List Wait) (report : List Row) (qs : List Request) (h m : ℕ)
+    → map atRest (map (firstTask ws report) (firstRequests qs h m)) ≡ map (noted ws report) (headsFrom qs h m)
+resting-first ws report qs h zero = refl
+resting-first ws report qs h (suc m) =
+    ap (λ l. noted ws report (resting (firstRequest qs h)) ∷ l) (resting-first ws report qs (suc h) m)
 
 -- a head has work exactly if it has a first request
 flags-first : (k : ℕ) (qs : List Request) (h m : ℕ) → map (isRequest k) (firstRequests qs h m) ≡ map (workFlag k) (headsFrom qs h m)
@@ -74,9 +91,14 @@ flags-first k qs h (suc m) = ap (λ l. isRequest k (firstRequest qs h) ∷ l) (f
 
 -- the heads that rest before the first requests are the heads of the start, and their flags are those of the mask
 module _ (qs : List Request) (firsts : List ℕ) where
-  pub first-heads : (heads : List Head) → firsts ≡ firstRequests qs 0 mostHeads → heads ≡ map resting firsts
-      → heads ≡ headsFrom qs 0 mostHeads
-  first-heads heads are-first are = are ∙ ap (map resting) are-first ∙ resting-first qs 0 mostHeads
+  pub first-heads : (ws : List Wait) (numbers : List ℕ) (tasks : List Task) (heads : List Head)
+      → firsts ≡ firstRequests qs 0 mostHeads
+      → numbers ≡ replicate (4 * length qs) 0 → tasks ≡ map (firstTask ws (rowsOf numbers)) firsts → heads ≡ map atRest tasks
+      → heads ≡ map (noted ws (replicate (length qs) noRow)) (headsFrom qs 0 mostHeads)
+  first-heads ws numbers tasks heads are-first clear are-tasks are =
+      are ∙ ap (map atRest) (are-tasks ∙ ap₂ (λ n l. map (firstTask ws (rowsOf n)) l) clear are-first)
+      ∙ ap (λ rows. map atRest (map (firstTask ws rows) (firstRequests qs 0 mostHeads))) (start-report (length qs))
+      ∙ resting-first ws (replicate (length qs) noRow) qs 0 mostHeads
 
   pub first-flags : (mask : ℕ) {requests : ℕ} → firsts ≡ firstRequests qs 0 mostHeads → requests ≡ length qs
       → mask ≡ maskOf (map (isRequest requests) firsts)
@@ -84,25 +106,19 @@ module _ (qs : List Request) (firsts : List ℕ) where
   first-flags mask are-first count are =
       are ∙ ap₂ (λ k l. maskOf (map (isRequest k) l)) count are-first ∙ ap maskOf (flags-first (length qs) qs 0 mostHeads)
 
--- ---- the report
-
-pub start-rows : (k : ℕ) → flatRows (replicate k noRow) ≡ replicate (4 * k) 0
-start-rows zero = refl
-start-rows (suc k) =
-    let four : 4 * suc k ≡ suc (suc (suc (suc (4 * k)))) = omega arith in
-    rw four (ap {B = List ℕ} (λ r. 0 ∷ 0 ∷ 0 ∷ 0 ∷ r) (start-rows k))
-
 -- ---- all of it
 
 pub start-standing : {origin : Start} (j : Job) → Initial (j .nodes) origin → (lent : List ℕ) → 2 * length (j .requests) ≤ length lent
     → Standing origin j
-    (buffers (headsFrom (j .requests) 0 mostHeads) (map encode (origin .table)) (replicate (4 * length (j .requests)) 0) lent 0
+    (buffers (map (noted (j .waits) (replicate (length (j .requests)) noRow)) (headsFrom (j .requests) 0 mostHeads))
+    (map encode (origin .table)) (replicate (4 * length (j .requests)) 0) lent 0
     (maskOf (map (workFlag (length (j .requests))) (headsFrom (j .requests) 0 mostHeads))))
     1 [] lent
 start-standing {origin} j initial lent room =
     record {
       initial = initial;
-      shows = ap (λ rows. buffers (headsFrom (j .requests) 0 mostHeads) (map encode (origin .table)) rows lent 0
+      shows = ap (λ rows. buffers (map (noted (j .waits) (replicate (length (j .requests)) noRow)) (headsFrom (j .requests) 0 mostHeads))
+          (map encode (origin .table)) rows lent 0
           (maskOf (map (workFlag (length (j .requests))) (headsFrom (j .requests) 0 mostHeads)))) (sym (start-rows (length (j .requests))));
       next = refl;
       granted = λ h m. absurd (elim m [ ]);

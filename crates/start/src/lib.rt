@@ -7,20 +7,22 @@ use process::Task;
 use reader::Checked;
 use stepper::Heads;
 use stepper::requests::next_request;
+use stepper::waits::lowest_wait;
 use word::Node;
 use word::Word;
 ghost use mathlib.Core.Path.{_≡_};
 ghost use mathlib.Core.List.{map};
-ghost use Prim.Native.Nat.{_≤_};
+ghost use Prim.Native.Nat.{_*_, _≤_};
 ghost use lib.ListN.{length, replicate};
 ghost use Rattle.word.specs.Word.{encode, nodeLimit};
 ghost use Rattle.job.specs.Job.{mostHeads};
 ghost use Rattle.mask.specs.Mask.{maskOf};
 ghost use Rattle.rules.specs.Table.{fresh};
 ghost use Rattle.rules.specs.State.{resting};
-ghost use Rattle.stepper.specs.Shown.{requestsIn, Playing};
+ghost use Rattle.stepper.specs.Buffers.{rowsOf};
+ghost use Rattle.stepper.specs.Shown.{requestsIn, waitsIn, Playing};
 ghost use Rattle.stepper.specs.Index.{Indexes};
-ghost use Rattle.start.specs.Start.{firstRequests, isRequest};
+ghost use Rattle.start.specs.Start.{firstRequests, firstTask, atRest, isRequest};
 
 // Each node its own parent, rank 0.
 pub fn fresh_table(table: &mut [Word])
@@ -87,37 +89,65 @@ pub fn successors(file: &[u8], counts: Checked) -> [u16; INDEX_ROOM]
     index
 }
 
-// The task of a head at rest before a request.
-fn resting_task(request: u16) -> Task
-    ensures { λ r. ⌜ r ≡ resting request .task ⌝ }
+// The task of a head at rest before a request, which waits for that one.
+fn resting_task(request: u16, waits: u16) -> Task
+    ensures { λ r. ⌜ r ≡ record { x = 0; y = 0; request = request; waits = waits } ⌝ }
 {
     Task {
         x: 0,
         y: 0,
         request,
-        waits: NO_WAIT,
+        waits,
     }
 }
 
-// Every head resting before its first request. The loop only stores whole heads, so that the compiler cuts the array into
-// pieces of a register's size and a grant copies it fast (docs/DECISIONS.md, "Heads by value, and speed").
-pub fn resting_heads(firsts: [u16; MOST_HEADS]) -> Heads
-    ensures { λ r. ⌜ r ≡ map resting firsts ⌝ }
+// The tasks of the heads before their first requests, with what these wait for (02, A3): at the start none is finished.
+pub fn first_tasks(
+    file: &[u8],
+    counts: Checked,
+    report: &[u32],
+    firsts: [u16; MOST_HEADS],
+) -> [Task; MOST_HEADS]
+    requires { ⌜ Playing (now file) counts ⌝ }
+    requires { ⌜ 4 * counts .requests ≤ length (now report) ⌝ }
+    ensures { λ r. ⌜ r ≡ map (firstTask (waitsIn (now (file .entry))) (rowsOf (now (report .entry)))) firsts ⌝ }
+{
+    let mut tasks = [resting_task(0, NO_WAIT); MOST_HEADS];
+    let mut h: usize = 0;
+    while h < MOST_HEADS {
+        let first = firsts[h];
+        tasks[h] = resting_task(first, lowest_wait(file, counts, report, first));
+        h += 1;
+    }
+    tasks
+}
+
+// Every head resting with its task. The loop only stores whole heads, so that the compiler cuts the array into pieces of a
+// register's size and a grant copies it fast (docs/DECISIONS.md, "Heads by value, and speed").
+pub fn resting_heads(tasks: [Task; MOST_HEADS]) -> Heads
+    ensures { λ r. ⌜ r ≡ map atRest tasks ⌝ }
 {
     let first = Head {
         stage: Stage::Resting,
-        task: resting_task(0),
+        task: resting_task(0, NO_WAIT),
     };
     let mut heads = [first; MOST_HEADS];
     let mut h: usize = 0;
     while h < MOST_HEADS {
         heads[h] = Head {
-            task: resting_task(firsts[h]),
+            task: tasks[h],
             ..first
         };
         h += 1;
     }
     heads
+}
+
+// Every head at rest with no request: those of a refused job.
+pub fn idle_heads() -> Heads
+    ensures { λ r. ⌜ r ≡ replicate mostHeads (resting 0) ⌝ }
+{
+    resting_heads([resting_task(0, NO_WAIT); MOST_HEADS])
 }
 
 // The work mask of the heads: a bit for each that has a first request.

@@ -9,12 +9,13 @@ use native.Mathlib.Omega.{arith}
 use lib.Count.{ones}
 use Rattle.basics.proofs.Conditions.{split}
 use Rattle.job.specs.declared.Request.{Request}
+use Rattle.job.specs.declared.Wait.{Wait}
 use Rattle.job.specs.declared.Tally.{Tally}
 use Rattle.process.specs.declared.Head.{Head}
 use Rattle.mask.specs.Mask.{maskOf, countOf}
 use Rattle.mask.proofs.Laws.{mask-count}
 use Rattle.rules.specs.State.{State, hasWork, working, tallyOf}
-use Rattle.rules.specs.Step.{plus, headAt, step}
+use Rattle.rules.specs.Step.{isServed, plus, headAt, step}
 use Rattle.rules.specs.Run.{happened}
 use Rattle.stepper.specs.declared.Done.{Done}
 use Rattle.stepper.specs.Shown.{doneOf}
@@ -29,26 +30,26 @@ working-count qs (head ∷ heads) = ap (λ k. cond (hasWork qs head) (suc k) k) 
 pub working-ones : (qs : List Request) (heads : List Head) → working qs heads ≡ ones (maskOf (map (hasWork qs) heads))
 working-ones qs heads = sym (mask-count (map (hasWork qs) heads) ∙ working-count qs heads)
 
-module _ (qs : List Request) (S : State) (h : ℕ) where
-  step-idle : plus (doneOf (happened qs S h) .idle) (S .idle) ≡ step qs S h .idle
+module _ (qs : List Request) (ws : List Wait) (S : State) (h : ℕ) where
+  step-idle : plus (doneOf (happened qs ws S h) .idle) (S .idle) ≡ step qs ws S h .idle
   unfolding step happened
-  step-idle = split (hasWork qs (headAt S h)) (λ t. rw t refl) (λ t. rw t refl)
+  step-idle = split (isServed qs ws (S .report) (headAt S h)) (λ t. rw t refl) (λ t. rw t refl)
 
-  step-failed : plus (doneOf (happened qs S h) .failed) (S .failed) ≡ step qs S h .failed
+  step-failed : plus (doneOf (happened qs ws S h) .failed) (S .failed) ≡ step qs ws S h .failed
   unfolding step happened
-  step-failed = split (hasWork qs (headAt S h)) (λ t. rw t refl) (λ t. rw t refl)
+  step-failed = split (isServed qs ws (S .report) (headAt S h)) (λ t. rw t refl) (λ t. rw t refl)
 
-  step-links : plus (doneOf (happened qs S h) .linked) (S .links) ≡ step qs S h .links
+  step-links : plus (doneOf (happened qs ws S h) .linked) (S .links) ≡ step qs ws S h .links
   unfolding step happened
-  step-links = split (hasWork qs (headAt S h)) (λ t. rw t refl) (λ t. rw t refl)
+  step-links = split (isServed qs ws (S .report) (headAt S h)) (λ t. rw t refl) (λ t. rw t refl)
 
-  pub counted-step : countedOf (tallyOf qs S) (doneOf (happened qs S h)) (maskOf (map (hasWork qs) (step qs S h .heads)))
-      ≡ tallyOf qs (step qs S h)
+  pub counted-step : countedOf (tallyOf qs S) (doneOf (happened qs ws S h)) (maskOf (map (hasWork qs) (step qs ws S h .heads)))
+      ≡ tallyOf qs (step qs ws S h)
   counted-step = λ i. record {
     idle = step-idle i;
     failed = step-failed i;
     links = step-links i;
-    working = sym (working-ones qs (step qs S h .heads)) i;
+    working = sym (working-ones qs (step qs ws S h .heads)) i;
   }
 
 -- ---- counters stay small

@@ -20,7 +20,7 @@ use Rattle.jobfile.proofs.Runs.{granted-longest}
 use Rattle.rules.specs.State.{hasWork, tallyOf}
 use Rattle.rules.specs.Start.{Start}
 use Rattle.rules.specs.Step.{step}
-use Rattle.stepper.specs.Shown.{startOf, stateAfter, requestsIn, Playing, Standing}
+use Rattle.stepper.specs.Shown.{startOf, stateAfter, requestsIn, waitsIn, Playing, Standing}
 use Rattle.stepper.proofs.Reached.{cut-granted, after-next, playing-admitted}
 use Rattle.turns.specs.declared.Progress.{Progress}
 use Rattle.turns.specs.Turns.{runsOf, scheduleIn, stateAt, remaining, countedOf, buffersOf, StandingAt, Turnable, Turned}
@@ -80,7 +80,7 @@ module _ {origin : Start} {file : List ℕ} {counts : Checked} {lent : List ℕ}
     going-turnable = record { playing = g .playing; more = more; left = g .left; origin = origin; lent = lent; standing = g .standing }
 
     -- one grant more is the rules' step
-    stepped : stateAt origin file (p .number + 1) ≡ step qs (stateAt origin file (p .number)) h
+    stepped : stateAt origin file (p .number + 1) ≡ step qs (waitsIn file) (stateAt origin file (p .number)) h
     stepped = after-next origin (meaning file .job) schedule (p .number) more
 
     module _ (p′ : Progress) (tally′ : Tally) (table′ report′ linearization′ : List ℕ)
@@ -103,7 +103,7 @@ module _ {origin : Start} {file : List ℕ} {counts : Checked} {lent : List ℕ}
           counted ∙ ap (λ t. countedOf t (p′ .done) (p′ .mask)) (g .tallied)
           ∙ ap₂ (λ d m. countedOf (tallyOf qs (stateAt origin file (p .number))) d m) (turned .done)
           (ap (λ c. c .mask) (turned .buffers) ∙ ap (λ T. maskOf (map (hasWork qs) (T .heads))) stepped)
-          ∙ counted-step qs (stateAt origin file (p .number)) h ∙ ap (tallyOf qs) (sym stepped)
+          ∙ counted-step qs (waitsIn file) (stateAt origin file (p .number)) h ∙ ap (tallyOf qs) (sym stepped)
           ∙ ap (λ k. tallyOf qs (stateAt origin file k)) (sym (turned .number))
 
       pub going-next : Going origin file counts lent p′ tally′ table′ report′ linearization′

@@ -7,10 +7,11 @@ use lib.ListN.{getD, take, drop}
 use lib.Seq.{drop-cons}
 use Rattle.reader.specs.declared.Checked.{Checked}
 use Rattle.jobfile.specs.Meaning.{meaning}
+use Rattle.rules.specs.State.{State}
 use Rattle.rules.specs.Start.{Start}
 use Rattle.rules.specs.Step.{step}
 use Rattle.rules.specs.Run.{happened}
-use Rattle.stepper.specs.Shown.{Buffers, shown, doneOf, requestsIn, Grantable}
+use Rattle.stepper.specs.Shown.{Buffers, shown, doneOf, requestsIn, waitsIn, Grantable}
 use Rattle.stepper.proofs.Reached.{after-next, playing-admitted}
 use Rattle.turns.specs.declared.Cursor.{Cursor}
 use Rattle.turns.specs.declared.Progress.{Progress}
@@ -66,10 +67,15 @@ module _ {file : List ℕ} {counts : Checked} {p : Progress} {table report linea
           standing = t .standing;
         }
 
+    -- the state after a grant to head k
+    abbrev after : Start → ℕ → State
+    after origin k = step (requestsIn file) (waitsIn file) (stateAt origin file (p .number)) k
+
     pub turn-turned : (p′ : Progress) (b′ : Buffers) (origin : Start) (lent : List ℕ) → p′ .number ≡ p .number + 1
         → p′ .cursor ≡ record { next = c .next; head = c .head; left = c .left - 1 }
-        → b′ ≡ shown (requestsIn file) (step (requestsIn file) (stateAt origin file (p .number)) (c .head)) lent
-        → p′ .done ≡ doneOf (happened (requestsIn file) (stateAt origin file (p .number)) (c .head)) → Turned file p p′ b′ origin lent
+        → b′ ≡ shown (requestsIn file) (waitsIn file) (after origin (c .head)) lent
+        → p′ .done ≡ doneOf (happened (requestsIn file) (waitsIn file) (stateAt origin file (p .number)) (c .head))
+        → Turned file p p′ b′ origin lent
     turn-turned p′ b′ origin lent number cursor buffers done =
         let one : suc (p .number) ≡ p .number + 1 = omega arith in
         record {
@@ -77,7 +83,8 @@ module _ {file : List ℕ} {counts : Checked} {p : Progress} {table report linea
           left = ap (remaining (runsOf file)) (cursor ∙ ap (λ k. record { next = k .next; head = k .head; left = k .left - 1 }) is)
               ∙ opened-rest (runsOf file) (runs-some (t .playing)) (p .cursor) head (drop (suc (p .number)) schedule) before-grant
               ∙ ap (λ k. drop k schedule) one;
-          buffers = buffers ∙ ap (λ k. shown (requestsIn file) (step (requestsIn file) (stateAt origin file (p .number)) k) lent) turn-head
-              ∙ ap (λ T. shown (requestsIn file) T lent) (sym (after-next origin (meaning file .job) schedule (p .number) (t .more)));
-          done = done ∙ ap (λ k. doneOf (happened (requestsIn file) (stateAt origin file (p .number)) k)) turn-head;
+          buffers = buffers ∙ ap (λ k. shown (requestsIn file) (waitsIn file) (after origin k) lent) turn-head
+              ∙ ap (λ T. shown (requestsIn file) (waitsIn file) T lent)
+              (sym (after-next origin (meaning file .job) schedule (p .number) (t .more)));
+          done = done ∙ ap (λ k. doneOf (happened (requestsIn file) (waitsIn file) (stateAt origin file (p .number)) k)) turn-head;
         }

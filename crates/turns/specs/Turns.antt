@@ -34,7 +34,7 @@ use Rattle.rules.specs.Start.{Start}
 use Rattle.rules.specs.Step.{plus}
 use Rattle.rules.specs.Run.{happened}
 use Rattle.stepper.specs.declared.Done.{Done}
-use Rattle.stepper.specs.Shown.{Buffers, buffers, shown, doneOf, stateAfter, requestsIn, Playing, Standing}
+use Rattle.stepper.specs.Shown.{Buffers, buffers, shown, doneOf, stateAfter, requestsIn, waitsIn, Playing, Standing}
 use Rattle.turns.specs.declared.Cursor.{Cursor}
 use Rattle.turns.specs.declared.Progress.{Progress}
 
@@ -103,8 +103,9 @@ pub record Turnable (file : List ℕ) (counts : Checked) (p : Progress) (table r
 pub record Turned (file : List ℕ) (p p′ : Progress) (b′ : Buffers) (origin : Start) (lent : List ℕ) : Type 0 where
   pub number : p′ .number ≡ p .number + 1
   pub left : remaining (runsOf file) (p′ .cursor) ≡ drop (p .number + 1) (scheduleIn file)
-  pub buffers : b′ ≡ shown (requestsIn file) (stateAt origin file (p .number + 1)) lent
-  pub done : p′ .done ≡ doneOf (happened (requestsIn file) (stateAt origin file (p .number)) (getD (scheduleIn file) (p .number) 0))
+  pub buffers : b′ ≡ shown (requestsIn file) (waitsIn file) (stateAt origin file (p .number + 1)) lent
+  pub done : p′ .done
+      ≡ doneOf (happened (requestsIn file) (waitsIn file) (stateAt origin file (p .number)) (getD (scheduleIn file) (p .number) 0))
 
 abbrev pub Turns : List ℕ → Progress → Progress → Buffers → Buffers → Type 0
 Turns file p p′ b b′ = (origin : Start) (lent : List ℕ) → StandingAt origin file p b lent → Turned file p p′ b′ origin lent

@@ -62,7 +62,7 @@ fn open_run(file: &[u8], counts: Checked, cursor: Cursor) -> Cursor
     ensures { λ r. ⌜ r ≡ openedOf (runsOf (now (file .entry))) cursor ⌝ }
 {
     if cursor.left == 0 {
-        let run = reader::run_at(file, counts.requests, cursor.next);
+        let run = reader::run_at(file, counts.requests, counts.waits, cursor.next);
         return Cursor {
             next: cursor.next + 1,
             head: run.head as u32,

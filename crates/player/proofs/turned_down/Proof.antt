@@ -9,7 +9,7 @@ returns : tie.Need-returns
 returns c =
     λ i. record {
       counts = c .before .before .args .counts;
-      progress = (c .first-progress .ensures ∙ (λ j. firstProgress (c .before .resting-heads .ensures j) 0)) i;
+      progress = (c .first-progress .ensures ∙ (λ j. firstProgress (c .before .idle-heads .ensures j) 0)) i;
     }
 
 pub turned-down-spec : {M : Type 1} → statement M

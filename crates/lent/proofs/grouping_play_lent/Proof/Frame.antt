@@ -158,6 +158,7 @@ module _ (w : Setting) (P : Parameters) where
         cut (AllTokens ++ Owned b h) (chain AllTokens ∷ chain (Owned b h) ∷ []) _ (as-signed w AllTokens (Owned b h)) $
         swap (chain AllTokens ∷ []) (chain (Owned b h) ∷ ‵ (row played-struct .own r (v ∷ [])) ∷ []) [] $
         join ! $ flip ! $ join ! $ frame ! $
+        use0 W (raw (fact 𝓤 _)) (factI 𝓤 _ (emp 𝓤) (e .played .waited)) $
         use0 W (raw (fact 𝓤 _)) (factI 𝓤 _ (emp 𝓤) (e .played .lawful)) $ use0 W (raw (fact 𝓤 _))
         (factI 𝓤 _ (emp 𝓤) (e .played .linearized)) $
         use0 W (raw (fact 𝓤 _)) (factI 𝓤 _ (emp 𝓤) (e .counted)) $ use0 W (raw (fact 𝓤 _)) (factI 𝓤 _ (emp 𝓤) (e .played .exact)) $ done !
