@@ -4,6 +4,8 @@
 //   4B         a byte; 00*32768 is that many
 //   J          a job's record, two places and two heads
 //   Q*512      that many requests, each a union of 0 and 1 for head 0; in a list of numbers the same four numbers each
+//   W*2        that many records of the pair 1 0 (02, A3): request 1 waits for request 0
+//   P*4777     the records of that many pairs that rise, 1 0, 2 0, 2 1, 3 0 and so on; in a list of numbers two numbers each
 //   R*8189     that many runs of 255 for head 0
 //   S*4094     that many pairs of runs, one grant for head 0 and one for head 1
 //   T*4094     that many pairs of bytes 00 01, as the grants of such runs are
@@ -16,6 +18,7 @@ use crate::text::decimal;
 use crate::text::find;
 use crate::text::first_bytes;
 use crate::text::hexadecimal;
+use std::num::wrapping_add_u16;
 ghost use Prim.Native.Nat.{_≤_};
 
 // Stores a byte, and gives the position behind it.
@@ -62,12 +65,17 @@ fn balance(bytes: &[u8]) -> u32
     (65536 - sum) % 65536
 }
 
+// Stores a 16-bit field, low byte first, and gives the position behind it.
+fn put_sixteen(file: &mut [u8], at: usize, number: u16) -> usize {
+    let at = put_byte(file, at, (number % 256) as u8);
+    put_byte(file, at, (number / 256) as u8)
+}
+
 // Stores a close that balances the bytes before it, and gives the position behind it.
 fn put_close(file: &mut [u8], start: usize) -> usize {
     let end = put_bytes(file, start, b"\x43\x4C");
     let word = balance(first_bytes(file, end));
-    let at = put_byte(file, end, (word % 256) as u8);
-    put_byte(file, at, (word / 256) as u8)
+    put_sixteen(file, end, word as u16)
 }
 
 // Stores a number, and gives the position behind it.
@@ -123,6 +131,54 @@ fn put_copies(
     at
 }
 
+// A pair (02, A3): the later request waits for the earlier one.
+struct Pair {
+    later: u16,
+    earlier: u16,
+}
+
+// The pair behind a pair where every request waits for all before it.
+fn next_pair(pair: Pair) -> Pair {
+    let earlier = wrapping_add_u16(pair.earlier, 1);
+    if earlier < pair.later {
+        return Pair {
+            later: pair.later,
+            earlier: earlier,
+        };
+    }
+    Pair {
+        later: wrapping_add_u16(pair.later, 1),
+        earlier: 0,
+    }
+}
+
+// Stores a pair's record and numbers, and gives the positions behind them.
+fn put_pair(file: &mut [u8], list: &mut [u32], at: Ends, pair: Pair) -> Ends {
+    let bytes = put_bytes(file, at.bytes, b"\x41\x46");
+    let bytes = put_sixteen(file, bytes, pair.later);
+    let numbers = put_number(list, at.numbers, pair.later as u32);
+    Ends {
+        bytes: put_sixteen(file, bytes, pair.earlier),
+        numbers: put_number(list, numbers, pair.earlier as u32),
+    }
+}
+
+// Stores that many pairs that rise, from 1 0 on, and gives the positions behind them.
+fn put_pairs(file: &mut [u8], list: &mut [u32], start: Ends, count: u32) -> Ends {
+    let mut at = start;
+    let mut pair = Pair {
+        later: 1,
+        earlier: 0,
+    };
+    let mut i = 0;
+    while i < count {
+        at = put_pair(file, list, at, pair);
+        pair = next_pair(pair);
+        i += 1;
+    }
+    at
+}
+
 // Stores a word, and gives the positions behind it.
 fn put_word(file: &mut [u8], list: &mut [u32], at: Ends, word: &[u8]) -> Ends {
     if word.len() == 0 {
@@ -141,6 +197,8 @@ fn put_word(file: &mut [u8], list: &mut [u32], at: Ends, word: &[u8]) -> Ends {
             Meant::Request,
             count,
         ),
+        b'W' => put_copies(file, list, at, b"\x41\x46\x01\x00\x00\x00", number, count),
+        b'P' => put_pairs(file, list, at, count),
         b'R' => put_copies(file, list, at, b"\x47\x52\x00\xFF", number, count),
         b'S' => put_copies(
             file,

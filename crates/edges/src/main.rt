@@ -1,7 +1,7 @@
 // Plays the edges of the job file: files for the reader, and jobs for the writer, whose files are compared byte by byte and
 // read again. The tables state what each case expects, worked out from document 01, "Job file", "Turned down" and "Played
-// cases"; `play` says what stands in a row and `build` what its words stand for. A line of the output ends with `ok` where
-// the numbers answered and the bytes left are the row's, and the last line counts the cases.
+// cases", and from document 02, A3; `play` says what stands in a row and `build` what its words stand for. A line of the
+// output ends with `ok` where the numbers answered and the bytes left are the row's, and the last line counts the cases.
 mod build;
 mod play;
 mod score;
@@ -164,7 +164,7 @@ fn file_requests(score: Score) -> Score {
     )
 }
 
-// Length first (1): 32,768 bytes are admitted, though no file of 32,767 or 32,768 is whole.
+// Length first (1): 32,768 bytes are admitted, though a whole file without pairs has at most 32,766.
 fn file_lengths(score: Score) -> Score {
     score.files(
         b"
@@ -182,6 +182,150 @@ fn file_lengths(score: Score) -> Score {
 32,770 bytes, 8,190 runs            | J R*8190 =                 | 1
 32,768 zeros                        | 00*32768                   | 3
 32,769 zeros                        | 00*32769                   | 1
+",
+    )
+}
+
+// A file with a pair (02, A3), byte by byte.
+fn file_pair_sample(score: Score) -> Score {
+    score.files(
+        b"
+two heads, request 1 waits | 44 4B 02 00 02 00 52 51 00 01 00 00 01 00 52 51 01 02 00 00 01 00 41 46 01 00 00 00 47 52 01 03 47 52 00 0D 47 52 01 06 43 4C B5 6F | 0 2 2 2 22 3 1
+",
+    )
+}
+
+// The record of a pair (02, A3): two bytes for the mark (2), the mark (3), the whole record (2), and then the pair (18).
+fn file_pair_cuts(score: Score) -> Score {
+    score.files(
+        b"
+one byte of a pair's mark     | J Q*2 41                  | 2
+mark of a pair alone          | J Q*2 41 46               | 2
+pair of three bytes           | J Q*2 41 46 01            | 2
+pair of five bytes            | J Q*2 41 46 01 00 00      | 2
+pair of five bytes, bad       | J Q*2 41 46 02 00 02      | 2
+five bytes, no request        | J 41 46 00 00 00          | 2
+second pair of five bytes     | J Q*2 W 41 46 01 00 00    | 2
+pair and no close             | J Q*2 W                   | 2
+pair and one byte             | J Q*2 W 43                | 2
+mark 41 47                    | J Q*2 41 47 01 00 00 00 = | 3
+mark high byte first          | J Q*2 46 41 01 00 00 00 = | 3
+a pair's balance              | J Q*2 W 43 4C 8D 7D       | 0 2 2 2 0 0 1
+a pair's balance, one too low | J Q*2 W 43 4C 8C 7D       | 13
+",
+    )
+}
+
+// Pairs stand between requests and runs (3).
+fn file_pair_places(score: Score) -> Score {
+    score.files(
+        b"
+a pair first                   | W J Q*2 =                               | 3
+a request behind a pair        | J Q*2 W Q =                             | 3
+a request's mark behind a pair | J Q*2 W 52 51                           | 3
+a 513th request behind a pair  | J Q*512 W Q =                           | 3
+a header behind a pair         | J Q*2 W J =                             | 3
+a wrong mark behind a pair     | J Q*2 W 41 47                           | 3
+a pair behind a run            | J Q*2 47 52 00 01 W =                   | 3
+a pair's mark behind a run     | J Q*2 47 52 00 01 41 46                 | 3
+a bad pair behind a run        | J Q*2 47 52 00 01 41 46 01 00 01 00     | 3
+a second pair behind a run     | J Q*3 W 47 52 00 01 41 46 02 00 00 00 = | 3
+a pair behind the close        | J Q*2 = W                               | 12
+pair, run                      | J Q*2 W 47 52 00 03 =                   | 0 2 2 2 3 1 1
+three pairs, two runs          | J Q*3 P*3 S =                           | 0 2 2 3 2 2 3
+512 requests, pair, run        | J Q*512 W R =                           | 0 2 2 512 255 1 1
+",
+    )
+}
+
+// Both requests of a pair exist, and the earlier is below the later (18); the high bytes count.
+fn file_pair_fields(score: Score) -> Score {
+    score.files(
+        b"
+pair 0 0 of no request | J 41 46 00 00 00 00 =       | 18
+pair 1 0 of no request | J W =                       | 18
+pair 0 0 of one        | J Q 41 46 00 00 00 00 =     | 18
+pair 1 0 of one        | J Q W =                     | 18
+pair 1 0 of two        | J Q*2 W =                   | 0 2 2 2 0 0 1
+pair 0 1 of two        | J Q*2 41 46 00 00 01 00 =   | 18
+pair 1 1 of two        | J Q*2 41 46 01 00 01 00 =   | 18
+pair 2 0 of two        | J Q*2 41 46 02 00 00 00 =   | 18
+pair 1 2 of two        | J Q*2 41 46 01 00 02 00 =   | 18
+later 257 of two       | J Q*2 41 46 01 01 00 00 =   | 18
+earlier 256 of two     | J Q*2 41 46 01 00 00 01 =   | 18
+later 65,535 of two    | J Q*2 41 46 FF FF 00 00 =   | 18
+earlier 65,535 of two  | J Q*2 41 46 01 00 FF FF =   | 18
+pair 256 255 of 512    | J Q*512 41 46 00 01 FF 00 = | 0 2 2 512 0 0 1
+pair 255 256 of 512    | J Q*512 41 46 FF 00 00 01 = | 18
+pair 511 0 of 512      | J Q*512 41 46 FF 01 00 00 = | 0 2 2 512 0 0 1
+pair 511 510 of 512    | J Q*512 41 46 FF 01 FE 01 = | 0 2 2 512 0 0 1
+pair 511 511 of 512    | J Q*512 41 46 FF 01 FF 01 = | 18
+pair 512 0 of 512      | J Q*512 41 46 00 02 00 00 = | 18
+",
+    )
+}
+
+// Pairs rise strictly, by the later request and then by the earlier one (18).
+fn file_pair_order(score: Score) -> Score {
+    score.files(
+        b"
+pairs 1 0, 1 0           | J Q*2 W*2 =                                   | 18
+pairs 2 1, 2 0           | J Q*3 41 46 02 00 01 00 41 46 02 00 00 00 =   | 18
+pairs 2 0, 1 0           | J Q*3 41 46 02 00 00 00 W =                   | 18
+pairs 3 0, 2 1           | J Q*4 41 46 03 00 00 00 41 46 02 00 01 00 =   | 18
+pairs 1 0, 2 0, 1 0      | J Q*3 W 41 46 02 00 00 00 W =                 | 18
+pairs 2 0, 2 1           | J Q*3 41 46 02 00 00 00 41 46 02 00 01 00 =   | 0 2 2 3 0 0 2
+pairs 2 1, 3 0           | J Q*4 41 46 02 00 01 00 41 46 03 00 00 00 =   | 0 2 2 4 0 0 2
+pairs 1 0, 3 2           | J Q*4 W 41 46 03 00 02 00 =                   | 0 2 2 4 0 0 2
+pairs 255 0, 256 0       | J Q*512 41 46 FF 00 00 00 41 46 00 01 00 00 = | 0 2 2 512 0 0 2
+pairs 256 0, 255 0       | J Q*512 41 46 00 01 00 00 41 46 FF 00 00 00 = | 18
+pairs 511 255, 511 256   | J Q*512 41 46 FF 01 FF 00 41 46 FF 01 00 01 = | 0 2 2 512 0 0 2
+pairs 511 256, 511 255   | J Q*512 41 46 FF 01 00 01 41 46 FF 01 FF 00 = | 18
+99 requests, 4,777 pairs | J Q*99 P*4777 =                               | 0 2 2 99 0 0 4777
+98 requests, 4,777 pairs | J Q*98 P*4777 =                               | 18
+",
+    )
+}
+
+// The first faulty record decides, with pairs too: 18 behind every request and before every run.
+fn file_pair_faults(score: Score) -> Score {
+    score.files(
+        b"
+18, then nothing            | J Q*2 41 46 01 00 01 00                         | 18
+18, then one byte           | J Q*2 41 46 01 00 01 00 43                      | 18
+18, then a wrong mark       | J Q*2 41 46 01 00 01 00 00 00                   | 18
+18, then a request          | J Q*2 41 46 01 00 01 00 Q =                     | 18
+18, then a pair cut         | J Q*2 41 46 01 00 01 00 41 46                   | 18
+18, run bad                 | J Q*2 41 46 01 00 01 00 47 52 02 01 =           | 18
+18, wrong balance           | J Q*2 41 46 01 00 01 00 43 4C 00 00             | 18
+18, byte after the close    | J Q*2 41 46 01 00 01 00 = 00                    | 18
+request bad, pair bad       | J Q 52 51 00 01 00 00 02 00 41 46 01 00 01 00 = | 8
+513 requests, pair bad      | J Q*513 41 46 01 00 01 00 =                     | 9
+wrong mark, then a bad pair | J Q*2 00 00 00 00 41 46 01 00 01 00             | 3
+pair, run bad               | J Q*2 W 47 52 02 01 =                           | 10
+pair, 254, same head        | J Q*2 W 47 52 00 FE 47 52 00 01 =               | 11
+pair, byte after the close  | J Q*2 W = 00                                    | 12
+pair, wrong balance         | J Q*2 W 43 4C 00 00                             | 13
+",
+    )
+}
+
+// A file has 10 bytes, 8 a request, 6 a pair and 4 a run: with pairs it can have all 32,768, and no file has more pairs than
+// the 5,321 beside 104 requests.
+fn file_pair_lengths(score: Score) -> Score {
+    score.files(
+        b"
+32,768 bytes, a pair, 8,184 runs        | J Q*2 W R*8184 =                   | 0 2 2 2 2086920 8184 1
+32,768 bytes, its balance               | J Q*2 W R*8184 43 4C C5 27         | 0 2 2 2 2086920 8184 1
+32,768 bytes, wrong balance             | J Q*2 W R*8184 43 4C 00 00         | 13
+32,769 bytes, one after the close       | J Q*2 W R*8184 = 00                | 1
+32,772 bytes, a pair, 8,185 runs        | J Q*2 W R*8185 =                   | 1
+32,768 bytes, 512 requests, 4,777 pairs | J Q*512 P*4777 =                   | 0 2 2 512 0 0 4777
+32,768 bytes, the last one by hand      | J Q*512 P*4776 41 46 62 00 17 00 = | 0 2 2 512 0 0 4777
+32,768 bytes, last pair twice           | J Q*512 P*4776 41 46 62 00 16 00 = | 18
+32,768 bytes, 104 requests, 5,321 pairs | J Q*104 P*5321 =                   | 0 2 2 104 0 0 5321
+32,774 bytes, 512 requests, 4,778 pairs | J Q*512 P*4778 =                   | 1
+32,774 bytes, 104 requests, 5,322 pairs | J Q*104 P*5322 =                   | 1
 ",
     )
 }
@@ -298,11 +442,98 @@ buffer of 32,765 bytes  | 2 2 32765 |  | T*4094 00 | 14
     )
 }
 
-// Reads every file.
+// Pairs behind the requests (02, A3); a rest of one number is no pair.
+fn job_pairs(score: Score) -> Score {
+    score.jobs(
+        b"
+pair 1 0               | 4 2 | Q*2 / 1 0               |                 | 0 32   | 0 4 2 2 0 0 1   | 44 4B 04 00 02 00 Q*2 41 46 01 00 00 00 43 4C 8B 7D
+no pair                | 4 2 | Q*2 /                   |                 | 0 26   | 0 4 2 2 0 0 0   | 44 4B 04 00 02 00 Q*2 43 4C CD C3
+rest of one number     | 4 2 | Q*2 / 1                 |                 | 0 26   | 0 4 2 2 0 0 0   | 44 4B 04 00 02 00 Q*2 43 4C CD C3
+pair and rest of one   | 2 2 | Q*2 / 1 0 9             |                 | 0 32   | 0 2 2 2 0 0 1   | J Q*2 W 43 4C 8D 7D
+rest, no request       | 2 2 | / 1                     |                 | 0 10   | 0 2 2 0 0 0 0   | J =
+requests with a rest   | 2 2 | Q*2 9 9 9 / 1 0         |                 | 0 32   | 0 2 2 2 0 0 1   | J Q*2 W =
+pairs 1 0, 2 0, 2 1    | 2 2 | Q*3 / 1 0 2 0 2 1       |                 | 0 52   | 0 2 2 3 0 0 3   | J Q*3 W 41 46 02 00 00 00 41 46 02 00 01 00 =
+pairs 2 1, 3 0         | 2 2 | Q*4 / 2 1 3 0           |                 | 0 54   | 0 2 2 4 0 0 2   | J Q*4 41 46 02 00 01 00 41 46 03 00 00 00 =
+pairs 256 255, 511 510 | 2 2 | Q*512 / 256 255 511 510 |                 | 0 4118 | 0 2 2 512 0 0 2 | J Q*512 41 46 00 01 FF 00 41 46 FF 01 FE 01 =
+pair and grants        | 2 2 | Q*2 / 1 0               | 00*256 01       | 0 44   | 0 2 2 2 257 3 1 | J Q*2 W 47 52 00 FF 47 52 00 01 47 52 01 01 =
+two heads, 1 waits     | 2 2 | 0 1 0 1 1 2 0 1 / 1 0   | 01*3 00*13 01*6 | 0 44   | 0 2 2 2 22 3 1  | 44 4B 02 00 02 00 52 51 00 01 00 00 01 00 52 51 01 02 00 00 01 00 41 46 01 00 00 00 47 52 01 03 47 52 00 0D 47 52 01 06 43 4C B5 6F
+",
+    )
+}
+
+// Both requests exist, the earlier is below the later, the pairs rise strictly (18); a number too wide is refused, not cut.
+fn job_pair_fields(score: Score) -> Score {
+    score.jobs(
+        b"
+pair 0 0 of no request | 2 2 | / 0 0               |  | 18
+pair 1 0 of no request | 2 2 | / 1 0               |  | 18
+pair 0 0 of one        | 2 2 | Q / 0 0             |  | 18
+pair 1 0 of one        | 2 2 | Q / 1 0             |  | 18
+rest is no request     | 2 2 | Q 0 1 0 / 1 0       |  | 18
+pair 0 1               | 2 2 | Q*2 / 0 1           |  | 18
+pair 1 1               | 2 2 | Q*2 / 1 1           |  | 18
+pair 2 0               | 2 2 | Q*2 / 2 0           |  | 18
+pair 1 2               | 2 2 | Q*2 / 1 2           |  | 18
+later 65,537           | 2 2 | Q*2 / 65537 0       |  | 18
+earlier 65,536         | 2 2 | Q*2 / 1 65536       |  | 18
+both too wide          | 2 2 | Q*2 / 65537 65536   |  | 18
+pair 512 0 of 512      | 2 2 | Q*512 / 512 0       |  | 18
+pairs 1 0, 1 0         | 2 2 | Q*2 / 1 0 1 0       |  | 18
+pairs 2 0, 1 0         | 2 2 | Q*3 / 2 0 1 0       |  | 18
+pairs 2 1, 2 0         | 2 2 | Q*3 / 2 1 2 0       |  | 18
+pairs 3 0, 2 1         | 2 2 | Q*4 / 3 0 2 1       |  | 18
+pairs 1 0, 2 0, 1 0    | 2 2 | Q*3 / 1 0 2 0 1 0   |  | 18
+pairs 256 0, 255 0     | 2 2 | Q*512 / 256 0 255 0 |  | 18
+",
+    )
+}
+
+// The pairs are checked behind every request and before every grant, the length and the buffer.
+fn job_pair_faults(score: Score) -> Score {
+    score.jobs(
+        b"
+heads bad, pair bad         | 2 17  | Q*2 / 1 1            |            | 5
+513 requests, pair bad      | 2 2   | Q*513 / 1 1          |            | 9
+place 4, pair bad           | 4 2   | Q 0 1 0 4 / 1 1      |            | 8
+pair bad, grant bad         | 4 2   | Q*2 / 1 1            | 02         | 18
+pair, grant bad             | 4 2   | Q*2 / 1 0            | 02         | 10
+rest of one, grant bad      | 2 2   | Q*2 / 9              | 02         | 10
+pair bad, 32,772 bytes      | 2 2   | Q*2 / 1 1            | 00*2086921 | 18
+pair bad, empty buffer      | 2 2 0 | Q*2 / 1 1            |            | 18
+4,778 pairs, last one twice | 2 2   | Q*512 / P*4777 98 23 |            | 18
+4,778 pairs, grant bad      | 2 2   | Q*512 / P*4778       | 02         | 10
+98 requests, 4,777 pairs    | 2 2   | Q*98 / P*4777        |            | 18
+",
+    )
+}
+
+// The length (1) and the buffer (14) count the pairs.
+fn job_pair_lengths(score: Score) -> Score {
+    score.jobs(
+        b"
+buffer of 32 bytes                      | 2 2 32    | Q*2 / 1 0      |            | 0 32    | 0 2 2 2 0 0 1          | J Q*2 W =
+buffer of 31 bytes                      | 2 2 31    | Q*2 / 1 0      |            | 14
+buffer of 31 bytes, 4 places            | 4 2 31    | Q*2 / 1 0      |            | 14
+buffer of 26 bytes, rest of one         | 2 2 26    | Q*2 / 1        |            | 0 26    | 0 2 2 2 0 0 0          | J Q*2 =
+32,768 bytes, 2,086,920 grants          | 2 2       | Q*2 / 1 0      | 00*2086920 | 0 32768 | 0 2 2 2 2086920 8184 1 | J Q*2 W R*8184 =
+32,772 bytes, 2,086,921 grants          | 2 2       | Q*2 / 1 0      | 00*2086921 | 1
+32,768 bytes, 512 requests, 4,777 pairs | 2 2       | Q*512 / P*4777 |            | 0 32768 | 0 2 2 512 0 0 4777     | J Q*512 P*4777 =
+32,772 bytes, and a grant               | 2 2       | Q*512 / P*4777 | 00         | 1
+32,774 bytes, 4,778 pairs               | 2 2       | Q*512 / P*4778 |            | 1
+32,774 bytes, empty buffer              | 2 2 0     | Q*512 / P*4778 |            | 1
+32,768 bytes, 104 requests, 5,321 pairs | 2 2       | Q*104 / P*5321 |            | 0 32768 | 0 2 2 104 0 0 5321     | J Q*104 P*5321 =
+32,774 bytes, 5,322 pairs               | 2 2       | Q*104 / P*5322 |            | 1
+buffer of 32,768 bytes                  | 2 2 32768 | Q*512 / P*4777 |            | 0 32768 | 0 2 2 512 0 0 4777     | J Q*512 P*4777 =
+buffer of 32,767 bytes                  | 2 2 32767 | Q*512 / P*4777 |            | 14
+",
+    )
+}
+
+// Reads every file without pairs.
 fn read_files(score: Score) -> Score {
     io::write_all(
         STDOUT_FILENO,
-        b"reader: number places heads requests grants runs\n",
+        b"reader: number places heads requests grants runs pairs\n",
     );
     let score = file_cuts(score);
     let score = file_marks(score);
@@ -315,7 +546,18 @@ fn read_files(score: Score) -> Score {
     file_lengths(score)
 }
 
-// Writes every job.
+// Reads every file with pairs.
+fn read_pairs(score: Score) -> Score {
+    let score = file_pair_sample(score);
+    let score = file_pair_cuts(score);
+    let score = file_pair_places(score);
+    let score = file_pair_fields(score);
+    let score = file_pair_order(score);
+    let score = file_pair_faults(score);
+    file_pair_lengths(score)
+}
+
+// Writes every job without pairs.
 fn write_jobs(score: Score) -> Score {
     io::write_all(
         STDOUT_FILENO,
@@ -330,9 +572,19 @@ fn write_jobs(score: Score) -> Score {
     job_buffers(score)
 }
 
+// Writes every job with pairs.
+fn write_pairs(score: Score) -> Score {
+    let score = job_pairs(score);
+    let score = job_pair_fields(score);
+    let score = job_pair_faults(score);
+    job_pair_lengths(score)
+}
+
 fn main() {
     let score = Score { cases: 0, wrong: 0 };
     let score = read_files(score);
+    let score = read_pairs(score);
     let score = write_jobs(score);
+    let score = write_pairs(score);
     print_score(score);
 }

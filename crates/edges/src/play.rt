@@ -1,10 +1,11 @@
 // How a row is played: a file is read, or a job is written and its file read again, and the answers are compared.
 //
-//   file row   label | file | number places heads requests grants runs
-//   job row    label | places heads [room] | requests | grants | number bytes | number places .. runs | file
+//   file row   label | file | number places heads requests grants runs pairs
+//   job row    label | places heads [room] | requests [/ pairs] | grants | number bytes | number places .. pairs | file
 //
 // The last two fields of a job row are what the reader answers for the written file, and that file, built by hand; a
-// refusal has neither. Without a room the writer gets a buffer of 32,770 bytes. Numbers left out elsewhere are zeros.
+// refusal has neither. A pair (02, A3) is two numbers, later and earlier. Without a room the writer gets a buffer of 32,774
+// bytes. Numbers left out elsewhere are zeros.
 use crate::build::put_numbers;
 use crate::build::put_words;
 use crate::score::Score;
@@ -12,6 +13,8 @@ use crate::score::judge;
 use crate::score::print_checked;
 use crate::score::print_label;
 use crate::score::print_written;
+use crate::text::before_stroke;
+use crate::text::behind_stroke;
 use crate::text::field;
 use crate::text::find;
 use crate::text::first_bytes;
@@ -29,11 +32,11 @@ enum Rows {
 // What stands in a buffer before the writer gets it.
 const UNWRITTEN: u8 = 0xEE;
 
-// Room for a file.
-fn file_room() -> [u8; 32770]
-    ensures { λ r. ⌜ 32770 ≡ length r ⌝ }
+// Room for a file, and for one that is a pair too long.
+fn file_room() -> [u8; 32774]
+    ensures { λ r. ⌜ 32774 ≡ length r ⌝ }
 {
-    [UNWRITTEN; 32770]
+    [UNWRITTEN; 32774]
 }
 
 // Room for the numbers of 513 requests.
@@ -41,6 +44,13 @@ fn request_room() -> [u32; 2052]
     ensures { λ r. ⌜ 2052 ≡ length r ⌝ }
 {
     [0; 2052]
+}
+
+// Room for the numbers of 5,322 pairs: 5,321 beside 104 requests are the most that a file can have.
+fn pair_room() -> [u32; 10644]
+    ensures { λ r. ⌜ 10644 ≡ length r ⌝ }
+{
+    [0; 10644]
 }
 
 // Room for the grants of 8,189 runs of 255, and one more.
@@ -60,13 +70,14 @@ fn first_numbers(numbers: &[u32], count: usize) -> &[u32] {
 
 // The reader's answer that a field expects.
 fn checked_in(text: &[u8]) -> Checked {
-    let mut numbers = [0u32; 6];
+    let mut numbers = [0u32; 7];
     put_numbers(&mut numbers, text);
     Checked {
         number: numbers[0],
         nodes: numbers[1],
         heads: numbers[2],
         requests: numbers[3],
+        waits: numbers[6],
         grants: numbers[4],
         runs: numbers[5],
     }
@@ -82,7 +93,7 @@ fn written_in(text: &[u8]) -> Written {
     }
 }
 
-// Whether two answers of the reader are the same in all six numbers.
+// Whether two answers of the reader are the same in all seven numbers.
 fn is_same_checked(a: Checked, b: Checked) -> bool {
     if a.number != b.number {
         return false;
@@ -99,7 +110,10 @@ fn is_same_checked(a: Checked, b: Checked) -> bool {
     if a.grants != b.grants {
         return false;
     }
-    a.runs == b.runs
+    if a.runs != b.runs {
+        return false;
+    }
+    a.waits == b.waits
 }
 
 // Whether two answers of the writer are the same in both numbers.
@@ -125,13 +139,16 @@ fn write_row(row: &[u8], out: &mut [u8]) -> Written {
     let mut sizes = [0u32; 3];
     put_numbers(&mut sizes, field(row, 1));
     let mut requests = request_room();
-    let numbers = put_numbers(&mut requests, field(row, 2));
+    let numbers = put_numbers(&mut requests, before_stroke(field(row, 2)));
+    let mut waits = pair_room();
+    let pairs = put_numbers(&mut waits, behind_stroke(field(row, 2)));
     let mut grants = grant_room();
     let count = put_words(&mut grants, field(row, 3));
     writer::write(
         sizes[0],
         sizes[1],
         first_numbers(&requests, numbers),
+        first_numbers(&waits, pairs),
         first_bytes(&grants, count),
         out,
     )
@@ -190,7 +207,7 @@ fn wide(number: u32) -> usize {
 fn room_in(row: &[u8]) -> usize {
     let mut sizes = [0u32; 3];
     if put_numbers(&mut sizes, field(row, 1)) < 3 {
-        return 32770;
+        return 32774;
     }
     wide(sizes[2])
 }

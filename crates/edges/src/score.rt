@@ -24,7 +24,7 @@ pub fn print_label(score: Score, label: &[u8]) {
     io::write_all(STDOUT_FILENO, b"|");
 }
 
-// Prints the reader's six numbers.
+// Prints the reader's seven numbers, the pairs last.
 pub fn print_checked(answer: Checked) {
     print_number(answer.number);
     print_number(answer.nodes);
@@ -32,6 +32,7 @@ pub fn print_checked(answer: Checked) {
     print_number(answer.requests);
     print_number(answer.grants);
     print_number(answer.runs);
+    print_number(answer.waits);
 }
 
 // Prints the writer's two numbers.

@@ -1,4 +1,5 @@
-// The text of a table: rows, their fields between bars, the words of a field, and the numbers in words.
+// The text of a table: rows, their fields between bars, a field's parts between strokes, the words of a field, and the numbers
+// in words.
 ghost use Prim.Native.Nat.{_≤_};
 ghost use lib.ListN.{length};
 
@@ -31,25 +32,40 @@ pub fn find(text: &[u8], from: usize, character: u8) -> usize
     find_behind(text, from, character, 0)
 }
 
-// Where the field with a number starts; fields count from 0.
-fn field_start(row: &[u8], number: u32) -> usize
-    ensures { λ r. ⌜ r ≤ length (now (row .entry)) ⌝ }
+// Where the part with a number starts; such a character stands between parts, and they count from 0.
+fn part_start(text: &[u8], character: u8, number: u32) -> usize
+    ensures { λ r. ⌜ r ≤ length (now (text .entry)) ⌝ }
 {
     if number == 0 {
         return 0;
     }
-    let bar = find_behind(row, 0, b'|', number - 1);
-    if bar == row.len() {
-        return bar;
+    let end = find_behind(text, 0, character, number - 1);
+    if end == text.len() {
+        return end;
     }
-    bar + 1
+    end + 1
 }
 
-// The field with a number, empty where the row has none.
+// The part with a number, empty where the text has none.
+fn part(text: &[u8], character: u8, number: u32) -> &[u8] {
+    let from = part_start(text, character, number);
+    let to = find(text, from, character);
+    &text[from..to]
+}
+
+// The field of a row with a number, empty where the row has none.
 pub fn field(row: &[u8], number: u32) -> &[u8] {
-    let from = field_start(row, number);
-    let to = find(row, from, b'|');
-    &row[from..to]
+    part(row, b'|', number)
+}
+
+// The requests in a field that has the pairs behind them (02, A3).
+pub fn before_stroke(text: &[u8]) -> &[u8] {
+    part(text, b'/', 0)
+}
+
+// The pairs in such a field, none where it has no stroke.
+pub fn behind_stroke(text: &[u8]) -> &[u8] {
+    part(text, b'/', 1)
 }
 
 // The value of a digit, hexadecimal too; 0 for any other character.

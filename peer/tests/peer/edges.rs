@@ -6,7 +6,8 @@ use peer::player::{Outcome, AMPLE};
 
 use crate::PLAYERS;
 
-/// The rows, by their fields; `crates/edges` says what stands in them.
+/// The rows, by their fields; `crates/edges` says what stands in them. A job's pairs stand behind
+/// its requests, after a stroke.
 fn rows() -> impl Iterator<Item = Vec<&'static str>> {
     let table = include_str!("../../../crates/edges/src/main.rt");
     table
@@ -23,20 +24,33 @@ fn words(field: &str) -> impl Iterator<Item = (&str, usize)> {
     })
 }
 
+/// That many pairs that rise, from 1 0 on: every request waits for all before it.
+fn pairs(count: usize) -> impl Iterator<Item = [u16; 2]> {
+    let of = |later| (0..later).map(move |earlier| [later, earlier]);
+    (1..).flat_map(of).take(count)
+}
+
+/// The record of a pair.
+fn record([later, earlier]: [u16; 2]) -> [u8; 6] {
+    let ([a, b], [c, d]) = (later.to_le_bytes(), earlier.to_le_bytes());
+    [b'A', b'F', a, b, c, d]
+}
+
 /// The bytes that a field's words stand for.
 fn bytes(field: &str) -> Vec<u8> {
     let mut file = Vec::new();
     for (word, copies) in words(field) {
-        let bytes = match word {
-            "J" => b"DK\x02\0\x02\0".to_vec(),
-            "Q" => b"RQ\0\x01\0\0\x01\0".to_vec(),
-            "R" => b"GR\0\xFF".to_vec(),
-            "S" => b"GR\0\x01GR\x01\x01".to_vec(),
-            "T" => b"\0\x01".to_vec(),
+        file.extend(match word {
+            "J" => b"DK\x02\0\x02\0".repeat(copies),
+            "Q" => b"RQ\0\x01\0\0\x01\0".repeat(copies),
+            "W" => b"AF\x01\0\0\0".repeat(copies),
+            "P" => pairs(copies).flat_map(record).collect(),
+            "R" => b"GR\0\xFF".repeat(copies),
+            "S" => b"GR\0\x01GR\x01\x01".repeat(copies),
+            "T" => b"\0\x01".repeat(copies),
             "=" => b"CL\0\0".to_vec(),
-            byte => vec![u8::from_str_radix(byte, 16).expect("a byte")],
-        };
-        file.extend(bytes.repeat(copies));
+            byte => vec![u8::from_str_radix(byte, 16).expect("a byte"); copies],
+        });
         if word == "=" {
             job::repair_balance(&mut file);
         }
@@ -48,6 +62,7 @@ fn bytes(field: &str) -> Vec<u8> {
 fn numbers(field: &str) -> Vec<u32> {
     let number = |(word, copies): (&str, usize)| match word {
         "Q" => [0, 1, 0, 1].repeat(copies),
+        "P" => pairs(copies).flatten().map(u32::from).collect(),
         number => vec![number.parse().expect("a number")],
     };
     words(field).flat_map(number).collect()
@@ -81,12 +96,14 @@ fn files() {
 #[test]
 fn jobs() {
     for row in rows().filter(|row| row.len() > 3) {
-        let (sizes, requests, grants) = (numbers(row[1]), numbers(row[2]), bytes(row[3]));
+        let (requests, waits) = row[2].split_once('/').unwrap_or((row[2], ""));
+        let (requests, waits) = (numbers(requests), numbers(waits));
+        let (sizes, grants) = (numbers(row[1]), bytes(row[3]));
         let told = numbers(row[4]);
         let file = row.get(6).map_or(Vec::new(), |field| bytes(field));
         for player in PLAYERS {
-            let mut out = vec![0xEE; sizes.get(2).map_or(32_770, |&room| room as usize)];
-            let written = (player.write)(sizes[0], sizes[1], &requests, &grants, &mut out);
+            let mut out = vec![0xEE; sizes.get(2).map_or(32_774, |&room| room as usize)];
+            let written = (player.write)(sizes[0], sizes[1], &requests, &waits, &grants, &mut out);
             assert_eq!([written.number, written.bytes], [told[0], file.len() as u32], "{}", row[0]);
             assert!(out.starts_with(&file), "{}: {}", player.name, row[0]);
             assert!(out[file.len()..].iter().all(|&byte| byte == 0xEE), "{}", row[0]);
@@ -103,6 +120,10 @@ fn every_cut() {
     let whole = bytes("J Q 47 52 00 02 =");
     for length in 0..whole.len() {
         assert_played("a cut", &whole[..length], &[2]);
+    }
+    let waiting = bytes("J Q*2 W 47 52 00 02 =");
+    for length in 0..waiting.len() {
+        assert_played("a cut", &waiting[..length], &[2]);
     }
     assert_eq!(gen::full().file().map(|file| file.len()), Ok(32_766));
 }
