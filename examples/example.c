@@ -1,6 +1,6 @@
 /* Every call of the core once: writes the job that docs/JOBFILE.md shows byte by byte, plays it, plays it again on a
- * lent tally, prints the listing and the page of its groups, and makes an enquiry on the table that it leaves. A wrong
- * result ends it with the number of its check. */
+ * lent tally, prints the listing and the page of its groups, and makes an enquiry on the table that it leaves. At the
+ * end a job in which a request waits for another one. A wrong result ends it with the number of its check. */
 #include "grouping.h"
 
 #include <stdio.h>
@@ -13,6 +13,8 @@ static const uint32_t requests[] = {
 };
 /* one head number a grant */
 static const uint8_t grants[] = {1, 1, 0, 0, 0, 0, 0, 0, 1};
+/* the later request, then the earlier one that it waits for; the first job has no pair */
+static const uint32_t waits[] = {1, 0};
 
 static const uint8_t job[] = {
     0x44, 0x4B, 0x04, 0x00, 0x02, 0x00,
@@ -34,7 +36,7 @@ static uint8_t page[GROUPING_MOST_PAGE];
 
 int main(void) {
     struct grouping_written written = grouping_write(
-        4, 2, requests, sizeof requests / sizeof requests[0], grants, sizeof grants, file, sizeof file);
+        4, 2, requests, sizeof requests / sizeof requests[0], waits, 0, grants, sizeof grants, file, sizeof file);
     if (written.number != GROUPING_ACCEPTED || written.bytes != sizeof job || memcmp(file, job, sizeof job) != 0) {
         return 1;
     }
@@ -75,5 +77,17 @@ int main(void) {
         return 6;
     }
     struct grouping_queried refused = grouping_query(table, again.places, 2, 4, 6);
-    return refused.number == GROUPING_REFUSED_ENQUIRY ? 0 : 7;
+    if (refused.number != GROUPING_REFUSED_ENQUIRY) {
+        return 7;
+    }
+
+    /* The same-set waits until the union is finished: head 1's first two grants are idle, and so is its third. */
+    struct grouping_written paired = grouping_write(
+        4, 2, requests, sizeof requests / sizeof requests[0], waits, 2, grants, sizeof grants, file, sizeof file);
+    struct grouping_played waited = grouping_play(
+        file, paired.bytes, table, GROUPING_MOST_TABLE, report, GROUPING_MOST_REPORT, lineup, GROUPING_MOST_LINEUP);
+    return waited.number == GROUPING_ACCEPTED && report[4] == GROUPING_UNFINISHED && report[5] == 0 &&
+                   waited.tally.idle == 3 && waited.tally.working == 2
+               ? 0
+               : 8;
 }

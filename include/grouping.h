@@ -2,7 +2,8 @@
  * table's groups on a page.
  *
  * Words. Heads take turns on one table of places, one grant at a time, and work through requests: a union joins the
- * groups of two places, a same-set asks whether two places are in one group. A place is a node of the paper's forest,
+ * groups of two places, a same-set asks whether two places are in one group. A request may wait for an earlier one:
+ * until that is finished, its head takes its grants as idle. A place is a node of the paper's forest,
  * a group a set, the line-up the run's linearization, an enquiry's allowance its budget of grants; a call that is
  * turned down is refused. docs/GLOSSARY.md has all of them, docs/JOBFILE.md the job file byte by byte.
  *
@@ -54,7 +55,7 @@ enum {
 /* What a call is refused with: its result's number. */
 enum {
     GROUPING_ACCEPTED = 0,
-    /* by the sender of a job file, 1 and 4 to 10 also by the caller of grouping_write */
+    /* by the sender of a job file, 1, 4 to 10 and 18 also by the caller of grouping_write */
     GROUPING_REFUSED_FILE_TOO_LONG = 1,     /* over 32,768 bytes */
     GROUPING_REFUSED_FILE_ENDS_EARLY = 2,   /* before a record is whole or before the close */
     GROUPING_REFUSED_MARK = 3,              /* a mark not allowed at that position */
@@ -72,7 +73,10 @@ enum {
     GROUPING_REFUSED_BUFFER = 14,           /* a lent buffer is too short */
     GROUPING_REFUSED_ENQUIRY = 15,          /* the table is empty or over 4,096, or a place is not below its length */
     GROUPING_REFUSED_WORD = 16,             /* a word that no table has: docs/JOBFILE.md */
-    GROUPING_REFUSED_PAGE = 17              /* a row list shorter than the groups, or a page buffer than the page */
+    GROUPING_REFUSED_PAGE = 17,             /* a row list shorter than the groups, or a page buffer than the page */
+    /* by the sender of a job file, and by the caller of grouping_write */
+    GROUPING_REFUSED_WAIT = 18              /* a pair of requests: one doesn't exist, the earlier number isn't below the
+                                             * later, or the pairs don't rise strictly */
 };
 
 /* A request's kind, and its answer in the report. An enquiry has the same answers: yes, no or spent. */
@@ -107,7 +111,7 @@ struct grouping_tally {
     uint32_t working;
 };
 
-/* number is 0, or the refusal's (1 to 14). entries are those of the line-up. */
+/* number is 0, or the refusal's (1 to 14, 18). entries are those of the line-up. */
 struct grouping_played {
     uint32_t number;
     uint32_t places;
@@ -118,7 +122,7 @@ struct grouping_played {
     struct grouping_tally tally;
 };
 
-/* number is 0 and bytes the file's length, or the refusal's number (1, 4 to 10, 14) and 0. */
+/* number is 0 and bytes the file's length, or the refusal's number (1, 4 to 10, 14, 18) and 0. */
 struct grouping_written {
     uint32_t number;
     uint32_t bytes;
@@ -169,9 +173,11 @@ struct grouping_played grouping_play_lent(const uint8_t *file, size_t file_lengt
                                           struct grouping_tally *tally);
 
 /* Writes a job file. requests has four numbers a request (head, kind, place x, place y), and a rest of fewer than four
- * is no request; grants has one head number a grant. */
+ * is no request. waits has two numbers a pair, the later request and the earlier one that it waits for, rising by the
+ * pair, and a rest of one is no pair; requests count from 0. grants has one head number a grant. */
 struct grouping_written grouping_write(uint32_t places, uint32_t heads,
                                        const uint32_t *requests, size_t requests_length,
+                                       const uint32_t *waits, size_t waits_length,
                                        const uint8_t *grants, size_t grants_length,
                                        uint8_t *out, size_t out_length);
 

@@ -31,6 +31,8 @@ extern "C" {
         heads: u32,
         requests: *const u32,
         requests_length: usize,
+        waits: *const u32,
+        waits_length: usize,
         grants: *const u8,
         grants_length: usize,
         out: *mut u8,

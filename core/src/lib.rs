@@ -2,7 +2,8 @@
 //! is lent, write one, make a counter enquiry, print a played job, put a table's groups on a page.
 //!
 //! Heads take turns on one table of places, one grant at a time, and work through requests: a union
-//! joins the groups of two places, a same-set asks whether two places are in one group. A place is a
+//! joins the groups of two places, a same-set asks whether two places are in one group. A request may
+//! wait for an earlier one: until that is finished, its head takes its grants as idle. A place is a
 //! node of the paper's forest, a group a set, the line-up the run's linearization, an enquiry's
 //! allowance its budget of grants; a call that is turned down is refused. `docs/GLOSSARY.md` has all
 //! of them, `docs/JOBFILE.md` the job file byte by byte.
@@ -20,7 +21,7 @@
 //! let requests = [0, UNION, 2, 3, /**/ 1, SAME_SET, 0, 1];
 //! let grants = [1, 1, 0, 0, 0, 0, 0, 0, 1];
 //! let mut file = vec![0; MOST_FILE];
-//! let written = write(4, 2, &requests, &grants, &mut file).result()?;
+//! let written = write(4, 2, &requests, &[], &grants, &mut file).result()?;
 //!
 //! let (mut table, mut report, mut lineup) =
 //!     (vec![0; MOST_TABLE], vec![0; MOST_REPORT], vec![0; MOST_LINEUP]);
@@ -54,7 +55,7 @@ pub use results::{Listed, Paged, Played, Queried, Row, Tally, Written};
 
 /// Plays a job file. `table` gets a word a place (rank × 65,536 + parent), `report` four numbers a
 /// request (answer, first grant, last grant, grants used), `lineup` two numbers an entry (point,
-/// request). Refused with 1 to 14.
+/// request). Refused with 1 to 14 and 18.
 ///
 /// ```
 /// use grouping_core::{play, Answer, Refusal};
@@ -131,22 +132,35 @@ pub fn play_lent(
 }
 
 /// Writes a job file. `requests` has four numbers a request (head, kind, place x, place y), and a
-/// rest of fewer than four is no request; `grants` has one head number a grant. Refused with 1, 4 to
-/// 10 and 14.
+/// rest of fewer than four is no request. `waits` has two numbers a pair, the later request and the
+/// earlier one that it waits for, rising by the pair, and a rest of one is no pair; requests count
+/// from 0. `grants` has one head number a grant. Refused with 1, 4 to 10, 14 and 18.
 ///
 /// ```
-/// use grouping_core::{write, Refusal, UNION};
+/// use grouping_core::{write, Refusal, SAME_SET, UNION};
 ///
 /// let mut out = [0xEE; 24];
-/// let written = write(2, 1, &[0, UNION, 0, 1], &[0; 6], &mut out);
+/// let written = write(2, 1, &[0, UNION, 0, 1], &[], &[0; 6], &mut out);
 /// assert_eq!((written.number, written.bytes), (0, 22));
 /// assert_eq!(&out[..22], b"DK\x02\0\x01\0RQ\0\x01\0\0\x01\0GR\0\x06CL\xDC\xBD");
 /// assert_eq!(out[22..], [0xEE; 2]);
 ///
-/// let refused = write(2, 1, &[0, UNION, 0, 2], &[0; 6], &mut out);
+/// let refused = write(2, 1, &[0, UNION, 0, 2], &[], &[0; 6], &mut out);
 /// assert_eq!(refused.result(), Err(Refusal::RequestPlace));
+///
+/// // Request 1 waits for request 0, and no request for itself.
+/// let requests = [0, UNION, 0, 1, /**/ 1, SAME_SET, 0, 1];
+/// assert_eq!(write(2, 2, &requests, &[1, 0], &[], &mut [0; 32]).bytes, 32);
+/// assert_eq!(write(2, 2, &requests, &[1, 1], &[], &mut [0; 32]).result(), Err(Refusal::Wait));
 /// ```
-pub fn write(places: u32, heads: u32, requests: &[u32], grants: &[u8], out: &mut [u8]) -> Written {
+pub fn write(
+    places: u32,
+    heads: u32,
+    requests: &[u32],
+    waits: &[u32],
+    grants: &[u8],
+    out: &mut [u8],
+) -> Written {
     // SAFETY: pointers and lengths of slices, as said above.
     unsafe {
         exports::grouping_write(
@@ -154,6 +168,8 @@ pub fn write(places: u32, heads: u32, requests: &[u32], grants: &[u8], out: &mut
             heads,
             requests.as_ptr(),
             requests.len(),
+            waits.as_ptr(),
+            waits.len(),
             grants.as_ptr(),
             grants.len(),
             out.as_mut_ptr(),

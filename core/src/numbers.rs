@@ -148,11 +148,14 @@ pub enum Refusal {
     Word = 16,
     /// The row list is shorter than the groups, or the page buffer than the page.
     Page = 17,
+    /// A pair of requests, of which the later one waits: one of them doesn't exist, the earlier
+    /// number isn't below the later, or the pairs don't rise strictly.
+    Wait = 18,
 }
 
 impl Refusal {
     /// All of them, by their numbers.
-    pub const ALL: [Refusal; 17] = [
+    pub const ALL: [Refusal; 18] = [
         Refusal::FileTooLong,
         Refusal::FileEndsEarly,
         Refusal::Mark,
@@ -170,6 +173,7 @@ impl Refusal {
         Refusal::Enquiry,
         Refusal::Word,
         Refusal::Page,
+        Refusal::Wait,
     ];
 
     /// The refusal that a number stands for; 0 is none.
@@ -202,6 +206,9 @@ impl Refusal {
             }
             Refusal::Page => {
                 "the row list is shorter than the groups, or the page buffer than the page"
+            }
+            Refusal::Wait => {
+                "of a pair of requests one doesn't exist, the earlier number isn't below the later, or the pairs don't rise strictly"
             }
         }
     }

@@ -18,7 +18,7 @@ pub struct Tally {
     pub working: u32,
 }
 
-/// What a play left: its counts, or a refusal's number (1 to 14) and zeros.
+/// What a play left: its counts, or a refusal's number (1 to 14, 18) and zeros.
 #[must_use = "a refusal is told only here"]
 #[repr(C)]
 #[derive(Clone, Copy, Debug, Default, PartialEq, Eq)]
@@ -39,7 +39,7 @@ pub struct Played {
     pub tally: Tally,
 }
 
-/// The length of a file that was written, or a refusal's number (1, 4 to 10, 14) and 0.
+/// The length of a file that was written, or a refusal's number (1, 4 to 10, 14, 18) and 0.
 #[must_use = "a refusal is told only here"]
 #[repr(C)]
 #[derive(Clone, Copy, Debug, Default, PartialEq, Eq)]

@@ -77,9 +77,9 @@ fn same_names_and_numbers() {
 /// Every number has its refusal and every refusal its words.
 #[test]
 fn refusals_by_number() {
-    for number in 1..=17 {
-        let refusal = Refusal::of(number).expect("1 to 17 are refusals");
+    for number in 1..=18 {
+        let refusal = Refusal::of(number).expect("1 to 18 are refusals");
         assert!(refusal.to_string().starts_with(&format!("refused {number}: ")));
     }
-    assert_eq!((Refusal::of(0), Refusal::of(18)), (None, None));
+    assert_eq!((Refusal::of(0), Refusal::of(19)), (None, None));
 }
