@@ -4,8 +4,10 @@
 //! known as a written swap of a root's word to another parent, and a union's tidying up by its last
 //! three accesses.
 
+use std::collections::VecDeque;
+
 use crate::head::{Access, Deed};
-use crate::job::{Job, Kind};
+use crate::job::{Job, Kind, Wait};
 use crate::numbers::answer;
 use crate::player::Outcome;
 use crate::replay::Book;
@@ -26,6 +28,8 @@ pub fn check(job: &Job, trace: &[Access], outcome: &Outcome) -> Verdict {
     run.tidied()?;
     run.points()?;
     run.real_time_order()?;
+    run.waited()?;
+    run.idle_for_a_reason()?;
     run.replay()
 }
 
@@ -233,6 +237,52 @@ impl<'a> Run<'a> {
             let Numbers { first, last, .. } = self.report[entry.request];
             latest_first = latest_first.max(first);
             hold(last == 0 || latest_first <= last, "what ended first stands first")?;
+        }
+        Ok(())
+    }
+
+    /// Every request that has begun stands after those that it waits for.
+    fn waited(&self) -> Verdict {
+        let mut points = vec![None; self.job.requests.len()];
+        for entry in &self.lineup {
+            points[entry.request] = Some(entry.point);
+        }
+        for wait in &self.job.waits {
+            let (later, earlier) = (wait.later as usize, wait.earlier as usize);
+            let (of_later, of_earlier) = (self.report[later], self.report[earlier]);
+            // No point is below every point, so the earlier request has to have one.
+            let stands = points[earlier].is_some() && points[earlier] < points[later];
+            let unfinished = of_later.answer == answer::UNFINISHED;
+            hold(unfinished || stands, "what waited stands after what it waited for")?;
+            let ended = of_earlier.answer != answer::UNFINISHED;
+            let after = ended && of_earlier.last < of_later.first;
+            hold(of_later.first == 0 || after, "what waits begins after what it waits for ends")?;
+        }
+        Ok(())
+    }
+
+    /// A grant makes no access only where its head has no work left, or rests and waits.
+    fn idle_for_a_reason(&self) -> Verdict {
+        let busy = |now: &u32| self.trace.binary_search_by_key(now, |access| access.grant).is_ok();
+        let mut left: Vec<VecDeque<usize>> = vec![VecDeque::new(); self.job.heads as usize];
+        for (number, request) in self.job.requests.iter().enumerate() {
+            left[usize::from(request.head)].push_back(number);
+        }
+        let ended = |number: usize, now: u32| (1..=now).contains(&self.report[number].last);
+        for (now, &head) in (1..).zip(&self.job.grants).filter(|(now, _)| !busy(now)) {
+            let left = &mut left[usize::from(head)];
+            while left.front().is_some_and(|&next| ended(next, now)) {
+                left.pop_front();
+            }
+            let Some(&next) = left.front() else {
+                continue;
+            };
+            let rests = self.report[next].first == 0 || self.report[next].first > now;
+            hold(rests, "a request under way takes every grant of its head")?;
+            let own = |wait: &&Wait| wait.later as usize == next;
+            let open = |wait: &Wait| !ended(wait.earlier as usize, now);
+            let waits = self.job.waits.iter().filter(own).any(open);
+            hold(waits, "a head with work left is idle only where it waits")?;
         }
         Ok(())
     }

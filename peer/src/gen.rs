@@ -1,7 +1,10 @@
 //! Seeded jobs that make heads meet, schedules built for known wrong turns, tables, and damage to
 //! files and tables.
 
-use crate::job::{self, Job, Request, CLOSE, MAX_BYTES, MAX_REQUESTS, OPENING, REQUEST, RUN};
+use std::collections::BTreeSet;
+
+use crate::job::{self, Job, Request, Wait};
+use crate::job::{CLOSE, MAX_BYTES, MAX_REQUESTS, OPENING, REQUEST, RUN, WAIT};
 use crate::numbers::refusal;
 use crate::word::{parent, rank, word};
 
@@ -58,7 +61,64 @@ pub fn contended(random: &mut Random) -> Job {
     requests.extend(self::requests(random, nodes, heads, rest));
     let length = random.between(0, 24 * count);
     grants.extend(schedule(random, heads, length));
-    Job { nodes, heads, requests, grants }
+    Job { nodes, heads, requests, waits: Vec::new(), grants }
+}
+
+/// A contended job with up to 30 pairs.
+pub fn waiting(random: &mut Random) -> Job {
+    let job = contended(random);
+    let most = random.between(0, 30);
+    let waits = pairs(random, job.requests.len() as u32, most);
+    Job { waits: waits.into_iter().collect(), ..job }
+}
+
+/// A contended job, with pairs or without any.
+pub fn contended_or_waiting(random: &mut Random) -> Job {
+    if random.chance(50) {
+        contended(random)
+    } else {
+        waiting(random)
+    }
+}
+
+/// A job of which at least a tenth of the grants wait: before request 0 has any, the other heads,
+/// which wait for it, have theirs in vain. No more than 30 pairs.
+pub fn held(random: &mut Random) -> Job {
+    let mut job = contended(random);
+    let first = job.requests[0].head;
+    job.requests.push(Request::union((first + 1) % job.heads as u8, 0, 1));
+    let next_of = |head: u8| job.requests.iter().position(|request| request.head == head);
+    let held: Vec<(u8, usize)> = (0..job.heads as u8)
+        .filter(|&head| head != first)
+        .filter_map(|head| next_of(head).map(|next| (head, next)))
+        .collect();
+    let mut waits = pairs(random, job.requests.len() as u32, 15);
+    waits.extend(held.iter().map(|&(_, next)| Wait { later: next as u32, earlier: 0 }));
+    let others = job.grants.len() as u32;
+    let in_vain = random.between(others / 9 + 1, others / 4 + 2);
+    let mut grants: Vec<u8> = (0..in_vain).map(|_| random.pick(&held).0).collect();
+    grants.append(&mut job.grants);
+    Job { waits: waits.into_iter().collect(), grants, ..job }
+}
+
+/// Pairs of any requests, at most so many.
+fn pairs(random: &mut Random, requests: u32, most: u32) -> BTreeSet<Wait> {
+    let mut pairs = BTreeSet::new();
+    for _ in 0..if requests < 2 { 0 } else { most } {
+        let later = random.between(1, requests - 1);
+        pairs.insert(Wait { later, earlier: random.below(later) });
+    }
+    pairs
+}
+
+/// So many pairs, rising, whose requests are as near to each other as they can be and at least so
+/// far apart.
+pub fn nearest_pairs(requests: u32, least_apart: u32, count: usize) -> Vec<Wait> {
+    let of =
+        |apart: u32| (apart..requests).map(move |later| Wait { later, earlier: later - apart });
+    let mut pairs: Vec<Wait> = (least_apart..requests).flat_map(of).take(count).collect();
+    pairs.sort();
+    pairs
 }
 
 /// A larger job, up to every limit, whose requests keep to a part of the nodes.
@@ -69,7 +129,7 @@ pub fn larger(random: &mut Random) -> Job {
     let count = random.between(1, 512);
     let requests = requests(random, busy, heads, count);
     let length = random.between(0, 20 * count).min(7_000);
-    Job { nodes, heads, requests, grants: schedule(random, heads, length) }
+    Job { nodes, heads, requests, waits: Vec::new(), grants: schedule(random, heads, length) }
 }
 
 fn requests(random: &mut Random, nodes: u32, heads: u32, count: u32) -> Vec<Request> {
@@ -134,12 +194,47 @@ pub fn built() -> Vec<Job> {
     ]
 }
 
-/// The longest file there is, with every request and head that it can have.
+/// The longest file without pairs, with every request and head that it can have.
 pub fn full() -> Job {
     let requests = requests(&mut Random::new(0), 64, 16, 512);
     let runs: Vec<_> =
         (0..7_165).map(|n| (n as u8 % 16, if n < 7_000 { 1 } else { 255 })).collect();
     Job::new(4_096, 16, &requests, &runs)
+}
+
+/// Every request, and the most pairs that there can be beside them: no byte is left for a run.
+pub fn most_pairs() -> Job {
+    let requests = requests(&mut Random::new(1), 4_096, 16, 512);
+    Job { waits: nearest_pairs(512, 1, 4_777), ..Job::new(4_096, 16, &requests, &[]) }
+}
+
+/// One head waits for the other through all grants of a file that could not be longer.
+pub fn longest_wait() -> Job {
+    let requests = [Request::union(0, 0, 1), Request::same_set(1, 0, 1)];
+    Job::new(4_096, 16, &requests, &[(1, 2_086_920)]).waiting(&[(1, 0)])
+}
+
+/// Each request waits for those before it, so that one is played after the other: sixteen heads in
+/// turn end one request each and wait for the rest of their run.
+pub fn one_after_the_other() -> Job {
+    let mut requests = mixed_requests(&mut Random::new(0), 4_096, 16, 512, 50);
+    for (number, request) in requests.iter_mut().enumerate() {
+        request.head = (number % 16) as u8;
+    }
+    let runs: Vec<(u8, usize)> = (0..512).map(|n| ((n % 16) as u8, 40)).collect();
+    Job { waits: nearest_pairs(512, 1, 4_435), ..Job::new(4_096, 16, &requests, &runs) }
+}
+
+/// Each head has 32 requests, which wait for those of the heads before it. All but the first head
+/// have grants in vain; then each head in turn has as many as its requests need.
+pub fn head_after_head() -> Job {
+    let mut requests = mixed_requests(&mut Random::new(0), 4_096, 16, 512, 50);
+    for (number, request) in requests.iter_mut().enumerate() {
+        request.head = (number / 32) as u8;
+    }
+    let in_vain = (1..16).map(|head| (head, 255));
+    let runs: Vec<(u8, usize)> = in_vain.chain((0..16).map(|head| (head, 510))).collect();
+    Job { waits: nearest_pairs(512, 32, 4_745), ..Job::new(4_096, 16, &requests, &runs) }
 }
 
 /// Unions of equal ranks, level by level, each played to its end: the highest rank for its nodes.
@@ -204,7 +299,7 @@ pub enum Expected {
 /// The file of a job, damaged in some way.
 pub fn damaged(random: &mut Random, job: &Job) -> (Vec<u8>, Expected) {
     let file = job.file().expect("a generated job is accepted");
-    match random.below(10) {
+    match random.below(11) {
         0 => bytes_changed(random, file),
         1 => (file[..random.below(file.len() as u32) as usize].to_vec(), ends_early()),
         2 => lengthened(random, file),
@@ -214,6 +309,10 @@ pub fn damaged(random: &mut Random, job: &Job) -> (Vec<u8>, Expected) {
         6 => run_out_of_range(random, file, job),
         7 => run_split(random, file, job),
         8 => balance_changed(random, file),
+        9 => {
+            let fault = random.pick(&WAIT_FAULTS);
+            wait_spoilt(random, file, job, fault)
+        }
         _ => too_many_requests(random, file, job),
     }
 }
@@ -292,9 +391,57 @@ fn request_out_of_range(random: &mut Random, mut file: Vec<u8>, job: &Job) -> (V
     (file, Expected::Number(number))
 }
 
+/// The ways in which a pair is refused.
+#[derive(Clone, Copy, Debug, PartialEq, Eq)]
+pub enum WaitFault {
+    LaterMissing,
+    EarlierMissing,
+    EarlierNotBelow,
+    NotRising,
+}
+
+pub const WAIT_FAULTS: [WaitFault; 4] = [
+    WaitFault::LaterMissing,
+    WaitFault::EarlierMissing,
+    WaitFault::EarlierNotBelow,
+    WaitFault::NotRising,
+];
+
+/// Some pair is spoilt in this way, and in as few others as can be; without pairs nothing is.
+pub fn wait_spoilt(
+    random: &mut Random,
+    mut file: Vec<u8>,
+    job: &Job,
+    fault: WaitFault,
+) -> (Vec<u8>, Expected) {
+    if job.waits.is_empty() {
+        return (file, Expected::Number(refusal::NONE));
+    }
+    let first = OPENING + REQUEST * job.requests.len();
+    let index = random.below(job.waits.len() as u32);
+    let at = first + WAIT * index as usize;
+    let requests = job.requests.len() as u32;
+    let missing = random.pick(&[requests, 256 + requests, 65_535]);
+    match fault {
+        WaitFault::LaterMissing => set_field(&mut file, at + 2, missing),
+        WaitFault::EarlierMissing => set_field(&mut file, at + 4, missing),
+        WaitFault::EarlierNotBelow => {
+            let later = job.waits[index as usize].later;
+            set_field(&mut file, at + 4, random.between(later, requests - 1));
+        }
+        WaitFault::NotRising => {
+            // Behind the pair stands one that is equal to it or comes before it.
+            let again = first + WAIT * random.between(0, index) as usize;
+            let record = file[again..again + WAIT].to_vec();
+            file.splice(at + WAIT..at + WAIT, record);
+        }
+    }
+    (file, Expected::Number(refusal::WAIT))
+}
+
 /// The place of some run's record, if there is any.
 fn some_run(random: &mut Random, file: &[u8], job: &Job) -> Option<usize> {
-    let first = OPENING + REQUEST * job.requests.len();
+    let first = OPENING + REQUEST * job.requests.len() + WAIT * job.waits.len();
     let runs = (file.len() - CLOSE - first) / RUN;
     (runs > 0).then(|| first + RUN * random.below(runs as u32) as usize)
 }

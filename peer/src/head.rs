@@ -149,6 +149,8 @@ enum Stage {
 #[derive(Clone, Copy)]
 pub struct Head {
     pub request: usize,
+    /// While it rests: the lowest unfinished request that its next one waits for.
+    pub waits: Option<u16>,
     kind: Kind,
     x: u32,
     y: u32,
@@ -173,8 +175,15 @@ impl Progress {
 
 impl Head {
     /// Before it has any request.
-    pub const NEW: Head =
-        Head { request: 0, kind: Kind::Union, x: 0, y: 0, point: 0, stage: Stage::Resting };
+    pub const NEW: Head = Head {
+        request: 0,
+        waits: None,
+        kind: Kind::Union,
+        x: 0,
+        y: 0,
+        point: 0,
+        stage: Stage::Resting,
+    };
 
     /// Rests before the request of this number.
     pub fn rest(&mut self, request: usize) {

@@ -1,4 +1,4 @@
-//! Job files: checked and read in document 01's order, and written.
+//! Job files: checked and read in document 01's order, with document 02's pairs, and written.
 
 use crate::numbers::refusal;
 
@@ -10,12 +10,14 @@ pub const MAX_RUN: usize = 255;
 
 pub const OPENING_MARK: &[u8] = b"DK";
 pub const REQUEST_MARK: &[u8] = b"RQ";
+pub const WAIT_MARK: &[u8] = b"AF";
 pub const RUN_MARK: &[u8] = b"GR";
 pub const CLOSE_MARK: &[u8] = b"CL";
 
 /// Bytes of each record, its mark included.
 pub const OPENING: usize = 6;
 pub const REQUEST: usize = 8;
+pub const WAIT: usize = 6;
 pub const RUN: usize = 4;
 pub const CLOSE: usize = 4;
 
@@ -43,12 +45,21 @@ impl Request {
     }
 }
 
+/// A pair: the later request waits for the earlier one. Pairs are ordered by the later request,
+/// then by the earlier one, as a file has them.
+#[derive(Clone, Copy, Debug, PartialEq, Eq, PartialOrd, Ord)]
+pub struct Wait {
+    pub later: u32,
+    pub earlier: u32,
+}
+
 /// What a file means: `grants` has one head number a grant.
 #[derive(Clone, Debug, PartialEq, Eq)]
 pub struct Job {
     pub nodes: u32,
     pub heads: u32,
     pub requests: Vec<Request>,
+    pub waits: Vec<Wait>,
     pub grants: Vec<u8>,
 }
 
@@ -58,6 +69,7 @@ pub struct Shape {
     pub nodes: u32,
     pub heads: u32,
     pub requests: usize,
+    pub waits: usize,
     pub grants: u32,
 }
 
@@ -68,10 +80,16 @@ pub struct Written {
 }
 
 impl Job {
-    /// A job with its schedule as pairs of a head and its number of grants.
+    /// A job without pairs, with its schedule as heads, each with its number of grants.
     pub fn new(nodes: u32, heads: u32, requests: &[Request], runs: &[(u8, usize)]) -> Job {
         let grants = runs.iter().flat_map(|&(head, run)| vec![head; run]).collect();
-        Job { nodes, heads, requests: requests.to_vec(), grants }
+        Job { nodes, heads, requests: requests.to_vec(), waits: Vec::new(), grants }
+    }
+
+    /// The same job with these pairs, a later and an earlier request each.
+    pub fn waiting(self, pairs: &[(u32, u32)]) -> Job {
+        let wait = |&(later, earlier): &(u32, u32)| Wait { later, earlier };
+        Job { waits: pairs.iter().map(wait).collect(), ..self }
     }
 
     /// The same job with only its first grants.
@@ -85,11 +103,17 @@ impl Job {
         self.requests.iter().flat_map(four).collect()
     }
 
+    /// The pairs as the writer takes them: the later request and the earlier one of each.
+    pub fn flat_waits(&self) -> Vec<u32> {
+        self.waits.iter().flat_map(|wait| [wait.later, wait.earlier]).collect()
+    }
+
     /// The job's file, or the number it is refused with.
     pub fn file(&self) -> Result<Vec<u8>, u32> {
         let mut buffer = vec![0; MAX_BYTES];
-        let requests = self.flat_requests();
-        let written = write(self.nodes, self.heads, &requests, &self.grants, &mut buffer);
+        let (requests, waits) = (self.flat_requests(), self.flat_waits());
+        let Job { nodes, heads, ref grants, .. } = *self;
+        let written = write(nodes, heads, &requests, &waits, grants, &mut buffer);
         buffer.truncate(written.bytes as usize);
         match written.number {
             refusal::NONE => Ok(buffer),
@@ -106,6 +130,7 @@ pub fn read(file: &[u8]) -> Result<Job, u32> {
         nodes: shape.nodes,
         heads: shape.heads,
         requests: (0..shape.requests).map(|number| request_at(file, number)).collect(),
+        waits: wait_records(file, &shape).iter().map(|record| wait_of(record)).collect(),
         grants: grants.collect(),
     })
 }
@@ -118,6 +143,14 @@ pub fn check(file: &[u8]) -> Result<Shape, u32> {
     while mark(file, at)? == REQUEST_MARK {
         check_request(record(file, at, REQUEST)?, &mut shape)?;
         at += REQUEST;
+    }
+    let mut before = None;
+    while mark(file, at)? == WAIT_MARK {
+        let wait = wait_of(record(file, at, WAIT)?);
+        check_wait(wait, before, shape.requests)?;
+        before = Some(wait);
+        shape.waits += 1;
+        at += WAIT;
     }
     let mut previous = None;
     while mark(file, at)? == RUN_MARK {
@@ -150,6 +183,14 @@ fn check_request(record: &[u8], shape: &mut Shape) -> Result<(), u32> {
     Ok(())
 }
 
+/// A pair of a file or of the writer's caller, behind the pair before it, beside so many requests.
+fn check_wait(wait: Wait, before: Option<Wait>, requests: usize) -> Result<(), u32> {
+    let exists = |number: u32| (number as usize) < requests;
+    refuse_if(!exists(wait.later) || !exists(wait.earlier), refusal::WAIT)?;
+    refuse_if(wait.earlier >= wait.later, refusal::WAIT)?;
+    refuse_if(before.is_some_and(|before| before >= wait), refusal::WAIT)
+}
+
 fn check_run(
     record: &[u8],
     previous: Option<(u8, u8)>,
@@ -171,9 +212,35 @@ pub fn request_at(file: &[u8], number: usize) -> Request {
     Request { head: record[2], kind, x: field(record, 4), y: field(record, 6) }
 }
 
+/// The pairs' records of an accepted file.
+fn wait_records<'a>(file: &'a [u8], shape: &Shape) -> &'a [[u8; WAIT]] {
+    file[OPENING + REQUEST * shape.requests..][..WAIT * shape.waits].as_chunks().0
+}
+
+fn wait_of(record: &[u8]) -> Wait {
+    Wait { later: field(record, 2), earlier: field(record, 4) }
+}
+
+/// The requests that a request of an accepted file waits for, rising.
+pub fn waited_for<'a>(
+    file: &'a [u8],
+    shape: &Shape,
+    request: usize,
+) -> impl Iterator<Item = usize> + 'a {
+    let (later, records) = (request as u32, wait_records(file, shape));
+    // Pairs rise, so those of one request stand together.
+    let first = records.partition_point(|record| wait_of(record).later < later);
+    let own = records[first..]
+        .iter()
+        .map(|record| wait_of(record))
+        .take_while(move |wait| wait.later == later);
+    own.map(|wait| wait.earlier as usize)
+}
+
 /// The runs of an accepted file: head and length of each.
 pub fn runs<'a>(file: &'a [u8], shape: &Shape) -> impl Iterator<Item = (u8, u8)> + 'a {
-    let records = &file[OPENING + REQUEST * shape.requests..file.len() - CLOSE];
+    let first = OPENING + REQUEST * shape.requests + WAIT * shape.waits;
+    let records = &file[first..file.len() - CLOSE];
     records.chunks_exact(RUN).map(|record| (record[2], record[3]))
 }
 
@@ -203,19 +270,21 @@ fn refuse_if(condition: bool, number: u32) -> Result<(), u32> {
     }
 }
 
-/// Writes the file that means these four into the front of `buffer`. Requests are four numbers
-/// each (head, kind, x, y); a rest of fewer than four is no request.
+/// Writes the file that means these five into the front of `buffer`. Requests are four numbers
+/// each (head, kind, x, y), and a rest of fewer than four is no request; pairs are two numbers each
+/// (later, earlier), and a rest of one is no pair.
 pub fn write(
     nodes: u32,
     heads: u32,
     requests: &[u32],
+    waits: &[u32],
     grants: &[u8],
     buffer: &mut [u8],
 ) -> Written {
-    match check_meaning(nodes, heads, requests, grants, buffer.len()) {
+    match check_meaning(nodes, heads, requests, waits, grants, buffer.len()) {
         Err(number) => Written { number, bytes: 0 },
         Ok(bytes) => {
-            fill(&mut buffer[..bytes], nodes, heads, requests, grants);
+            fill(&mut buffer[..bytes], nodes, heads, requests, waits, grants);
             Written { number: refusal::NONE, bytes: bytes as u32 }
         }
     }
@@ -226,6 +295,7 @@ fn check_meaning(
     nodes: u32,
     heads: u32,
     requests: &[u32],
+    waits: &[u32],
     grants: &[u8],
     room: usize,
 ) -> Result<usize, u32> {
@@ -238,10 +308,16 @@ fn check_meaning(
         refuse_if(request[2] >= nodes, refusal::REQUEST_NODE)?;
         refuse_if(request[3] >= nodes, refusal::REQUEST_NODE)?;
     }
+    let mut before = None;
+    for pair in waits.chunks_exact(2) {
+        let wait = Wait { later: pair[0], earlier: pair[1] };
+        check_wait(wait, before, requests.len() / 4)?;
+        before = Some(wait);
+    }
     for &head in grants {
         refuse_if(u32::from(head) >= heads, refusal::GRANT)?;
     }
-    let records = OPENING + REQUEST * (requests.len() / 4) + CLOSE;
+    let records = OPENING + REQUEST * (requests.len() / 4) + WAIT * (waits.len() / 2) + CLOSE;
     let bytes = records + RUN * longest_runs(grants).count();
     refuse_if(bytes > MAX_BYTES, refusal::FILE_TOO_LONG)?;
     refuse_if(bytes > room, refusal::BUFFER_TOO_SHORT)?;
@@ -253,7 +329,7 @@ fn longest_runs(grants: &[u8]) -> impl Iterator<Item = &[u8]> {
     grants.chunk_by(|a, b| a == b).flat_map(|stretch| stretch.chunks(MAX_RUN))
 }
 
-fn fill(file: &mut [u8], nodes: u32, heads: u32, requests: &[u32], grants: &[u8]) {
+fn fill(file: &mut [u8], nodes: u32, heads: u32, requests: &[u32], waits: &[u32], grants: &[u8]) {
     let mut at = 0;
     let mut put = |bytes: &[u8]| {
         file[at..at + bytes.len()].copy_from_slice(bytes);
@@ -268,6 +344,11 @@ fn fill(file: &mut [u8], nodes: u32, heads: u32, requests: &[u32], grants: &[u8]
         put(&[request[0] as u8, request[1] as u8]);
         put(&two(request[2]));
         put(&two(request[3]));
+    }
+    for pair in waits.chunks_exact(2) {
+        put(WAIT_MARK);
+        put(&two(pair[0]));
+        put(&two(pair[1]));
     }
     for run in longest_runs(grants) {
         put(RUN_MARK);

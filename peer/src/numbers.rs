@@ -29,4 +29,5 @@ pub mod refusal {
     pub const QUERY_RANGE: u32 = 15;
     pub const QUERY_WORD: u32 = 16;
     pub const PAGE_TOO_SHORT: u32 = 17;
+    pub const WAIT: u32 = 18;
 }

@@ -43,14 +43,37 @@ pub fn play_watched(
     lineup: &mut [u32],
     watch: impl FnMut(Access),
 ) -> Played {
-    let shape = match job::check(file) {
-        Ok(shape) => shape,
-        Err(number) => return Played::refused(number),
+    let played = play_to_its_end(file, table, report, lineup, watch, |run| run.played());
+    played.unwrap_or_else(Played::refused)
+}
+
+/// After the grants of a file, or its refusal: of each head, the lowest unfinished request that its
+/// next one waits for.
+pub fn waits_after(file: &[u8]) -> Result<Vec<Option<usize>>, u32> {
+    let mut table = [0; job::MAX_NODES as usize];
+    let mut report = [0; 4 * job::MAX_REQUESTS];
+    let mut lineup = [0; 2 * job::MAX_REQUESTS];
+    let told = |run: &Run<_>| {
+        let heads = &run.heads[..run.shape.heads as usize];
+        heads.iter().map(|head| head.waits.map(usize::from)).collect()
     };
+    play_to_its_end(file, &mut table, &mut report, &mut lineup, |_| (), told)
+}
+
+/// Plays a file and tells what `told` sees after its last grant.
+fn play_to_its_end<W: FnMut(Access), T>(
+    file: &[u8],
+    table: &mut [u32],
+    report: &mut [u32],
+    lineup: &mut [u32],
+    watch: W,
+    told: impl FnOnce(&Run<W>) -> T,
+) -> Result<T, u32> {
+    let shape = job::check(file)?;
     let nodes = shape.nodes as usize;
     if table.len() < nodes || report.len() < 4 * shape.requests || lineup.len() < 2 * shape.requests
     {
-        return Played::refused(refusal::BUFFER_TOO_SHORT);
+        return Err(refusal::BUFFER_TOO_SHORT);
     }
     let table = &mut table[..nodes];
     let report = &mut report[..4 * shape.requests];
@@ -60,7 +83,7 @@ pub fn play_watched(
             run.grant(head);
         }
     }
-    run.played()
+    Ok(told(&run))
 }
 
 /// A job under way.
@@ -70,6 +93,8 @@ struct Run<'a, W> {
     heads: [Head; job::MAX_HEADS as usize],
     /// The heads with work left, a bit each.
     work: u16,
+    /// Those of them that wait.
+    waiting: u16,
     idle: u32,
     memory: Memory<'a, W>,
     report: &'a mut [u32],
@@ -91,6 +116,7 @@ impl<'a, W: FnMut(Access)> Run<'a, W> {
             shape,
             heads: [Head::NEW; job::MAX_HEADS as usize],
             work: 0,
+            waiting: 0,
             idle: 0,
             memory: Memory::start(table, watch),
             report,
@@ -109,14 +135,39 @@ impl<'a, W: FnMut(Access)> Run<'a, W> {
         if let Some(number) = next {
             self.heads[usize::from(head)].rest(number);
             self.work |= 1 << head;
+            if self.shape.waits > 0 {
+                self.wait(head);
+            }
         } else {
             self.work &= !(1 << head);
         }
     }
 
+    /// Lets a resting head wait for the lowest unfinished request that its next one waits for. It
+    /// is out of line, as `release` is, so that files without pairs are played as fast as before.
+    #[cold]
+    fn wait(&mut self, head: u8) {
+        let state = &mut self.heads[usize::from(head)];
+        let unfinished = |number: &usize| self.report[4 * number] == answer::UNFINISHED;
+        let lowest = job::waited_for(self.file, &self.shape, state.request).find(unfinished);
+        state.waits = lowest.map(|number| number as u16);
+        self.waiting &= !(1 << head);
+        self.waiting |= u16::from(state.waits.is_some()) << head;
+    }
+
+    /// Heads that waited for the request just finished wait for the next one, or for none.
+    #[cold]
+    fn release(&mut self, finished: usize) {
+        for head in 0..self.shape.heads as u8 {
+            if self.heads[usize::from(head)].waits == Some(finished as u16) {
+                self.wait(head);
+            }
+        }
+    }
+
     fn grant(&mut self, head: u8) {
         self.memory.now += 1;
-        if self.work & (1 << head) == 0 {
+        if self.work & !self.waiting & (1 << head) == 0 {
             self.idle += 1;
             return;
         }
@@ -138,6 +189,9 @@ impl<'a, W: FnMut(Access)> Run<'a, W> {
             numbers[0] = progress.answer;
             numbers[2] = self.memory.now;
             self.rest(head, number + 1);
+            if self.waiting != 0 {
+                self.release(number);
+            }
         }
     }
 

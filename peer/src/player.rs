@@ -9,8 +9,8 @@ use crate::query::{self, Queried};
 
 /// File, table, report, line-up.
 pub type Play = fn(&[u8], &mut [u32], &mut [u32], &mut [u32]) -> Played;
-/// Nodes, heads, requests, grants, buffer.
-pub type Write = fn(u32, u32, &[u32], &[u8], &mut [u8]) -> Written;
+/// Nodes, heads, requests, pairs, grants, buffer.
+pub type Write = fn(u32, u32, &[u32], &[u32], &[u8], &mut [u8]) -> Written;
 /// Table, x, y, budget.
 pub type Query = fn(&mut [u32], u32, u32, u16) -> Queried;
 /// A file; gives the program's text for it.

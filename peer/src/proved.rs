@@ -34,9 +34,16 @@ fn play_lent(file: &[u8], table: &mut [u32], report: &mut [u32], lineup: &mut [u
     told(played)
 }
 
-fn write(nodes: u32, heads: u32, requests: &[u32], grants: &[u8], buffer: &mut [u8]) -> Written {
-    let core::Written { number, bytes } = core::write(nodes, heads, requests, grants, buffer);
-    Written { number, bytes }
+fn write(
+    nodes: u32,
+    heads: u32,
+    requests: &[u32],
+    waits: &[u32],
+    grants: &[u8],
+    buffer: &mut [u8],
+) -> Written {
+    let written = core::write(nodes, heads, requests, waits, grants, buffer);
+    Written { number: written.number, bytes: written.bytes }
 }
 
 fn query(table: &mut [u32], x: u32, y: u32, budget: u16) -> Queried {

@@ -114,11 +114,11 @@ fn read(files: &[Vec<u8>]) -> Times {
 }
 
 fn write(job: &Job) -> Times {
-    let requests = job.flat_requests();
+    let (requests, waits) = (job.flat_requests(), job.flat_waits());
     let mut buffer = vec![0; peer::job::MAX_BYTES];
     Times::of(|player| {
         let (nodes, heads) = black_box((job.nodes, job.heads));
-        black_box((player.write)(nodes, heads, &requests, &job.grants, &mut buffer));
+        black_box((player.write)(nodes, heads, &requests, &waits, &job.grants, &mut buffer));
     })
 }
 
@@ -176,7 +176,7 @@ fn chain_in_step(seed: u64) -> Job {
         requests.extend(unions(17 * chain));
         grants.extend(busy(Job::new(17, 16, &alone, &runs)).grants);
     }
-    Job { nodes: 17 * CHAINS, heads: 16, requests, grants }
+    Job { nodes: 17 * CHAINS, heads: 16, requests, waits: Vec::new(), grants }
 }
 
 /// One head joins 256 nodes to a tree eight levels deep, then finds its way up, from the deepest
@@ -204,6 +204,7 @@ fn rows() -> Vec<Row> {
         }
     }
     rows.push(("idle, the most in a file".into(), vec![idle_job()]));
+    rows.push(("waiting, the most in a file".into(), vec![gen::longest_wait()]));
     rows.push(("16 heads in step along a chain".into(), (0..JOBS).map(chain_in_step).collect()));
     rows.push(("one head's deep finds".into(), (0..JOBS).map(deep_finds).collect()));
     rows
@@ -214,7 +215,7 @@ fn idle_job() -> Job {
 }
 
 fn grants() {
-    println!("\nns a grant, 16 heads, {JOBS} jobs a row in turn, idle grants in one row alone");
+    println!("\nns a grant, 16 heads, {JOBS} jobs a row in turn, idle grants in rows of their own");
     println!("{:<40} {:>26}   {:>26}   {:>26}", "", "whole call", "without reading", "lent");
     let titles = "     core      peer  ratio";
     println!("{:<40} {titles}   {titles}        lent      core  ratio", "");
@@ -236,8 +237,10 @@ fn bytes() {
     let singles: Vec<(u8, usize)> = (0..8_189).map(|n| ((n % 16) as u8, 1)).collect();
     let singles = Job::new(4096, 16, &[], &singles);
     let longest = idle_job();
+    let pairs = gen::most_pairs();
     let jobs = [
         ("512 requests", &requests),
+        ("512 requests, 4777 pairs", &pairs),
         ("8189 runs of one grant", &singles),
         ("8189 runs of 255 grants", &longest),
     ];
@@ -331,6 +334,24 @@ fn growth() {
     }
 }
 
+/// Files with as many pairs as fit, in which heads wait and every request ends.
+fn waits() {
+    println!("\n512 requests and their pairs, played to the end");
+    println!("{:<40}   core us   peer us  ratio   core ns a grant", "");
+    for (name, job) in
+        [("in turn", gen::one_after_the_other()), ("by heads", gen::head_after_head())]
+    {
+        let file = file(&job);
+        let played = Outcome::of(PEER.play, &file, AMPLE).played;
+        assert_eq!((played.entries, played.tally.working), (512, 0), "all requests end");
+        let (pairs, grants) = (job.waits.len(), job.grants.len());
+        let name = format!("{name}, {pairs} pairs, {} of {grants} idle", played.tally.idle);
+        let times = play(&[file]);
+        let each = times.first / grants as f64;
+        println!("{name:<40} {}   {each:>9.2}", times.columns(1_000.0));
+    }
+}
+
 fn main() {
     println!(
         "Least of {ROUNDS} rounds, the two players in turn. A round repeats its call, all jobs of"
@@ -341,4 +362,5 @@ fn main() {
     enquiry();
     pages();
     growth();
+    waits();
 }

@@ -1,6 +1,6 @@
 //! Damaged files and short buffers: which number, and nothing written.
 
-use peer::gen::{self, Expected, Random};
+use peer::gen::{self, Expected, Random, WAIT_FAULTS};
 use peer::job::{self, MAX_BYTES};
 use peer::numbers::refusal;
 use peer::player::{Lengths, Outcome, Player, AMPLE, PEER};
@@ -33,14 +33,19 @@ fn number(player: &Player, file: &[u8]) -> u32 {
 
 fn seeded(seed: u64) -> (Vec<u8>, Expected) {
     let mut random = Random::new(seed);
-    let job = gen::contended(&mut random);
+    let job = gen::contended_or_waiting(&mut random);
     gen::damaged(&mut random, &job)
+}
+
+/// The numbers that a file can be refused with before buffers are looked at, and that of none.
+pub fn of_files() -> impl Iterator<Item = u32> {
+    (refusal::NONE..=refusal::BALANCE).chain([refusal::WAIT])
 }
 
 #[test]
 fn damaged_files_reach_every_number() {
     for player in PLAYERS {
-        let mut reached = [0; 14];
+        let mut reached = [0; 19];
         for seed in 0..FILES {
             let (file, expected) = seeded(seed);
             let number = number(&player, &file);
@@ -51,7 +56,27 @@ fn damaged_files_reach_every_number() {
                 Expected::Number(told) => assert_eq!(number, told, "seed {seed}"),
             }
         }
-        assert!(reached.iter().all(|&times| times >= 100), "{reached:?}");
+        assert!(of_files().all(|number| reached[number as usize] >= 100), "{reached:?}");
+    }
+}
+
+/// Each of the four ways in which a pair is refused, in files that are accepted without it.
+#[test]
+fn spoilt_pairs() {
+    for (player, fault) in
+        PLAYERS.iter().flat_map(|player| WAIT_FAULTS.map(|fault| (player, fault)))
+    {
+        let mut spoilt = 0;
+        for seed in 0..1_000 {
+            let mut random = Random::new(seed);
+            let job = gen::waiting(&mut random);
+            let file = job.file().expect("accepted");
+            let (file, expected) = gen::wait_spoilt(&mut random, file, &job, fault);
+            let number = number(player, &file);
+            assert_eq!(Expected::Number(number), expected, "{fault:?}, seed {seed}");
+            spoilt += u32::from(number == refusal::WAIT);
+        }
+        assert!(spoilt >= 500, "{fault:?}: {spoilt}");
     }
 }
 
@@ -60,7 +85,7 @@ const NOTHING: Lengths = Lengths { table: 0, report: 0, lineup: 0 };
 #[test]
 fn short_buffers() {
     for (player, seed) in PLAYERS.iter().flat_map(|player| (0..2_000).map(move |n| (player, n))) {
-        let job = gen::contended(&mut Random::new(seed));
+        let job = gen::contended_or_waiting(&mut Random::new(seed));
         let file = job.file().expect("accepted");
         let exact = Lengths::exact(&job);
         assert_eq!(Outcome::of(player.play, &file, exact).played.number, refusal::NONE);

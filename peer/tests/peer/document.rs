@@ -13,7 +13,7 @@ fn blocks(word: &str) -> Vec<&'static str> {
 #[test]
 fn jobs_are_listed_as_shown() {
     let (files, listings) = (blocks("bytes"), blocks("listing"));
-    assert_eq!((files.len(), listings.len()), (2, 2));
+    assert_eq!((files.len(), listings.len()), (3, 3));
     for (bytes, listing) in files.iter().zip(listings) {
         let byte = |digits| u8::from_str_radix(digits, 16).expect("two hexadecimal digits");
         let file: Vec<u8> = bytes.split_whitespace().map(byte).collect();

@@ -17,6 +17,7 @@ mod promises;
 mod random;
 #[cfg(all(feature = "core", target_arch = "x86_64"))]
 mod stack;
+mod waits;
 mod words;
 mod writer;
 mod wrong_turns;

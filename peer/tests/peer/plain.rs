@@ -22,9 +22,17 @@ pub enum Turn {
     TidyingFromY,
     RankOfYRead,
     NoTidyingAtUnequalRanks,
+    WaitingHeadServed,
+    WaitOverAtFirstGrant,
+    WaitOverAtLink,
+    WaitEndsOneGrantLate,
+    WaitForLowestPairAlone,
+    WaitForHighestPairAlone,
+    WaitingRequestSkipped,
+    WaitingGrantNotIdle,
 }
 
-pub const WRONG_TURNS: [Turn; 12] = [
+pub const WRONG_TURNS: [Turn; 20] = [
     Turn::NoWithoutReread,
     Turn::LinkAtAnyRank,
     Turn::LinkStoresRankOfY,
@@ -37,6 +45,14 @@ pub const WRONG_TURNS: [Turn; 12] = [
     Turn::TidyingFromY,
     Turn::RankOfYRead,
     Turn::NoTidyingAtUnequalRanks,
+    Turn::WaitingHeadServed,
+    Turn::WaitOverAtFirstGrant,
+    Turn::WaitOverAtLink,
+    Turn::WaitEndsOneGrantLate,
+    Turn::WaitForLowestPairAlone,
+    Turn::WaitForHighestPairAlone,
+    Turn::WaitingRequestSkipped,
+    Turn::WaitingGrantNotIdle,
 ];
 
 /// A request with the accesses made for it so far and what they led to.
@@ -66,15 +82,7 @@ pub fn play(
     }
     let fresh = |&request: &Request| Work { request, past: Vec::new(), answer: 0, point: None };
     let mut works: Vec<Work> = job.requests.iter().map(fresh).collect();
-    trace.clear();
-    for (grant, &head) in (1..).zip(&job.grants) {
-        let mut open = works.iter_mut().enumerate().filter(|(_, work)| work.answer == 0);
-        if let Some((request, work)) = open.find(|(_, work)| work.request.head == head) {
-            let next = Access { grant, head, request, node: 0, seen: 0, deed: Deed::Read };
-            Program { turn, table, work, at: 0, grant: Some(next) }.run();
-            trace.extend(work.past.last());
-        }
-    }
+    let idle = grants(turn, &job, &mut works, table, trace);
     let entries = put_down(&works, report, lineup);
     Played {
         number: 0,
@@ -83,7 +91,65 @@ pub fn play(
         requests: job.requests.len() as u32,
         grants: job.grants.len() as u32,
         entries,
-        tally: tally(&job, &works, trace),
+        tally: tally(&job, &works, trace, idle),
+    }
+}
+
+/// Plays the grants one by one, and counts the idle ones.
+fn grants(
+    turn: Turn,
+    job: &Job,
+    works: &mut [Work],
+    table: &mut [u32],
+    trace: &mut Vec<Access>,
+) -> u32 {
+    let (mut idle, mut was_idle) = (0, vec![false; job.heads as usize]);
+    trace.clear();
+    for (grant, &head) in (1..).zip(&job.grants) {
+        let late = turn == Turn::WaitEndsOneGrantLate && was_idle[usize::from(head)];
+        let served = served(turn, job, works, head);
+        was_idle[usize::from(head)] = served.is_none();
+        if let (false, Some(request)) = (late, served) {
+            let work = &mut works[request];
+            let next = Access { grant, head, request, node: 0, seen: 0, deed: Deed::Read };
+            Program { turn, table, work, at: 0, grant: Some(next) }.run();
+            trace.extend(work.past.last());
+        } else if turn != Turn::WaitingGrantNotIdle || !works_on(works, head) {
+            idle += 1;
+        }
+    }
+    idle
+}
+
+fn works_on(works: &[Work], head: u8) -> bool {
+    works.iter().any(|work| work.answer == 0 && work.request.head == head)
+}
+
+/// The request that a head goes on with or begins at its grant; none where the grant is idle.
+fn served(turn: Turn, job: &Job, works: &[Work], head: u8) -> Option<usize> {
+    let open = |work: &Work| work.answer == 0 && work.request.head == head;
+    let goes = |&number: &usize| !works[number].past.is_empty() || !waits(turn, job, works, number);
+    let mut own = (0..works.len()).filter(|&number| open(&works[number]));
+    match turn {
+        Turn::WaitingRequestSkipped => own.find(goes),
+        _ => own.next().filter(goes),
+    }
+}
+
+/// Whether a request that has not begun waits for another.
+fn waits(turn: Turn, job: &Job, works: &[Work], request: usize) -> bool {
+    let own = job.waits.iter().filter(|wait| wait.later as usize == request);
+    let mut earlier = own.map(|wait| &works[wait.earlier as usize]);
+    let open = |work: &Work| match turn {
+        Turn::WaitOverAtFirstGrant => work.past.is_empty(),
+        Turn::WaitOverAtLink => work.answer == 0 && work.point.is_none(),
+        _ => work.answer == 0,
+    };
+    match turn {
+        Turn::WaitingHeadServed => false,
+        Turn::WaitForLowestPairAlone => earlier.next().is_some_and(open),
+        Turn::WaitForHighestPairAlone => earlier.next_back().is_some_and(open),
+        _ => earlier.any(open),
     }
 }
 
@@ -103,13 +169,12 @@ fn put_down(works: &[Work], report: &mut [u32], lineup: &mut [u32]) -> u32 {
     entries.len() as u32
 }
 
-fn tally(job: &Job, works: &[Work], trace: &[Access]) -> Tally {
-    let works_on = |head: u32| works.iter().any(|w| w.answer == 0 && head == w.request.head.into());
+fn tally(job: &Job, works: &[Work], trace: &[Access], idle: u32) -> Tally {
     Tally {
-        idle: (job.grants.len() - trace.len()) as u32,
+        idle,
         failed: trace.iter().filter(|access| access.failed()).count() as u32,
         links: trace.iter().filter(|access| access.wrote() && access.tries_link()).count() as u32,
-        working: (0..job.heads).filter(|&head| works_on(head)).count() as u32,
+        working: (0..job.heads).filter(|&head| works_on(works, head as u8)).count() as u32,
     }
 }
 

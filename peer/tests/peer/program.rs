@@ -14,6 +14,8 @@ use peer::job::MAX_BYTES;
 use peer::listing::listing;
 use peer::numbers::refusal;
 
+use crate::damage::of_files;
+
 const PROGRAM: &str = concat!(env!("CARGO_MANIFEST_DIR"), "/../target/bin/dock");
 const CANT_READ: &str = "dock: standard input can't be read\n";
 const CANT_WRITE: &str = "dock: standard output can't be written\n";
@@ -80,23 +82,26 @@ fn number(input: &[u8]) -> u32 {
 #[test]
 fn jobs() {
     for seed in 0..200 {
-        let job = gen::contended(&mut Random::new(seed));
+        let job = gen::contended_or_waiting(&mut Random::new(seed));
         assert_eq!(number(&job.file().expect("accepted")), refusal::NONE, "seed {seed}");
     }
     for job in (0..20).map(|seed| gen::larger(&mut Random::new(seed))).chain(gen::built()) {
+        assert_eq!(number(&job.file().expect("accepted")), refusal::NONE);
+    }
+    for job in [gen::most_pairs(), gen::longest_wait()] {
         assert_eq!(number(&job.file().expect("accepted")), refusal::NONE);
     }
 }
 
 #[test]
 fn damaged_files_reach_every_number() {
-    let mut reached = [0; 14];
+    let mut reached = [0; 19];
     for seed in 0..600 {
         let mut random = Random::new(seed);
-        let job = gen::contended(&mut random);
+        let job = gen::contended_or_waiting(&mut random);
         reached[number(&gen::damaged(&mut random, &job).0) as usize] += 1;
     }
-    assert!(reached.iter().all(|&times| times >= 2), "{reached:?}");
+    assert!(of_files().all(|number| reached[number as usize] >= 2), "{reached:?}");
 }
 
 #[test]
@@ -119,7 +124,7 @@ fn lengths_around_the_longest() {
         };
         assert_eq!(number(&vec![0; length]), expected, "{length}");
     }
-    // The longest accepted file, and bytes after its close up to the limit and past it.
+    // The longest file without pairs, and bytes after its close up to the limit and past it.
     let longest = gen::full().file().expect("accepted");
     assert_eq!(longest.len(), MAX_BYTES - 2);
     for (more, expected) in [

@@ -46,6 +46,39 @@ fn contended_jobs() {
 }
 
 #[test]
+fn waiting_jobs() {
+    for seed in 0..JOBS / 2 {
+        let job = gen::waiting(&mut Random::new(seed));
+        assert!(job.waits.len() <= 30);
+        assert_eq!(check(&job, (seed % 3) as usize), Ok(()), "seed {seed}");
+    }
+}
+
+/// The grants at which a head is idle though it has work left.
+fn waiting_grants(job: &Job) -> usize {
+    let (outcome, trace) = Outcome::traced(&job.file().expect("accepted"), AMPLE);
+    let busy = |now: u32| trace.binary_search_by_key(&now, |access| access.grant).is_ok();
+    let works = |head: u8, now: u32| {
+        let rows = job.requests.iter().zip(outcome.report.chunks_exact(4));
+        let mut own = rows.filter(|(request, _)| request.head == head);
+        own.any(|(_, row)| row[0] == answer::UNFINISHED || row[2] > now)
+    };
+    let grants = (1..).zip(&job.grants);
+    grants.filter(|&(now, &head)| !busy(now) && works(head, now)).count()
+}
+
+#[test]
+fn jobs_of_which_a_tenth_waits() {
+    for seed in 0..JOBS / 4 {
+        let job = gen::held(&mut Random::new(seed));
+        let (waiting, grants) = (waiting_grants(&job), job.grants.len());
+        assert!(10 * waiting >= grants, "seed {seed}: {waiting} of {grants}");
+        assert!((1..=30).contains(&job.waits.len()));
+        assert_eq!(check(&job, (seed % 3) as usize), Ok(()), "seed {seed}");
+    }
+}
+
+#[test]
 fn larger_jobs() {
     for seed in 0..200 {
         let job = gen::larger(&mut Random::new(seed));
@@ -60,11 +93,24 @@ fn built_jobs() {
     }
 }
 
+/// Sixteen heads wait, and every request ends.
+#[test]
+fn jobs_with_thousands_of_pairs() {
+    for job in [gen::one_after_the_other(), gen::head_after_head()] {
+        let tally = Outcome::traced(&job.file().expect("accepted"), AMPLE).0.played.tally;
+        assert_eq!(tally.working, 0);
+        assert!(2 * tally.idle as usize > job.grants.len(), "most grants are idle");
+        assert_eq!(check(&job, 0), Ok(()));
+    }
+}
+
 #[test]
 fn a_cut_leaves_what_the_grants_before_it_left() {
     let small = |job: &Job| job.grants.len() <= 120;
     let seeded = (0..1_000).map(|seed| gen::contended(&mut Random::new(seed)));
-    for job in seeded.chain(gen::built()).filter(small) {
+    let waiting = (0..1_000).map(|seed| gen::waiting(&mut Random::new(seed)));
+    let held = (0..500).map(|seed| gen::held(&mut Random::new(seed)));
+    for job in seeded.chain(waiting).chain(held).chain(gen::built()).filter(small) {
         let (_, trace) = Outcome::traced(&job.file().expect("accepted"), AMPLE);
         for grants in 0..=job.grants.len() {
             let cut = job.cut(grants);
@@ -125,7 +171,7 @@ fn jobs_contend() {
 #[test]
 fn a_listing_shows_the_outcome() {
     for seed in 0..JOBS {
-        let job = gen::contended(&mut Random::new(seed));
+        let job = gen::contended_or_waiting(&mut Random::new(seed));
         let file = job.file().expect("accepted");
         let Outcome { played, table, report, lineup } = by_plain(&file, AMPLE);
         let text = listing::text(&played, &table, &report, &lineup);

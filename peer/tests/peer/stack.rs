@@ -64,16 +64,18 @@ fn measured(name: &str, bar: usize, needs: impl Iterator<Item = usize>) {
     assert!(most <= bar, "{name} needs {most} bytes of stack, more than {bar}");
 }
 
-/// Jobs up to every limit, contended ones, and damaged files.
+/// Jobs up to every limit, contended ones, some with pairs, and damaged files.
 fn files() -> Vec<Vec<u8>> {
     let mut files: Vec<Vec<u8>> = gen::built().iter().map(file).collect();
     for seed in 0..100 {
         let mut random = Random::new(seed);
         files.push(file(&gen::larger(&mut random)));
-        let contended = gen::contended(&mut random);
-        files.push(file(&contended));
-        files.push(gen::damaged(&mut random, &contended).0);
+        for job in [gen::contended(&mut random), gen::waiting(&mut random)] {
+            files.push(file(&job));
+            files.push(gen::damaged(&mut random, &job).0);
+        }
     }
+    files.extend([gen::most_pairs(), gen::longest_wait()].iter().map(file));
     files.push(file(&Job::new(
         4_096,
         16,
@@ -116,10 +118,12 @@ fn write() {
     let mut jobs = gen::built();
     jobs.push(Job::new(1, 2, &[], &[(0, 2_088_195), (1, 1)]));
     jobs.extend((0..200).map(|seed| gen::larger(&mut Random::new(seed))));
+    jobs.extend((0..200).map(|seed| gen::waiting(&mut Random::new(seed))));
+    jobs.extend([gen::most_pairs(), gen::longest_wait()]);
     let used = |job: Job| {
-        let requests = job.flat_requests();
+        let (requests, waits) = (job.flat_requests(), job.flat_waits());
         let Job { nodes, heads, grants, .. } = job;
-        painted.used(|| _ = core::write(nodes, heads, &requests, &grants, &mut out))
+        painted.used(|| _ = core::write(nodes, heads, &requests, &waits, &grants, &mut out))
     };
     measured("write", stack::WRITE, jobs.into_iter().map(used));
 }

@@ -22,7 +22,8 @@ fn taking(turn: Turn, file: &[u8]) -> (Outcome, Vec<Access>) {
 
 fn jobs() -> impl Iterator<Item = Job> {
     let seeded = (0..2_000).map(|seed| gen::contended(&mut Random::new(seed)));
-    gen::built().into_iter().chain(seeded)
+    let waiting = (0..1_000).map(|seed| gen::waiting(&mut Random::new(seed)));
+    gen::built().into_iter().chain(seeded).chain(waiting)
 }
 
 #[test]
@@ -102,4 +103,29 @@ fn demands_want_unions_tidied_up() {
     outcome.played.tally.working = 0;
     let verdict = demand::check(&job, &trace, &outcome);
     assert_eq!(verdict, Err("a union reads the linked node before its last swap"));
+}
+
+/// Head 1 asks about what head 0 joins, and is to wait for it.
+#[test]
+fn demands_want_waits_kept() {
+    let requests = [Request::union(0, 0, 1), Request::same_set(1, 0, 1)];
+    let verdict = |turn, runs: &[(u8, usize)]| {
+        let job = Job::new(2, 2, &requests, runs).waiting(&[(1, 0)]);
+        let (outcome, trace) = taking(turn, &job.file().expect("accepted"));
+        demand::check(&job, &trace, &outcome)
+    };
+    let before = "what waited stands after what it waited for";
+    let early = "what waits begins after what it waits for ends";
+    let late = "a head with work left is idle only where it waits";
+    let cases = [
+        (Turn::Right, [(1, 3), (0, 13), (1, 6)], Ok(())),
+        (Turn::WaitingHeadServed, [(1, 3), (0, 13), (1, 1)], Err(before)),
+        (Turn::WaitingHeadServed, [(1, 1), (0, 13), (1, 1)], Err(early)),
+        (Turn::WaitOverAtFirstGrant, [(0, 1), (1, 1), (0, 12)], Err(early)),
+        (Turn::WaitOverAtLink, [(0, 12), (1, 1), (0, 1)], Err(early)),
+        (Turn::WaitEndsOneGrantLate, [(1, 1), (0, 13), (1, 1)], Err(late)),
+    ];
+    for (turn, runs, told) in cases {
+        assert_eq!(verdict(turn, &runs), told, "{turn:?} {runs:?}");
+    }
 }
