@@ -7,15 +7,16 @@ use player::refused;
 use player::turn_on;
 use reader::Checked;
 use turns::Progress;
+use turns::added;
 use turns::counted;
 use turns::first_tally;
 use word::Word;
 ghost use mathlib.Core.Path.{_≡_};
-ghost use Rattle.turns.specs.Turns.{Addable, countedOf, buffersOf};
+ghost use Rattle.turns.specs.Turns.{countedOf, buffersOf};
 ghost use Rattle.player.specs.Player.{left, playedOf};
 ghost use Rattle.player.specs.Plan.{TurnableOn, TurnsOn};
 ghost use Rattle.player.specs.Demand.{LinearizedHere, LawfulHere, WaitedHere};
-ghost use Rattle.lent.specs.Lent.{tallyLeft};
+ghost use Rattle.lent.specs.Lent.{Addition, tallyLeft};
 
 // One grant without an index: the next request of a head is searched in the file.
 fn turn_searching(
@@ -43,12 +44,25 @@ fn turn_searching(
     )
 }
 
+// The tally after the grant that a progress tells of. An idle grant leaves the mask, so that its ones are not counted again:
+// here, where every grant's tally is written, that is half of an idle grant.
+fn tally_after(tally: Tally, progress: Progress) -> Tally
+    requires { ⌜ Addition tally progress ⌝ }
+    ensures { λ r. ⌜ r ≡ countedOf tally (progress .done) (progress .mask) ⌝ }
+{
+    let done = progress.done;
+    if done.idle {
+        return added(tally, done, tally.working);
+    }
+    counted(tally, progress)
+}
+
 // Adds a grant to the lent tally.
 pub fn add(tally: &mut Tally, progress: Progress)
-    requires { ⌜ Addable (now tally) ⌝ }
+    requires { ⌜ Addition (now tally) progress ⌝ }
     ensures { λ _. ⌜ now (tally .exit) ≡ countedOf (now (tally .entry)) (progress .done) (progress .mask) ⌝ }
 {
-    *tally = counted(*tally, progress);
+    *tally = tally_after(*tally, progress);
 }
 
 // Plays a job file on lent buffers and a lent tally, for programs in C and Rust: the tally is zeroed at an accepted start

@@ -5,15 +5,17 @@
 --   Lending     accepted: the parts that the job needs stand as the rules' run so far, the rest is as lent, and as long
 --   Along       where the loop is, with that
 --
--- Main laws: refused-end, the end of a refused play; lending-start; along-next and along-end.
+-- Main laws: refused-end, the end of a refused play; lending-start; along-next and along-end; along-still, of an idle grant.
 use mathlib.Core.Path.{_≡_, refl, sym, ap, _∙_, subst, subst₂}
 use mathlib.Core.Logic.{_≢_}
+use mathlib.Core.Bool.{true}
 use mathlib.Core.List.{List, [], _++_, map}
 use Prim.Native.Nat.{ℕ, _+_, _*_, _≤_, _<_}
 use native.Mathlib.Omega.{arith}
 use native.Mathlib.Decide.{ℕ-discrete}
 use lib.ListN.{length, take, drop, replicate, take-append-drop, length-map, length-replicate}
 use lib.Seq.{take-at, drop-at, length-take-le}
+use lib.Count.{ones}
 use borrow.Author.Tests.{eq-eqb, ne-eqb}
 use Rattle.job.specs.declared.Tally.{Tally}
 use Rattle.job.specs.declared.Played.{Played}
@@ -32,7 +34,7 @@ use Rattle.turns.specs.declared.Progress.{Progress}
 use Rattle.turns.specs.Turns.{Addable, countedOf, stateAt, buffersOf, Turned, firstTally, runOf}
 use Rattle.turns.proofs.Runs.{grants-few}
 use Rattle.turns.proofs.Counters.{small-addable}
-use Rattle.turns.proofs.Going.{Going, going-start, going-turnable, going-next, going-end}
+use Rattle.turns.proofs.Going.{Going, going-start, going-turnable, going-still, going-next, going-end}
 use Rattle.player.specs.declared.Plan.{Plan}
 use Rattle.player.specs.Player.{left, leftAt, refusedWith, cutOf, originIn, playedOf, Roomy}
 use Rattle.player.specs.Plan.{idlePlan, acceptedPlan, laidOf, prepared, preparedOf}
@@ -142,6 +144,10 @@ module _ (E : Entry) (counts : Checked) where
 
       pub along-number : p′ .number ≡ a .progress .number + 1
       along-number = turned-here .turned .number
+
+      pub along-still : p′ .done .idle ≡ true → a .tally .working ≡ ones (p′ .mask)
+      along-still = going-still (a .lending .going) more-left p′ tally′ (take n table′) (take m report′) linearization′
+          (turned-here .turned) added
 
       pub lending-next : Lending p′ tally′ table′ report′ linearization′
       lending-next =

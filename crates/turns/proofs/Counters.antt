@@ -2,7 +2,7 @@
 --
 --   Small t number   no counter is above the number of grants
 use mathlib.Core.Path.{_≡_, refl, sym, ap, _∙_}
-use mathlib.Core.Bool.{Bool, true, false, cond}
+use mathlib.Core.Bool.{Bool, true, false, cond, true≢false}
 use mathlib.Core.List.{List, [], _∷_, map}
 use Prim.Native.Nat.{ℕ, suc, _+_, _≤_, _<_}
 use native.Mathlib.Omega.{arith}
@@ -31,6 +31,11 @@ pub working-ones : (qs : List Request) (heads : List Head) → working qs heads 
 working-ones qs heads = sym (mask-count (map (hasWork qs) heads) ∙ working-count qs heads)
 
 module _ (qs : List Request) (ws : List Wait) (S : State) (h : ℕ) where
+  -- an idle grant leaves every head
+  pub idle-heads : doneOf (happened qs ws S h) .idle ≡ true → step qs ws S h .heads ≡ S .heads
+  unfolding step happened
+  idle-heads i = split (isServed qs ws (S .report) (headAt S h)) (λ t. absurd (true≢false (sym i ∙ rw t refl))) (λ n. rw n refl)
+
   step-idle : plus (doneOf (happened qs ws S h) .idle) (S .idle) ≡ step qs ws S h .idle
   unfolding step happened
   step-idle = split (isServed qs ws (S .report) (headAt S h)) (λ t. rw t refl) (λ t. rw t refl)

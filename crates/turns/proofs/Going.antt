@@ -2,8 +2,9 @@
 --
 --   Going    the buffers show the state after the grants so far, and the tally is that state's
 --
--- Main laws: going-start, going-next and going-end.
+-- Main laws: going-start, going-next and going-end; going-still, of an idle grant.
 use mathlib.Core.Path.{_≡_, sym, ap, ap₂, _∙_, subst}
+use mathlib.Core.Bool.{true}
 use mathlib.Core.List.{List, [], map}
 use Prim.Native.Nat.{ℕ, _+_, _≤_, _<_}
 use native.Mathlib.Omega.{arith}
@@ -17,7 +18,7 @@ use Rattle.process.specs.declared.Head.{Head}
 use Rattle.mask.specs.Mask.{maskOf}
 use Rattle.jobfile.specs.Meaning.{meaning}
 use Rattle.jobfile.proofs.Runs.{granted-longest}
-use Rattle.rules.specs.State.{hasWork, tallyOf}
+use Rattle.rules.specs.State.{State, hasWork, working, tallyOf}
 use Rattle.rules.specs.Start.{Start}
 use Rattle.rules.specs.Step.{step}
 use Rattle.stepper.specs.Shown.{startOf, stateAfter, requestsIn, waitsIn, Playing, Standing}
@@ -25,7 +26,7 @@ use Rattle.stepper.proofs.Reached.{cut-granted, after-next, playing-admitted}
 use Rattle.turns.specs.declared.Progress.{Progress}
 use Rattle.turns.specs.Turns.{runsOf, scheduleIn, stateAt, remaining, countedOf, buffersOf, StandingAt, Turnable, Turned}
 use Rattle.turns.specs.Turns.{firstProgress, firstTally, runOf}
-use Rattle.turns.proofs.Counters.{working-ones, counted-step, Small, counted-small}
+use Rattle.turns.proofs.Counters.{working-ones, idle-heads, counted-step, Small, counted-small}
 
 pub record Going (origin : Start) (file : List ℕ) (counts : Checked) (lent : List ℕ) (p : Progress) (tally : Tally)
     (table report linearization : List ℕ) : Type 0 where
@@ -79,8 +80,11 @@ module _ {origin : Start} {file : List ℕ} {counts : Checked} {lent : List ℕ}
     pub going-turnable : Turnable file counts p table report linearization
     going-turnable = record { playing = g .playing; more = more; left = g .left; origin = origin; lent = lent; standing = g .standing }
 
+    abbrev S : State
+    S = stateAt origin file (p .number)
+
     -- one grant more is the rules' step
-    stepped : stateAt origin file (p .number + 1) ≡ step qs (waitsIn file) (stateAt origin file (p .number)) h
+    stepped : stateAt origin file (p .number + 1) ≡ step qs (waitsIn file) S h
     stepped = after-next origin (meaning file .job) schedule (p .number) more
 
     module _ (p′ : Progress) (tally′ : Tally) (table′ report′ linearization′ : List ℕ)
@@ -98,12 +102,21 @@ module _ {origin : Start} {file : List ℕ} {counts : Checked} {lent : List ℕ}
             room = g .standing .room;
           })
 
+      mask-after : p′ .mask ≡ maskOf (map (hasWork qs) (step qs (waitsIn file) S h .heads))
+      mask-after = ap (λ c. c .mask) (turned .buffers) ∙ ap (λ T. maskOf (map (hasWork qs) (T .heads))) stepped
+
+      -- after an idle grant the tally has the mask's count of ones already
+      pub going-still : p′ .done .idle ≡ true → tally .working ≡ ones (p′ .mask)
+      going-still idle =
+          ap (λ t. t .working) (g .tallied)
+          ∙ ap (working qs) (sym (idle-heads qs (waitsIn file) S h (sym (ap (λ d. d .idle) (turned .done)) ∙ idle)))
+          ∙ working-ones qs (step qs (waitsIn file) S h .heads) ∙ ap ones (sym mask-after)
+
       counts-after : tally′ ≡ tallyOf qs (stateAt origin file (p′ .number))
       counts-after =
           counted ∙ ap (λ t. countedOf t (p′ .done) (p′ .mask)) (g .tallied)
-          ∙ ap₂ (λ d m. countedOf (tallyOf qs (stateAt origin file (p .number))) d m) (turned .done)
-          (ap (λ c. c .mask) (turned .buffers) ∙ ap (λ T. maskOf (map (hasWork qs) (T .heads))) stepped)
-          ∙ counted-step qs (waitsIn file) (stateAt origin file (p .number)) h ∙ ap (tallyOf qs) (sym stepped)
+          ∙ ap₂ (λ d m. countedOf (tallyOf qs S) d m) (turned .done) mask-after
+          ∙ counted-step qs (waitsIn file) S h ∙ ap (tallyOf qs) (sym stepped)
           ∙ ap (λ k. tallyOf qs (stateAt origin file k)) (sym (turned .number))
 
       pub going-next : Going origin file counts lent p′ tally′ table′ report′ linearization′

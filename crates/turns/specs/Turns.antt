@@ -1,7 +1,8 @@
 -- The grants of a file: its cursor, one turn, and the tally.
 --
 --   Addable t              a tally that can be added to
---   countedOf t d mask     the tally t after a grant that was d; the fourth number is the mask's count of ones
+--   addedOf t d n          the tally t after a grant that was d, with n heads that have work left
+--   countedOf t d mask     the same, where n is the mask's count of ones
 --   runsOf file            the runs of a file
 --   scheduleIn file        the grants of a file
 --   stateAt origin file k  the rules' state of a file's job after its first k grants, from that start
@@ -43,14 +44,17 @@ pub record Addable (tally : Tally) : Type 0 where
   pub failed : tally .failed < 4294967295
   pub links : tally .links < 4294967295
 
-abbrev pub countedOf : Tally → Done → ℕ → Tally
-countedOf tally done mask =
+abbrev pub addedOf : Tally → Done → ℕ → Tally
+addedOf tally done working =
     record {
       idle = plus (done .idle) (tally .idle);
       failed = plus (done .failed) (tally .failed);
       links = plus (done .linked) (tally .links);
-      working = ones mask;
+      working = working;
     }
+
+abbrev pub countedOf : Tally → Done → ℕ → Tally
+countedOf tally done mask = addedOf tally done (ones mask)
 
 -- ---- the cursor
 

@@ -10,7 +10,7 @@ ghost use Prim.Native.Nat.{_<_};
 ghost use Rattle.rules.specs.Step.{plus};
 ghost use Rattle.stepper.specs.Shown.{requestsIn, Playing};
 ghost use Rattle.stepper.specs.Index.{Indexes};
-ghost use Rattle.turns.specs.Turns.{Addable, countedOf, runsOf, openedOf, takenOf, Openable};
+ghost use Rattle.turns.specs.Turns.{Addable, addedOf, countedOf, runsOf, openedOf, takenOf, Openable};
 ghost use Rattle.turns.specs.Turns.{buffersOf, Turnable, Turns, firstProgress, firstTally};
 
 // Where a play stands among the runs of the file: the next run, and the head and the grants left of the one under way.
@@ -41,18 +41,25 @@ fn more(number: u32, flag: bool) -> u32
     number
 }
 
+// The tally after a grant that was `done`, and left so many heads with work.
+pub fn added(tally: Tally, done: Done, working: u32) -> Tally
+    requires { ⌜ Addable tally ⌝ }
+    ensures { λ r. ⌜ r ≡ addedOf tally done working ⌝ }
+{
+    Tally {
+        idle: more(tally.idle, done.idle),
+        failed: more(tally.failed, done.failed),
+        links: more(tally.links, done.linked),
+        working,
+    }
+}
+
 // The tally after the grant that a progress tells of; its fourth number is the mask's count of ones.
 pub fn counted(tally: Tally, progress: Progress) -> Tally
     requires { ⌜ Addable tally ⌝ }
     ensures { λ r. ⌜ r ≡ countedOf tally (progress .done) (progress .mask) ⌝ }
 {
-    let done = progress.done;
-    Tally {
-        idle: more(tally.idle, done.idle),
-        failed: more(tally.failed, done.failed),
-        links: more(tally.links, done.linked),
-        working: mask::count(progress.mask),
-    }
+    added(tally, progress.done, mask::count(progress.mask))
 }
 
 // The cursor with a grant left: at the next run where the one under way has none.

@@ -1,9 +1,9 @@
 -- `lent::add` meets its contract: a walk of its MIR, by hand. The tally's borrow is opened, the tally is copied out,
--- `counted` is called, and the borrow is closed at what it returns.
--- All that is known of `counted` is that it meets its contract.
+-- `tally_after` is called, and the borrow is closed at what it returns.
+-- All that is known of `tally_after` is that it meets its contract.
 --
---   Counted, to-counted           the contract of `counted`; what is passed to it
---   goes-counted, told-counted    that the caller has what `counted` asks; what it says of its result
+--   After, to-after               the contract of `tally_after`; what is passed to it
+--   goes-after, told-after        that the caller has what `tally_after` asks; what it says of its result
 --   x, at                         the parameters and their machine values
 --   Held, Post, exits             what is had of the tally; what the contract's exit asks; that it is had
 use mathlib.Core.Path.{_≡_, refl}
@@ -36,17 +36,18 @@ use denote.Triple.Walked.{says, needs, Stays, stay-ref, stay-none, walkOf, AllGo
 use denote.Exit.{yes}
 use Rattle.job.specs.declared.Tally.{Tally}
 use Rattle.turns.specs.declared.Progress.{Progress}
-use Rattle.turns.specs.Turns.{Addable, countedOf}
+use Rattle.turns.specs.Turns.{countedOf}
+use Rattle.lent.specs.Lent.{Addition}
 use Rattle.walks.proofs.Setting.{Setting, Lent, lent, passed, pointer, token}
 use Rattle.walks.proofs.Carried.{row, value, IsValue, by-value, typed, makes, opens-value, Returned, told-value, tells}
 use Rattle.walks.proofs.Context.{swap, flip, signed, as-signed}
 use Rattle.walks.proofs.Frame.{locals-at, allocates, frees-all}
 use Rattle.walks.proofs.Places.{head, copied, behind, also, assigned, landed, answered, argument, forgets}
 use Rattle.lent.proofs.Structs.{tally-struct, progress-struct}
-use Rattle.turns.proofs.counted as counted
-use Rattle.turns.proofs.counted.Symbol as counted-def
-use Rattle.turns.proofs.counted.Symbol.{name as #turns·counted}
-use Rattle.turns.proofs.counted.Met as counted-thm
+use Rattle.lent.proofs.tally_after as tally-after
+use Rattle.lent.proofs.tally_after.Symbol as after-def
+use Rattle.lent.proofs.tally_after.Symbol.{name as #lent·tally-after}
+use Rattle.lent.proofs.tally_after.Met as after-thm
 use Rattle.lent.proofs.add.Key.{name as #lent·add}
 use Rattle.lent.proofs.add as f
 use Rattle.lent.proofs.add.Statement as stated
@@ -61,10 +62,10 @@ abbrev stayed : Stays (f.ended .signature .params) (f.ended .kept)
 stayed = (stay-ref (0 ∷ []) tt (plain (λ _. row tally-struct)), (stay-none (λ _. row progress-struct) yes, tt))
 
 -- the contract that the proof cites
-abbrev Counted : (w : Setting) → Contract (w .𝓤)
-Counted w = tripleOf (w .𝓤) (w .H) (w .A) counted.signature (counted.spec (w .𝓤) (w .H) (w .A) (w .at-mem) (w .run))
+abbrev After : (w : Setting) → Contract (w .𝓤)
+After w = tripleOf (w .𝓤) (w .H) (w .A) tally-after.signature (tally-after.spec (w .𝓤) (w .H) (w .A) (w .at-mem) (w .run))
 
-module _ (w : Setting) (s : Lent Tally) (progress : Progress) (roomy : Addable (s .entry))
+module _ (w : Setting) (s : Lent Tally) (progress : Progress) (addition : Addition (s .entry) progress)
     (is-progress : IsValue progress-struct progress) where
   open Setting w using (𝓤, H, A, W, at-mem, run)
 
@@ -99,20 +100,20 @@ module _ (w : Setting) (s : Lent Tally) (progress : Progress) (roomy : Addable (
       makes ! progress-struct progress _ is-progress $ fjoin ! $ flip ! $ fjoin ! $
       feqI ! (List Val) (vunit ∷ []) (vunit ∷ []) refl $ flip ! $ done !
 
-  -- what `counted` is passed, that the caller has what it asks, and of what it ensures the clause alone
-  abbrev to-counted : Counted w .Ghost
-  to-counted = ((tt, tt, tt, (s .entry, (progress, tt)), (tally-value ∷ [], (progress-value ∷ [], tt))), tt)
+  -- what `tally_after` is passed, that the caller has what it asks, and of what it ensures the clause alone
+  abbrev to-after : After w .Ghost
+  to-after = ((tt, tt, tt, (s .entry, (progress, tt)), (tally-value ∷ [], (progress-value ∷ [], tt))), tt)
 
-  goes-counted : ent 𝓤 (⋆ 𝓤 H A (by-value tally-struct (s .entry) ∷ by-value progress-struct progress ∷ [])) (Counted w .pre to-counted)
-  goes-counted =
-      qed W (by-value tally-struct (s .entry) ∷ by-value progress-struct progress ∷ []) ∵ says ! roomy $
+  goes-after : ent 𝓤 (⋆ 𝓤 H A (by-value tally-struct (s .entry) ∷ by-value progress-struct progress ∷ [])) (After w .pre to-after)
+  goes-after =
+      qed W (by-value tally-struct (s .entry) ∷ by-value progress-struct progress ∷ []) ∵ says ! addition $
       by ! (as-signed w [] (by-value tally-struct (s .entry) ∷ by-value progress-struct progress ∷ []))
 
-  told-counted : (v : Val) → ent 𝓤 (Counted w .post to-counted v) (H .⇛ (ex 𝓤 (Returned w tally-struct (λ r. r ≡ tally⁺) v)))
-  told-counted v =
+  told-after : (v : Val) → ent 𝓤 (After w .post to-after v) (H .⇛ (ex 𝓤 (Returned w tally-struct (λ r. r ≡ tally⁺) v)))
+  told-after v =
       told-value w tally-struct (λ r. r ≡ tally⁺) v
-      (ensured 𝓤 H A counted.ended (counted.clauses 𝓤 H A at-mem run) tt (s .entry, (progress, tt)) tt)
-      (λ r. exE 𝓤 _ (λ ws. snd∗ 𝓤 (sem 𝓤 H A (lasts counted.ended tt (s .entry, (progress, tt)) ws)) (fact 𝓤 (r ≡ tally⁺))))
+      (ensured 𝓤 H A tally-after.ended (tally-after.clauses 𝓤 H A at-mem run) tt (s .entry, (progress, tt)) tt)
+      (λ r. exE 𝓤 _ (λ ws. snd∗ 𝓤 (sem 𝓤 H A (lasts tally-after.ended tt (s .entry, (progress, tt)) ws)) (fact 𝓤 (r ≡ tally⁺))))
 
   abbrev TallyHeld : Item 𝓤
   TallyHeld = ‵ (MutRef (named 0) (s .lifetime) (row tally-struct) .own (passed s) (pointer s ∷ []))
@@ -121,7 +122,7 @@ module _ (w : Setting) (s : Lent Tally) (progress : Progress) (roomy : Addable (
   abbrev Owned : List (Item 𝓤)
   Owned = TallyHeld ∷ by-value progress-struct progress ∷ []
 
-  walk : (𝓣 : Tables 𝓤 H) → Triple 𝓤 (𝓣 .C #turns·counted) (Counted w)
+  walk : (𝓣 : Tables 𝓤 H) → Triple 𝓤 (𝓣 .C #lent·tally-after) (After w)
       → ent 𝓤 (onEntry 𝓤 H A f.signature (s .lifetime, tt) (s .share, tt) x at)
       (WpFn 𝓤 H (𝓣 .C) (𝓣 .Λ) code.function (pointer s ∷ progress-value ∷ []) Post)
   walk 𝓣 known =
@@ -133,24 +134,24 @@ module _ (w : Setting) (s : Lent Tally) (progress : Progress) (roomy : Addable (
       -- [the tally's cell; what it owns; the open borrow; obs; auth; the locals]
       assigned ! (of-opd ! (load ! (behind ! refl) (look-raw ! head refl))) refl refl (typed W tally-struct (s .entry) was) $
       flip ! $ makes ! progress-struct progress _ is-progress $ flip ! $
-      use2 W (raw (Counted w .pre to-counted)) goes-counted $
-      calls-at ! (fmOf 𝓤 H (W .laws) 𝓣) (Counted w) known to-counted (also ! refl (also ! refl (no-more !))) (λ v.
-      tells w ! tt tally-struct (λ r. r ≡ tally⁺) v (told-counted v) (λ r e is. landed ! refl refl (typed W tally-struct r is) $
+      use2 W (raw (After w .pre to-after)) goes-after $
+      calls-at ! (fmOf 𝓤 H (W .laws) 𝓣) (After w) known to-after (also ! refl (also ! refl (no-more !))) (λ v.
+      tells w ! tt tally-struct (λ r. r ≡ tally⁺) v (told-after v) (λ r e is. landed ! refl refl (typed W tally-struct r is) $
       -- [what the new tally owns; the tally's cell; the open borrow; obs; auth; the locals]
       flip ! $ assigns ! (of-opd ! (copied ! refl)) (behind ! refl) (store-raw ! head refl (typed W tally-struct r is)) $
       assigned ! (of-opd ! (unit-lit !)) refl refl (tt, tt) $ closes ! tt (row tally-struct) r (v ∷ []) (s .block) (s .offset) $
       returns ! (answered ! refl) $ forgets ! (locals-at 𝓤 H mir-of.locals L) answer (_ ∷ _ ∷ _ ∷ _ ∷ _ ∷ []) refl $
       frees-all ! (locals-at 𝓤 H mir-of.locals L) (Held r) [] (prop (Post vunit)) $ by ! (exits r e))))))
 
-module _ (w : Setting) (𝓣 : Tables (w .𝓤) (w .H)) (known : Triple (w .𝓤) (𝓣 .C #turns·counted) (Counted w)) where
+module _ (w : Setting) (𝓣 : Tables (w .𝓤) (w .H)) (known : Triple (w .𝓤) (𝓣 .C #lent·tally-after) (After w)) where
   open Setting w using (𝓤, H, A, W, at-mem, run)
 
   walks : Walks 𝓤 H A f.ended stayed (WpFn 𝓤 H (𝓣 .C) (𝓣 .Λ) code.function) (f.clauses 𝓤 H A at-mem run)
   walks = walked 𝓤 H A f.ended stayed (f.clauses 𝓤 H A at-mem run) (WpFn 𝓤 H (𝓣 .C) (𝓣 .Λ) code.function)
       (λ κs. (ptr-vals, (LL.vals (progress-struct .type) (progress-struct .laws), tt)))
       (λ κs. (mut-tells (named 0) (κs .0) (row tally-struct), (LL.tells (progress-struct .type) (progress-struct .laws), tt)))
-      (λ κs qs bounds a g are. needs 𝓤 (Addable (a .0 .now)) _ (λ roomy.
-      walk w (lent (κs .0) (qs .0) (a .0)) (a .1 .0) roomy (are .1 .0) 𝓣 known))
+      (λ κs qs bounds a g are. needs 𝓤 (Addition (a .0 .now) (a .1 .0)) _ (λ addition.
+      walk w (lent (κs .0) (qs .0) (a .0)) (a .1 .0) addition (are .1 .0) 𝓣 known))
 
   goes : AllGo 𝓤 H A W 1 (f.signature .params) (f.ended .kept) stayed
   goes =
@@ -167,4 +168,4 @@ add-spec {M} 𝓤 H 𝓜 𝓖 𝓡 =
     entered 𝓤 H (tripleOf 𝓤 H (𝓖 .A) f.signature (f.spec 𝓤 H (𝓖 .A) (𝓜 .mem) (𝓡 .run)))
     (tables 𝓤 H 𝓜 𝓡 code.env .C) (tables 𝓤 H 𝓜 𝓡 code.env .Λ) #lent·add code.function (code.unfolded 𝓤 H 𝓜 𝓡)
     (meets w (tablesOf 𝓤 H 𝓜 (tables 𝓤 H 𝓜 𝓡 code.env))
-    (cited 𝓤 H (Counted w) 𝓜 𝓡 code.env #turns·counted counted-def.routine code.calls-turns·counted (counted-thm.met 𝓤 H 𝓜 𝓖 𝓡)))
+    (cited 𝓤 H (After w) 𝓜 𝓡 code.env #lent·tally-after after-def.routine code.calls-lent·tally-after (after-thm.met 𝓤 H 𝓜 𝓖 𝓡)))

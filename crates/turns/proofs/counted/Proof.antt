@@ -1,12 +1,10 @@
--- `turns::counted`: each number by its callee.
+-- `turns::counted`: what is added, with the mask's count of ones.
 use borrow.Author.Needs.{needs}
 use Rattle.turns.proofs.counted.Statement.{statement}
 use Rattle.turns.proofs.counted.Tie as tie
 
 returns : tie.Need-returns
-returns c =
-    simp (c .before .before .before .more .ensures, c .before .before .more2 .ensures, c .before .more3 .ensures, c .count .ensures)
+returns c = simp (c .added .ensures, c .before .count .ensures)
 
 pub counted-spec : {M : Type 1} → statement M
-counted-spec =
-    tie.close (tie.spec (λ c κs. search needs) (λ c κs. search needs) (λ c κs. search needs) (λ c κs. search needs) returns)
+counted-spec = tie.close (tie.spec (λ c κs. search needs) (λ c κs. search needs) returns)

@@ -29,10 +29,11 @@ use Rattle.job.specs.declared.Tally.{Tally}
 use Rattle.jobfile.specs.Admitted.{Bytes}
 use Rattle.reader.specs.declared.Checked.{Checked}
 use Rattle.turns.specs.declared.Progress.{Progress}
-use Rattle.turns.specs.Turns.{countedOf, buffersOf, firstTally, Addable}
+use Rattle.turns.specs.Turns.{countedOf, buffersOf, firstTally}
 use Rattle.player.specs.Player.{refusedWith}
 use Rattle.player.specs.declared.Plan.{Plan}
 use Rattle.player.specs.Plan.{Prepared, preparedOf, TurnableOn, TurnsOn, closedOf}
+use Rattle.lent.specs.Lent.{Addition}
 use Rattle.walks.proofs.Setting.{Setting, at-name, Loan, loan-token, pointer}
 use Rattle.walks.proofs.Carried.{row, value, IsValue, by-value, makes, Returned, told-value}
 use Rattle.walks.proofs.Again.{slice-value}
@@ -283,10 +284,10 @@ module _ (w : Setting) (P : Parameters) where
       tt,
     )
 
-    pub goes-add : Addable h
+    pub goes-add : Addition h p
         → ent 𝓤 (⋆ 𝓤 H A (loan-token n ∷ ‵ TallyLent ∷ by-value progress-struct p ∷ [])) (Add w .pre to-add)
-    goes-add roomy =
-        qed W (loan-token n ∷ ‵ TallyLent ∷ by-value progress-struct p ∷ []) ∵ says ! roomy $
+    goes-add addition =
+        qed W (loan-token n ∷ ‵ TallyLent ∷ by-value progress-struct p ∷ []) ∵ says ! addition $
         by ! (as-signed w (loan-token n ∷ []) (‵ TallyLent ∷ by-value progress-struct p ∷ []))
 
     -- the token, and the last value of the tally lent on

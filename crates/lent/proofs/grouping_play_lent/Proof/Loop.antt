@@ -34,9 +34,10 @@ use denote.Triple.Call.{calls-at, calls-at-last}
 use Rattle.job.specs.declared.Tally.{Tally}
 use Rattle.reader.specs.declared.Checked.{Checked}
 use Rattle.turns.specs.declared.Progress.{Progress}
-use Rattle.turns.specs.Turns.{countedOf, Addable}
+use Rattle.turns.specs.Turns.{countedOf}
 use Rattle.player.specs.Plan.{closedOf}
-use Rattle.player.proofs.Along.{along-turnable, along-addable, along-number, along-next}
+use Rattle.player.proofs.Along.{along-turnable, along-addable, along-still, along-number, along-next}
+use Rattle.lent.specs.Lent.{Addition}
 use Rattle.lent.proofs.Ended.{accepted-ended}
 use Rattle.walks.proofs.Setting.{Setting, loan}
 use Rattle.walks.proofs.Carried.{row, value, IsValue, told, typed, sees, makes, opens-value, tells}
@@ -130,7 +131,7 @@ module _ (w : Setting) (P : Parameters) (known : Known w) (L : ℕ → ℕ) (cou
           (lends-ref-again 𝓤 H A W (row tally-struct) (named 4) (P .tally .lifetime) (ν ∷ []) (P .tally .share)
           (P .tally .name) (P .tally .block) (P .tally .offset) (named 0) (a .tally)) $ await ! tt $ pick ! (λ δ. split ! $
           makes ! progress-struct (z .result) _ is-p $ move ! (3 ∷ 1 ∷ 0 ∷ []) $
-          use3 W (raw (Add w .pre (to-add w P (a .tally) (z .result) (loan ν δ)))) (goes-add w P (a .tally) (z .result) (loan ν δ) roomy) $
+          use3 W (raw (Add w .pre (to-add w P (a .tally) (z .result) (loan ν δ)))) (goes-add w P (a .tally) (z .result) (loan ν δ) addition) $
           calls-at-last ! fm (Add w) (known .add) (to-add w P (a .tally) (z .result) (loan ν δ))
           (also ! refl (also ! refl (no-more !))) (λ v.
           use1 W (later (given (v ≡ vunit) (‵ (flft (ν ∷ []) fullShare) ⊛ ‵ (fres δ (row tally-struct .coded .code h′)))))
@@ -144,11 +145,16 @@ module _ (w : Setting) (P : Parameters) (known : Known w) (L : ℕ → ℕ) (cou
           forgets ! (En w L) place.added (_ ∷ _ ∷ []) refl $ swap (Owner w P h′) (Buffers w P (z .left)) _ $
           again ! Nearer At s (next, is-p) nearer))))
         where
-          roomy : Addable (a .tally)
-          roomy = along-addable (entry P) counts a more
-
           h′ : Tally
           h′ = countedOf (a .tally) (z .result .done) (z .result .mask)
+
+          addition : Addition (a .tally) (z .result)
+          addition =
+              record {
+                room = along-addable (entry P) counts a more;
+                still = along-still (entry P) counts a more (z .result) (z .left .table) (z .left .report)
+                    (z .left .linearization) h′ (turned .same .table) (turned .same .report) (turned .same .linearization) (turned .does) refl;
+              }
 
           next : Here P counts
           next = along-next (entry P) counts a more (z .result) (z .left .table) (z .left .report)
