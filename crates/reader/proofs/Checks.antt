@@ -27,8 +27,7 @@ use Rattle.jobfile.proofs.Layouts.{requestLayout, waitLayout, runLayout}
 use Rattle.jobfile.proofs.Backward.{request-section, wait-section, run-section}
 use Rattle.jobfile.proofs.RoundTrip.{meaning-number, meaning-accepted, meaning-refused}
 use Rattle.jobfile.proofs.Places.{runs-meant}
-use Rattle.reader.specs.declared.sections.RequestSection.{RequestSection}
-use Rattle.reader.specs.declared.sections.WaitSection.{WaitSection}
+use Rattle.reader.specs.declared.sections.Records.{Records}
 use Rattle.reader.specs.declared.sections.RunSection.{RunSection}
 use Rattle.reader.specs.Reader.{countsOf, requestSectionOf, waitSectionOf, runSectionOf}
 
@@ -77,23 +76,23 @@ unfolding fileRefusal
 header-answers s n l e z = refusal-answers s n (simp (length-passes s l, ← e, ne-eqb n 0 z)) z
 
 -- The length and the header are accepted, and q is what reading the requests gave.
-pub record RequestsRead (s : List ℕ) (q : RequestSection) : Type 0 where
+pub record RequestsRead (s : List ℕ) (q : Records) : Type 0 where
   pub short : length s ≤ mostBytes
   pub header : headerRefusal s ≡ 0
   pub read : q ≡ requestSectionOf (nodesIn s) (headsIn s) (requestRecords s)
 
-pub requests-told : {s : List ℕ} {nodes heads : ℕ} {q : RequestSection} → (length s ≤ mostBytes) × (headerRefusal s ≡ 0)
+pub requests-told : {s : List ℕ} {nodes heads : ℕ} {q : Records} → (length s ≤ mostBytes) × (headerRefusal s ≡ 0)
     → nodes ≡ nodesIn s → heads ≡ headsIn s → q ≡ requestSectionOf nodes heads (requestRecords s) → RequestsRead s q
 requests-told p n h r = record { short = p .0; header = p .1; read = rw (n, h) at r }
 
-module _ {s : List ℕ} {q : RequestSection} (h : RequestsRead s q) where
+module _ {s : List ℕ} {q : Records} (h : RequestsRead s q) where
   request-number : q .number ≡ requestsRefusal (nodesIn s) (headsIn s) 0 (requestRecords s)
   unfolding requestSectionOf
-  request-number = ap (λ (q : RequestSection). q .number) (h .read)
+  request-number = ap (λ (q : Records). q .number) (h .read)
 
   request-count : q .number ≡ 0 → q .count ≡ length (requestRecords s)
   unfolding requestSectionOf
-  request-count z = ap (λ (q : RequestSection). q .count) (h .read) ∙ rw (← request-number, z)
+  request-count z = ap (λ (q : Records). q .count) (h .read) ∙ rw (← request-number, z)
 
   requests-left : fileRefusal s ≡ (q .number then behindRequests s)
   unfolding fileRefusal
@@ -110,23 +109,23 @@ module _ {s : List ℕ} {q : RequestSection} (h : RequestsRead s q) where
       rw (request-count z) (section-room (requestLayout (nodesIn s) (headsIn s)) 0 s jobSize (request-section s) whole passes)
 
 -- The requests are accepted too, and w is what reading the pairs gave.
-pub record WaitsRead (s : List ℕ) (q : RequestSection) (w : WaitSection) : Type 0 where
+pub record WaitsRead (s : List ℕ) (q w : Records) : Type 0 where
   pub before : RequestsRead s q
   pub requests : q .number ≡ 0
   pub read : w ≡ waitSectionOf (length (requestRecords s)) (waitRecords s)
 
-pub waits-told : {s : List ℕ} {q : RequestSection} {start : ℕ} {w : WaitSection} → RequestsRead s q → q .number ≡ 0
+pub waits-told : {s : List ℕ} {q : Records} {start : ℕ} {w : Records} → RequestsRead s q → q .number ≡ 0
     → start ≡ requestPlace (q .count) → w ≡ waitSectionOf (q .count) (records waitSize waitMark (drop start s)) → WaitsRead s q w
 waits-told b z p r = record { before = b; requests = z; read = rw (p, request-count b z) at r }
 
-module _ {s : List ℕ} {q : RequestSection} {w : WaitSection} (h : WaitsRead s q w) where
+module _ {s : List ℕ} {q w : Records} (h : WaitsRead s q w) where
   wait-number : w .number ≡ waitsRefusal (length (requestRecords s)) noPair (waitRecords s)
   unfolding waitSectionOf
-  wait-number = ap (λ (w : WaitSection). w .number) (h .read)
+  wait-number = ap (λ (w : Records). w .number) (h .read)
 
   wait-count : w .number ≡ 0 → w .count ≡ length (waitRecords s)
   unfolding waitSectionOf
-  wait-count z = ap (λ (w : WaitSection). w .count) (h .read) ∙ rw (← wait-number, z)
+  wait-count z = ap (λ (w : Records). w .count) (h .read) ∙ rw (← wait-number, z)
 
   waits-left : fileRefusal s ≡ (w .number then behindWaits s)
   waits-left = rw wait-number (check-passes s (q .number) (behindRequests s) (requests-left (h .before)) (h .requests))
@@ -146,17 +145,17 @@ module _ {s : List ℕ} {q : RequestSection} {w : WaitSection} (h : WaitsRead s 
       rw (runs-place z) (section-room (waitLayout (length (requestRecords s))) noPair s (waitsStart s) (wait-section s) within passes)
 
 -- The pairs are accepted too, and r is what reading the runs gave.
-pub record RunsRead (s : List ℕ) (q : RequestSection) (w : WaitSection) (r : RunSection) : Type 0 where
+pub record RunsRead (s : List ℕ) (q w : Records) (r : RunSection) : Type 0 where
   pub before : WaitsRead s q w
   pub waits : w .number ≡ 0
   pub read : r ≡ runSectionOf (headsIn s) (runRecords s)
 
-pub runs-told : {s : List ℕ} {q : RequestSection} {w : WaitSection} {heads start : ℕ} {r : RunSection} → WaitsRead s q w
+pub runs-told : {s : List ℕ} {q w : Records} {heads start : ℕ} {r : RunSection} → WaitsRead s q w
     → w .number ≡ 0 → heads ≡ headsIn s → start ≡ waitPlace (q .count) (w .count)
     → r ≡ runSectionOf heads (records runSize runMark (drop start s)) → RunsRead s q w r
 runs-told b z h p r = record { before = b; waits = z; read = rw (h, p, runs-place b z) at r }
 
-module _ {s : List ℕ} {q : RequestSection} {w : WaitSection} {r : RunSection} (h : RunsRead s q w r) where
+module _ {s : List ℕ} {q w : Records} {r : RunSection} (h : RunsRead s q w r) where
   run-number : r .number ≡ runsRefusal (headsIn s) fullRun (runRecords s)
   unfolding runSectionOf
   run-number = ap (λ (r : RunSection). r .number) (h .read)
@@ -186,16 +185,16 @@ module _ {s : List ℕ} {q : RequestSection} {w : WaitSection} {r : RunSection} 
       rw (close-place z) (section-room (runLayout (headsIn s)) fullRun s (runsStart s) (run-section s) within (sym run-number ∙ z))
 
 -- The runs are accepted too, and n is the refusal of the close and the balance.
-pub record CloseRead (s : List ℕ) (q : RequestSection) (w : WaitSection) (r : RunSection) (n : ℕ) : Type 0 where
+pub record CloseRead (s : List ℕ) (q w : Records) (r : RunSection) (n : ℕ) : Type 0 where
   pub before : RunsRead s q w r
   pub runs : r .number ≡ 0
   pub read : n ≡ behindRuns s
 
-pub close-told : {s : List ℕ} {q : RequestSection} {w : WaitSection} {r : RunSection} {at n : ℕ} → RunsRead s q w r → r .number ≡ 0
+pub close-told : {s : List ℕ} {q w : Records} {r : RunSection} {at n : ℕ} → RunsRead s q w r → r .number ≡ 0
     → at ≡ runPlace (q .count) (w .count) (r .count) → n ≡ (closeRefusal (drop at s) then balanceRefusal s) → CloseRead s q w r n
 close-told b z p e = record { before = b; runs = z; read = rw (p, close-place b z) at e }
 
-module _ {s : List ℕ} {q : RequestSection} {w : WaitSection} {r : RunSection} {n : ℕ} (h : CloseRead s q w r n) where
+module _ {s : List ℕ} {q w : Records} {r : RunSection} {n : ℕ} (h : CloseRead s q w r n) where
   file-number : fileRefusal s ≡ n
   file-number = check-passes s (r .number) (behindRuns s) (runs-left (h .before)) (h .runs) ∙ sym (h .read)
 

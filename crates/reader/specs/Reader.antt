@@ -14,8 +14,7 @@ use Rattle.jobfile.specs.Format.{word, noPair}
 use Rattle.jobfile.specs.Meaning.{Meaning, requestsRefusal, waitsRefusal, runsRefusal, runAt, fullRun, granted}
 use Rattle.jobfile.specs.Written.{longestRuns}
 use Rattle.reader.specs.declared.Checked.{Checked}
-use Rattle.reader.specs.declared.sections.RequestSection.{RequestSection}
-use Rattle.reader.specs.declared.sections.WaitSection.{WaitSection}
+use Rattle.reader.specs.declared.sections.Records.{Records}
 use Rattle.reader.specs.declared.sections.RunSection.{RunSection}
 
 -- The counts: places, heads, requests, pairs (02, A3), grants, and the runs.
@@ -32,13 +31,13 @@ countsOf m =
     }
 
 -- The requests of the file: the first refusal, or how many there are.
-unfoldable pub requestSectionOf : ℕ → ℕ → List (List ℕ) → RequestSection
+unfoldable pub requestSectionOf : ℕ → ℕ → List (List ℕ) → Records
 requestSectionOf nodes heads ts =
     let number = requestsRefusal nodes heads 0 ts in
     record { number = number; count = cond (eqb number 0) (length ts) 0 }
 
 -- The pairs of the file (02, A3), behind so many requests: the first refusal, or how many there are.
-unfoldable pub waitSectionOf : ℕ → List (List ℕ) → WaitSection
+unfoldable pub waitSectionOf : ℕ → List (List ℕ) → Records
 waitSectionOf requests ts =
     let number = waitsRefusal requests noPair ts in
     record { number = number; count = cond (eqb number 0) (length ts) 0 }

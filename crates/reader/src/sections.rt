@@ -28,14 +28,8 @@ ghost use Rattle.jobfile.specs.Format.{waitMark, runMark, jobSize, waitSize, ru
 ghost use Rattle.jobfile.specs.Meaning.{records, headerRefusal, closeRefusal, balanceRefusal, requestRecords};
 ghost use Rattle.reader.specs.Reader.{requestSectionOf, waitSectionOf, runSectionOf};
 
-// The requests of a file: how many there are, or their refusal.
-pub struct RequestSection {
-    pub number: u32,
-    pub count: u32,
-}
-
-// The pairs of a file: how many there are, or their refusal.
-pub struct WaitSection {
+// The requests of a file, or its pairs: how many there are, or their refusal.
+pub struct Records {
     pub number: u32,
     pub count: u32,
 }
@@ -64,7 +58,7 @@ pub fn header_refusal(file: &[u8]) -> u32
 }
 
 // Reads the requests behind the header.
-pub fn read_requests(file: &[u8], nodes: u32, heads: u32) -> RequestSection
+pub fn read_requests(file: &[u8], nodes: u32, heads: u32) -> Records
     requires { ⌜ jobSize ≤ length (now file) ⌝ }
     requires { ⌜ length (now file) ≤ mostBytes ⌝ }
     ensures { λ r. ⌜ r ≡ requestSectionOf nodes heads (requestRecords (now (file .entry))) ⌝ }
@@ -74,7 +68,7 @@ pub fn read_requests(file: &[u8], nodes: u32, heads: u32) -> RequestSection
     while word_at(file, at) == REQUEST_MARK {
         let number = request_refusal(file, at, nodes, heads, count);
         if number != 0 {
-            return RequestSection {
+            return Records {
                 number: number,
                 count: 0,
             };
@@ -82,14 +76,14 @@ pub fn read_requests(file: &[u8], nodes: u32, heads: u32) -> RequestSection
         at += REQUEST_SIZE;
         count += 1;
     }
-    RequestSection {
+    Records {
         number: 0,
         count: count,
     }
 }
 
 // Reads the pairs from where they start, behind so many requests.
-pub fn read_waits(file: &[u8], requests: u32, start: usize) -> WaitSection
+pub fn read_waits(file: &[u8], requests: u32, start: usize) -> Records
     requires { ⌜ start ≤ length (now file) ⌝ }
     requires { ⌜ length (now file) ≤ mostBytes ⌝ }
     ensures { λ r. ⌜ r ≡ waitSectionOf requests (records waitSize waitMark (drop start (now (file .entry)))) ⌝ }
@@ -103,7 +97,7 @@ pub fn read_waits(file: &[u8], requests: u32, start: usize) -> WaitSection
     while is_record(file, at, WAIT_SIZE, WAIT_MARK) {
         let number = wait_refusal(file, at, requests, before);
         if number != 0 {
-            return WaitSection {
+            return Records {
                 number: number,
                 count: 0,
             };
@@ -113,12 +107,12 @@ pub fn read_waits(file: &[u8], requests: u32, start: usize) -> WaitSection
         count += 1;
     }
     if word_at(file, at) == WAIT_MARK {
-        return WaitSection {
+        return Records {
             number: 2,
             count: 0,
         };
     }
-    WaitSection {
+    Records {
         number: 0,
         count: count,
     }

@@ -331,10 +331,17 @@ module _ {file : List ℕ} {counts : Checked} {h number : ℕ} {b : Buffers} (pl
 
 -- ---- what the parts of a grant ask
 
-module _ {file : List ℕ} {counts : Checked} {h number : ℕ} {b : Buffers} (r : Grantable file counts h number b)
-    (bit : eqb (b .mask / 2 ^ h % 2) 1 ≡ true) (free : isWaiting (getD (b .heads) h (resting 0)) ≡ false) where
-  pub ready-next : getD (b .heads) h (resting 0) .task .request < counts .requests
-  ready-next = next-within (r .playing) (r .head) (r .standing) bit free
+-- A grant that serves a head: what it asks, that the head has work left and does not wait, and the head before its access.
+pub record Service (file : List ℕ) (counts : Checked) (h number : ℕ) (b : Buffers) (head : Head) : Type 0 where
+  pub asked : Grantable file counts h number b
+  pub bit : eqb (b .mask / 2 ^ h % 2) 1 ≡ true
+  pub free : isWaiting (getD (b .heads) h (resting 0)) ≡ false
+  pub is : head ≡ ready (requestsIn file) (getD (b .heads) h (resting 0))
+
+module _ {file : List ℕ} {counts : Checked} {h number : ℕ} {b : Buffers} (r : Grantable file counts h number b) where
+  pub ready-next : eqb (b .mask / 2 ^ h % 2) 1 ≡ true → isWaiting (getD (b .heads) h (resting 0)) ≡ false
+      → getD (b .heads) h (resting 0) .task .request < counts .requests
+  ready-next = next-within (r .playing) (r .head) (r .standing)
 
   pub ready-records : (next : Head) → length (set (b .heads) h next) ≡ mostHeads
   ready-records next = length-set (b .heads) h next ∙ records-all (r .playing) (r .head) (r .standing)
@@ -343,40 +350,42 @@ module _ {file : List ℕ} {counts : Checked} {h number : ℕ} {b : Buffers} (r 
   pub ready-rows : (report′ : List ℕ) (at : ℕ) (row : Row) → report′ ≡ stored (b .report) at row → 4 * counts .requests ≤ length report′
   ready-rows report′ at row is = rw is (simp length-set (rows-room (r .playing) (r .head) (r .standing)))
 
+module _ {file : List ℕ} {counts : Checked} {h number : ℕ} {b : Buffers} {head : Head} (s : Service file counts h number b head) where
+  open Service s using (asked, bit, free, is)
+
   pub ready-mask : 2 ^ h ≤ b .mask
-  ready-mask = mask-least (r .playing) (r .head) (r .standing) bit free
+  ready-mask = mask-least (asked .playing) (asked .head) (asked .standing) bit free
 
   pub ready-small : b .entries < 4294967295
-  ready-small = entries-small (r .playing) (r .head) (r .standing) bit free
+  ready-small = entries-small (asked .playing) (asked .head) (asked .standing) bit free
 
-  module _ (head : Head) (is-head : head ≡ ready (requestsIn file) (getD (b .heads) h (resting 0))) where
-    pub ready-raisable : Raisable (head .stage)
-    ready-raisable = raisable (r .playing) (r .head) (r .standing) bit free head is-head
+  pub ready-raisable : Raisable (head .stage)
+  ready-raisable = raisable (asked .playing) (asked .head) (asked .standing) bit free head is
 
-    pub ready-touchable : Touchable (map decode (b .table)) (accessOf head)
-    ready-touchable = touchable-here (r .playing) (r .head) (r .standing) bit free head is-head
+  pub ready-touchable : Touchable (map decode (b .table)) (accessOf head)
+  ready-touchable = touchable-here (asked .playing) (asked .head) (asked .standing) bit free head is
 
-    -- a request is told one higher
-    pub ready-number : head .task .request < 65535
-    ready-number =
-        omega (
-          arith,
-          request-within (r .playing) (r .head) (r .standing) bit free head is-head,
-          playing-admitted (r .playing) .few-requests,
-        )
+  -- a request is told one higher
+  pub ready-number : head .task .request < 65535
+  ready-number =
+      omega (
+        arith,
+        request-within (asked .playing) (asked .head) (asked .standing) bit free head is,
+        playing-admitted (asked .playing) .few-requests,
+      )
 
-    pub ready-room : 4 * head .task .request + 4 ≤ length (b .report)
-    ready-room = charge-room (r .playing) (r .head) (r .standing) bit free head is-head
+  pub ready-room : 4 * head .task .request + 4 ≤ length (b .report)
+  ready-room = charge-room (asked .playing) (asked .head) (asked .standing) bit free head is
 
-    pub ready-used : number < 4294967296 → rowIn (b .report) (4 * head .task .request) .used < 4294967295
-    ready-used = charge-used (r .playing) (r .head) (r .standing) bit free head is-head
+  pub ready-used : number < 4294967296 → rowIn (b .report) (4 * head .task .request) .used < 4294967295
+  ready-used = charge-used (asked .playing) (asked .head) (asked .standing) bit free head is
 
-    module _ (moved : Advanced) (is-moved : moved ≡ advanceOf head (seen (map decode (b .table)) (accessOf head)) number) where
-      pub ready-insertable : moved .event .point ≢ 0 → Insertable (b .linearization) (b .entries)
-      ready-insertable = insertable (r .playing) (r .head) (r .standing) bit free head is-head moved is-moved
+  module _ (moved : Advanced) (is-moved : moved ≡ advanceOf head (seen (map decode (b .table)) (accessOf head)) number) where
+    pub ready-insertable : moved .event .point ≢ 0 → Insertable (b .linearization) (b .entries)
+    ready-insertable = insertable (asked .playing) (asked .head) (asked .standing) bit free head is moved is-moved
 
-      pub ready-moved : moved .head .task .request < counts .requests
-      ready-moved = moved-within (r .playing) (r .head) (r .standing) bit free head is-head moved is-moved
+    pub ready-moved : moved .head .task .request < counts .requests
+    ready-moved = moved-within (asked .playing) (asked .head) (asked .standing) bit free head is moved is-moved
 
-      pub ready-own : requestAt (requestsIn file) (moved .head .task .request) .head ≡ h
-      ready-own = own-request (r .playing) (r .head) (r .standing) bit free head is-head moved is-moved
+    pub ready-own : requestAt (requestsIn file) (moved .head .task .request) .head ≡ h
+    ready-own = own-request (asked .playing) (asked .head) (asked .standing) bit free head is moved is-moved

@@ -1,7 +1,7 @@
 -- `stepper::serve`: each part asks what the state shown grants it, and the parts together make the rules' step; a head that
 -- waits is left as it is. After the access the heads' records are as the report wants them, one after the other.
-use Rattle.stepper.proofs.Needs.{waiting-stepped, ready-next, ready-mask, ready-small, ready-raisable, ready-touchable, ready-room}
-use Rattle.stepper.proofs.Needs.{ready-used, ready-insertable, ready-moved, ready-own, ready-records, ready-rows}
+use Rattle.stepper.proofs.Needs.{Service, waiting-stepped, ready-next, ready-mask, ready-small, ready-raisable, ready-touchable}
+use Rattle.stepper.proofs.Needs.{ready-room, ready-used, ready-insertable, ready-moved, ready-own, ready-records, ready-rows}
 use Rattle.stepper.proofs.Needs.{ready-number, serve-shown, serve-renewable, serve-done}
 use Rattle.stepper.proofs.Renewed.{Renewed, renewed-start, renewed-some, renewed-here, renewed-on, renewed-end}
 use Rattle.stepper.proofs.Renewed.{frees-final, renewed-noted}
@@ -11,7 +11,7 @@ use borrow.Author.Needs.{needs}
 use Prim.Native.Nat.{_-_}
 use Rattle.job.specs.Job.{mostHeads}
 use Rattle.stepper.specs.Buffers.{rowsOf}
-use Rattle.stepper.specs.Shown.{waitsIn, noted}
+use Rattle.stepper.specs.Shown.{Buffers, buffers, waitsIn, noted}
 use Rattle.stepper.specs.Waits.{frees}
 use Rattle.stepper.proofs.serve.Statement.{statement}
 use Rattle.stepper.proofs.serve.Tie as tie
@@ -57,6 +57,27 @@ entered c = c .before .before .before
 abbrev looped : tie.After-renewed-head-arg2 Inv-loop μ-loop → tie.At-loop Inv-loop μ-loop
 looped c = c .before .before .before
 
+-- ---- what holds there
+
+-- the head does not wait, and is served; `t4` is the array of heads as it came, since a parameter that is changed loses its name
+module _ (k : tie.After-ready-head Inv-loop μ-loop) where
+  abbrev begun : tie.Start Inv-loop μ-loop
+  begun = start (tested k)
+
+  abbrev lent : Buffers
+  lent =
+      let a = begun .args in
+      buffers (a .t4) (a .table .now) (a .report .now) (a .linearization .now) (a .entries) (a .mask)
+
+  abbrev service : Service (begun .args .file .now) (begun .args .counts) (begun .args .h) (begun .args .number) lent (k .ready-head .result)
+  service =
+      record {
+        asked = begun .pre .0;
+        bit = begun .pre .1 .1;
+        free = sym (tested k .is-waiting .ensures) ∙ k .before .if1 .left;
+        is = k .ready-head .ensures;
+      }
+
 -- ---- the needs
 
 returns : tie.Need-returns Inv-loop μ-loop
@@ -70,64 +91,38 @@ returns c =
 ready-head-requires : tie.Need-ready-head-requires Inv-loop μ-loop
 ready-head-requires c κs =
     let asked = start (c .before) .pre in
-    let free = sym (c .before .is-waiting .ensures) ∙ c .if1 .left in
-    (asked .0 .playing, ready-next (asked .0) (asked .1 .1) free)
+    (asked .0 .playing, ready-next (asked .0) (asked .1 .1) (sym (c .before .is-waiting .ensures) ∙ c .if1 .left))
 
 stepped-requires : tie.Need-stepped-requires Inv-loop μ-loop
-stepped-requires c κs =
-    let k = c .before in
-    let head = k .ready-head in
-    let asked = start (tested k) .pre in
-    let bit = asked .1 .1 in
-    let free = sym (tested k .is-waiting .ensures) ∙ k .before .if1 .left in (
-      ready-touchable (asked .0) bit free (head .result) (head .ensures),
-      ready-raisable (asked .0) bit free (head .result) (head .ensures),
-    )
+stepped-requires c κs = let s = service (c .before) in (ready-touchable s, ready-raisable s)
 
 settled-head-requires : tie.Need-settled-head-requires Inv-loop μ-loop
 settled-head-requires c κs =
     let moved = stepped c .stepped in
     let k = found (stepped c) in
-    let head = k .ready-head in
-    let asked = start (tested k) .pre in
-    let bit = asked .1 .1 in
-    let free = sym (tested k .is-waiting .ensures) ∙ k .before .if1 .left in
     record {
-      playing = asked .0 .playing;
-      indexed = asked .1 .0;
-      within = ready-moved (asked .0) bit free (head .result) (head .ensures) (moved .result) (moved .ensures .0);
-      own = ready-own (asked .0) bit free (head .result) (head .ensures) (moved .result) (moved .ensures .0);
+      playing = service k .asked .playing;
+      indexed = begun k .pre .1 .0;
+      within = ready-moved (service k) (moved .result) (moved .ensures .0);
+      own = ready-own (service k) (moved .result) (moved .ensures .0);
     }
 
 mul-heads : tie.Need-mul-heads Inv-loop μ-loop
-mul-heads c = omega (arith, start (tested (found (stepped (c .before)))) .pre .0 .head)
+mul-heads c = omega (arith, service (found (stepped (c .before))) .asked .head)
 
 array-set-from-heads : tie.Need-array-set-from-heads Inv-loop μ-loop
-array-set-from-heads c = omega (arith, start (tested (found (stepped (c .before)))) .pre .0 .head)
+array-set-from-heads c = omega (arith, service (found (stepped (c .before))) .asked .head)
 
 charge-row-requires : tie.Need-charge-row-requires Inv-loop μ-loop
 charge-row-requires c κs =
     let k = found (stepped (settled c .before)) in
-    let head = k .ready-head in
-    let asked = start (tested k) .pre in
-    let bit = asked .1 .1 in
-    let free = sym (tested k .is-waiting .ensures) ∙ k .before .if1 .left in (
-      ready-room (asked .0) bit free (head .result) (head .ensures),
-      ready-used (asked .0) bit free (head .result) (head .ensures) (omega (arith, start (tested k) .fits .number)),
-    )
+    (ready-room (service k), ready-used (service k) (omega (arith, begun k .fits .number)))
 
 enter-requires : tie.Need-enter-requires Inv-loop μ-loop
 enter-requires c κs =
     let made = stepped (settled (charged c .before) .before) in
-    let moved = made .stepped in
-    let k = found made in
-    let head = k .ready-head in
-    let asked = start (tested k) .pre in
-    let bit = asked .1 .1 in
-    let free = sym (tested k .is-waiting .ensures) ∙ k .before .if1 .left in (
-      ready-insertable (asked .0) bit free (head .result) (head .ensures) (moved .result) (moved .ensures .0),
-      ready-small (asked .0) bit free,
-    )
+    let s = service (found made) in
+    (ready-insertable s (made .stepped .result) (made .stepped .ensures .0), ready-small s)
 
 loop-holds : tie.Need-loop-holds Inv-loop μ-loop
 loop-holds c = renewed-start _ _ _ _ (c .first-due .ensures)
@@ -135,14 +130,8 @@ loop-holds c = renewed-start _ _ _ _ (c .first-due .ensures)
 renewed-head-requires : tie.Need-renewed-head-requires Inv-loop μ-loop
 renewed-head-requires c κs =
     let paid = charged (entered (looped c .before) .before) in
-    let k = found (stepped (settled (paid .before) .before)) in
-    let head = k .ready-head in
-    let asked = start (tested k) .pre in
-    let bit = asked .1 .1 in
-    let free = sym (tested k .is-waiting .ensures) ∙ k .before .if1 .left in (
-      asked .0 .playing,
-      (ready-rows (asked .0) bit free _ _ _ (paid .charge-row .ensures), ready-number (asked .0) bit free (head .result) (head .ensures)),
-    )
+    let s = service (found (stepped (settled (paid .before) .before))) in
+    (s .asked .playing, (ready-rows (s .asked) _ _ _ (paid .charge-row .ensures), ready-number s))
 
 loop-again : tie.Need-loop-again Inv-loop μ-loop
 loop-again c =
@@ -153,29 +142,22 @@ loop-again c =
     let next = settled (paid .before) .settled-head in
     let made = stepped (settled (paid .before) .before) in
     let moved = made .stepped in
-    let k = found made in
-    let head = k .ready-head in
-    let asked = start (tested k) .pre in
-    let ready = asked .0 in
-    let bit = asked .1 .1 in
-    let free = sym (tested k .is-waiting .ensures) ∙ k .before .if1 .left in
-    let renewable = serve-renewable (ready .playing) (ready .head) (ready .standing) bit free (head .result) (head .ensures)
+    let s = service (found made) in
+    let renewable = serve-renewable (s .asked .playing) (s .asked .head) (s .asked .standing) (s .bit) (s .free) _ (s .is)
     (moved .result) (moved .ensures .0) _ _ _ (listed .enter .result) _ (next .result)
     (moved .ensures .1) (paid .charge-row .ensures) (listed .enter .ensures .1) (listed .enter .ensures .0) (next .ensures) refl in
-    let size = ready-records ready bit free (next .result) in
+    let size = ready-records (s .asked) (next .result) in
     let there = c .before .before .before .loop-test .taken in
     let some = renewed-some (l .inv) size (omega (arith, there)) in
-    let final = frees-final (start (tested k) .args .counts .waits) (moved .result .event .answer) some in
+    let final = frees-final (begun (found made) .args .counts .waits) (moved .result .event .answer) some in
     renewed-on (l .inv) size _ (omega (arith, there))
     (c .renewed-head .ensures
     ∙ renewed-noted (renewable final) (l .k) (omega (arith, there)) _ (renewed-here (l .inv) size (omega (arith, there))))
 
 work-left-requires : tie.Need-work-left-requires Inv-loop μ-loop
 work-left-requires c κs =
-    let k = found (stepped (settled (charged (entered (c .before .before) .before) .before) .before)) in
-    let asked = start (tested k) .pre in
-    let free = sym (tested k .is-waiting .ensures) ∙ k .before .if1 .left in
-    (omega (arith, asked .0 .head), ready-mask (asked .0) (asked .1 .1) free)
+    let s = service (found (stepped (settled (charged (entered (c .before .before) .before) .before) .before))) in
+    (omega (arith, s .asked .head), ready-mask s)
 
 returns-2 : tie.Need-returns-2 Inv-loop μ-loop
 returns-2 c =
@@ -187,18 +169,13 @@ returns-2 c =
     let next = settled (paid .before) .settled-head in
     let made = stepped (settled (paid .before) .before) in
     let moved = made .stepped in
-    let k = found made in
-    let head = k .ready-head in
-    let asked = start (tested k) .pre in
-    let ready = asked .0 in
-    let bit = asked .1 .1 in
-    let free = sym (tested k .is-waiting .ensures) ∙ k .before .if1 .left in
-    let size = ready-records ready bit free (next .result) in
-    let shown = serve-shown (ready .playing) (ready .head) standing bit free (head .result) (head .ensures)
+    let s = service (found made) in
+    let shown = serve-shown (s .asked .playing) (s .asked .head) standing (s .bit) (s .free) _ (s .is)
     (moved .result) (moved .ensures .0) _ _ _ (listed .enter .result) (masked .work-left .result) (next .result)
     (moved .ensures .1) (paid .charge-row .ensures) (listed .enter .ensures .1) (listed .enter .ensures .0)
-    (next .ensures) (masked .work-left .ensures) (at .loop .heads) (renewed-end (at .loop .inv) size (omega arith)) in
-    let done = serve-done (ready .playing) (ready .head) standing bit free (head .result) (head .ensures)
+    (next .ensures) (masked .work-left .ensures) (at .loop .heads)
+    (renewed-end (at .loop .inv) (ready-records (s .asked) (next .result)) (omega arith)) in
+    let done = serve-done (s .asked .playing) (s .asked .head) standing (s .bit) (s .free) _ (s .is)
     (moved .result) (moved .ensures .0) _ (c .done-of .ensures) in
     record { buffers = shown; done = done }
 
