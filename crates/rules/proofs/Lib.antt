@@ -1,4 +1,4 @@
--- The starred cases, the laws behind the linearization theorem, and the laws of every moment.
+-- The starred cases, the laws behind the linearization theorem, the laws of every moment, and a head count left open.
 pub mod Cases
 pub mod History
 pub mod Table
@@ -23,3 +23,4 @@ pub mod Layer
 pub mod Laws
 pub mod Lowest
 pub mod Waits
+pub mod Heads

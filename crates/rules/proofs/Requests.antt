@@ -3,10 +3,13 @@
 --   seek-from, seek-bound   the request found is not before the place searched from, nor beyond the number of requests
 --   seek-own                it is the head's own
 --   seek-least              no request of that head is passed over
+--   seek-absent             a head that has none is told the number of requests
 use mathlib.Core.Path.{_≡_, sym, ap, _∙_}
+use mathlib.Core.Logic.{_≢_}
 use mathlib.Core.List.{List, [], _∷_}
 use Prim.Native.Nat.{ℕ, zero, suc, _+_, _-_, _≤_, _<_}
 use native.Mathlib.Omega.{arith}
+use native.Mathlib.Decide.{decLt}
 use lib.Dec.{eqb}
 use lib.ListN.{length, getD, drop, length-drop}
 use lib.Seq.{getD-drop}
@@ -66,3 +69,10 @@ module _ (qs : List Request) (h q : ℕ) where
       let there : getD (drop q qs) i noRequest .head ≡ h =
       ap (λ r. r .head) (getD-drop q qs i noRequest) ∙ ap (λ j. requestAt qs j .head) (sym found) ∙ own in
       omega (arith, seekIn-least h q i (drop q qs) (omega (arith, length-drop q qs)) there)
+
+  pub seek-absent : q ≤ length qs → ((k : ℕ) → k < length qs → requestAt qs k .head ≢ h) → seek qs h q ≡ length qs
+  seek-absent inside absent = go (decLt (seek qs h q) (length qs))
+    where
+      go : Dec (seek qs h q < length qs) → seek qs h q ≡ length qs
+      go (yes l) = absurd (absent (seek qs h q) l (seek-own l))
+      go (no l) = omega (arith, seek-bound inside)

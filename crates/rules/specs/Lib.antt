@@ -11,3 +11,4 @@ pub mod Cases
 pub mod Linearized
 pub mod Laws
 pub mod Waits
+pub mod Heads
