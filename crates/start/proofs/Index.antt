@@ -15,6 +15,7 @@ use Rattle.reader.specs.declared.Checked.{Checked}
 use Rattle.job.specs.Job.{mostHeads, mostRequests}
 use Rattle.job.specs.declared.Request.{Request}
 use Rattle.rules.specs.State.{noRequest, requestAt, seek}
+use Rattle.rules.proofs.Requests.{seek-absent}
 use Rattle.stepper.specs.Shown.{requestsIn, Playing}
 use Rattle.stepper.specs.Index.{Indexes}
 use Rattle.stepper.proofs.Seek.{seek-here, seek-on, seek-none, playing-count}
@@ -88,3 +89,14 @@ module _ {file : List ℕ} {counts : Checked} (playing : Playing file counts) wh
         playing-admitted playing .each-request q noRequest (omega (arith, playing-count playing)) .head,
         playing-admitted playing .few-heads,
       )
+
+  pub few-heads-in-all : counts .heads ≤ mostHeads
+  few-heads-in-all = omega (arith, ap (λ c. c .heads) (playing .checked), playing-admitted playing .few-heads)
+
+  -- a head that the job does not have has no request
+  pub absent-first : (h : ℕ) → counts .heads ≤ h → seek (requestsIn file) h 0 ≡ counts .requests
+  absent-first h beyond =
+      let served = playing-admitted playing .each-request in
+      let heads = ap (λ c. c .heads) (playing .checked) in
+      seek-absent (requestsIn file) h 0 (omega arith) (λ q l e. omega (arith, served q noRequest l .head, e, heads))
+      ∙ sym (playing-count playing)

@@ -50,14 +50,14 @@ pub fn clear_report(report: &mut [u32])
     }
 }
 
-// The first request of each head, or the number of requests where it has none.
+// The first request of each head, or the number of requests where it has none, as no head has that the job does not have.
 pub fn first_requests(file: &[u8], counts: Checked) -> [u16; MOST_HEADS]
     requires { ⌜ Playing (now file) counts ⌝ }
     ensures { λ r. ⌜ r ≡ firstRequests (requestsIn (now (file .entry))) 0 mostHeads ⌝ }
 {
-    let mut firsts = [0u16; MOST_HEADS];
+    let mut firsts = [counts.requests as u16; MOST_HEADS];
     let mut h: usize = 0;
-    while h < MOST_HEADS {
+    while h < counts.heads as usize {
         firsts[h] = next_request(file, counts, h as u32, 0) as u16;
         h += 1;
     }

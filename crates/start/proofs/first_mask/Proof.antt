@@ -20,7 +20,7 @@ pushed-requires : tie.Need-pushed-requires Inv-loop μ-loop
 pushed-requires c κs =
     let l = c .before .loop in
     let k = c .before .before in
-    gathered-small (isRequest (k .args .requests)) (k .args .t1) (l .h) (l .mask) (omega arith) (l .inv)
+    gathered-small (isRequest (k .args .requests)) (k .args .t1) (l .h) (l .mask) (omega arith) (omega arith) (l .inv)
 
 loop-again : tie.Need-loop-again Inv-loop μ-loop
 loop-again c =

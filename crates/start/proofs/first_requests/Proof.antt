@@ -1,52 +1,67 @@
--- `start::first_requests`: the first requests of the heads before h are found.
-use mathlib.Core.Path.{refl}
+-- `start::first_requests`: the first requests of the heads before h are found, and the others are told the number of requests.
 use borrow.Author.Needs.{needs}
 use native.Mathlib.Omega.{arith}
-use Prim.Native.Nat.{_-_}
+use Prim.Native.Nat.{_-_, _<_}
 use Rattle.job.specs.Job.{mostHeads}
 use Rattle.stepper.specs.Shown.{requestsIn}
 use Rattle.stepper.proofs.Needs.{next-small}
 use denote.Ref.{now}
 use Rattle.start.specs.Start.{firstRequests}
-use Rattle.start.proofs.Loops.{Filled, filled-none, filled-on, filled-all}
+use Rattle.start.proofs.Loops.{Begun, begun-none, begun-on, begun-all}
 use Rattle.start.proofs.Start.{firstRequest, length-first-requests, first-request}
+use Rattle.start.proofs.Index.{few-requests, few-heads-in-all, absent-first}
 use Rattle.start.proofs.first_requests.Statement.{statement}
 use Rattle.start.proofs.first_requests.Tie as tie
 
 abbrev Inv-loop : tie.InvT-loop
-Inv-loop file counts firsts₀ h₀ firsts h = Filled 0 (firstRequest (requestsIn file)) mostHeads h firsts
+Inv-loop file counts firsts₀ h₀ firsts h = Begun 0 (firstRequest (requestsIn file)) (counts .requests) mostHeads h firsts
 
 abbrev μ-loop : tie.MeasureT-loop
 μ-loop file counts firsts₀ h₀ firsts h = mostHeads - h
 
-abbrev start : tie.At-loop Inv-loop μ-loop → tie.Start Inv-loop μ-loop
-start c = c .before .before
+-- the arguments, from a place in the loop
+abbrev start : tie.After-struct-known2 Inv-loop μ-loop → tie.Start Inv-loop μ-loop
+start c = c .before .before .before .before
+
+cast-firsts : tie.Need-cast-firsts Inv-loop μ-loop
+cast-firsts c = omega (arith, few-requests (c .before .before .pre))
 
 loop-holds : tie.Need-loop-holds Inv-loop μ-loop
-loop-holds c = filled-none 0 (firstRequest (requestsIn (now (c .before .args .file)))) mostHeads _ refl
+loop-holds c =
+    let a = c .before .before .args in
+    begun-none 0 (firstRequest (requestsIn (now (a .file)))) (a .counts .requests) mostHeads
 
 next-request-requires : tie.Need-next-request-requires Inv-loop μ-loop
 next-request-requires c κs = (start (c .before) .pre, omega arith)
 
-cast-firsts : tie.Need-cast-firsts Inv-loop μ-loop
-cast-firsts c =
-    let looped = c .before .before in
-    omega (arith, c .next-request .ensures, next-small (start looped .pre) (looped .loop .h) 0 (omega arith))
+cast-firsts-2 : tie.Need-cast-firsts-2 Inv-loop μ-loop
+cast-firsts-2 c =
+    let looped = c .before .before .before in
+    omega (arith, c .next-request .ensures, next-small (start (c .before .before) .pre) (looped .loop .h) 0 (omega arith))
+
+-- the head is one of the array's
+present : (c : tie.After-next-request Inv-loop μ-loop) → c .before .before .before .loop .h < mostHeads
+present c = omega (arith, c .before .if1, few-heads-in-all (start (c .before .before) .pre))
+
+loop-less : tie.Need-loop-less Inv-loop μ-loop
+loop-less c = omega (arith, present c)
 
 loop-again : tie.Need-loop-again Inv-loop μ-loop
 loop-again c =
-    let looped = c .before .before in
-    filled-on 0 (firstRequest (requestsIn (now (start looped .args .file)))) mostHeads _ _ _ (omega arith) (c .next-request .ensures)
-    (looped .loop .inv)
+    let a = start (c .before .before) .args in
+    begun-on 0 (firstRequest (requestsIn (now (a .file)))) (a .counts .requests) mostHeads _ _ _ (present c) (c .next-request .ensures)
+    (c .before .before .before .loop .inv)
 
 returns : tie.Need-returns Inv-loop μ-loop
 returns c =
-    let looped = c .before in
-    let qs = requestsIn (now (start looped .args .file)) in
-    filled-all 0 (firstRequest qs) mostHeads _ (firstRequests qs 0 mostHeads) (length-first-requests qs 0 mostHeads)
-    (first-request qs mostHeads) (looped .loop .h) (omega arith) (looped .loop .inv)
+    let looped = c .before .before in
+    let begun = start (c .before) in
+    let qs = requestsIn (now (begun .args .file)) in
+    begun-all 0 (firstRequest qs) (begun .args .counts .requests) mostHeads _ (firstRequests qs 0 mostHeads)
+    (length-first-requests qs 0 mostHeads) (first-request qs mostHeads) (looped .loop .h)
+    (λ j l. absent-first (begun .pre) j (omega (arith, l, c .if1))) (looped .loop .inv)
 
 pub first-requests-spec : {M : Type 1} → statement M
 first-requests-spec =
-    tie.close (tie.spec Inv-loop μ-loop loop-holds (λ c. search needs) next-request-requires cast-firsts
-    (λ c. search needs) (λ c. search needs) (λ c. search needs) (λ c. search needs) loop-again returns)
+    tie.close (tie.spec Inv-loop μ-loop cast-firsts loop-holds (λ c. search needs) (λ c. search needs) next-request-requires
+    cast-firsts-2 (λ c. search needs) (λ c. search (needs, present c)) (λ c. search needs) loop-less loop-again returns)
