@@ -1,6 +1,6 @@
 // Plays the edges of the job file: files for the reader, and jobs for the writer, whose files are compared byte by byte and
 // read again. The tables state what each case expects, worked out from document 01, "Job file", "Turned down" and "Played
-// cases", and from document 02, A3; `play` says what stands in a row and `build` what its words stand for. A line of the
+// cases", and from document 02, A3 and A4; `play` says what stands in a row and `build` what its words stand for. A line of the
 // output ends with `ok` where the numbers answered and the bytes left are the row's, and the last line counts the cases.
 mod build;
 mod play;
@@ -66,13 +66,34 @@ fn file_sizes(score: Score) -> Score {
 no place                 | 44 4B 00 00 01 00 43 4C 78 68             | 4
 65,535 places            | 44 4B FF FF 01 00 43 4C 79 68             | 4
 16 heads                 | 44 4B 01 00 10 00 43 4C 68 68             | 0 1 16 0 0 0
-17 heads                 | 44 4B 01 00 11 00 43 4C 67 68             | 5
+17 heads                 | 44 4B 01 00 11 00 43 4C 67 68             | 0 1 17 0 0 0
+32 heads                 | 44 4B 02 00 20 00 43 4C 57 68             | 0 2 32 0 0 0
+33 heads                 | 44 4B 02 00 21 00 43 4C 56 68             | 5
 no head                  | 44 4B 01 00 00 00 43 4C 78 68             | 5
 256 heads                | 44 4B 01 00 00 01 43 4C 78 67             | 5
+288 heads                | 44 4B 01 00 20 01 43 4C 58 67             | 5
 places and heads bad     | 44 4B 00 00 00 00 43 4C 79 68             | 4
+no place, 33 heads       | 44 4B 00 00 21 00 43 4C 00 00             | 4
 places bad, wrong mark   | 44 4B 00 00 01 00 00 00                   | 4
-heads bad, request bad   | 44 4B 01 00 11 00 52 51 11 03 01 00 01 00 | 5
+heads bad, request bad   | 44 4B 01 00 21 00 52 51 21 03 01 00 01 00 | 5
+33 heads, wrong balance  | 44 4B 02 00 21 00 43 4C 00 00             | 5
+33 heads, nothing left   | 44 4B 02 00 21 00                         | 5
 heads bad, one byte left | 44 4B 01 00 00 00 43                      | 5
+",
+    )
+}
+
+// The last of 17 and of 32 heads (02, A4), and the head behind the last, in a request (6) and in a run (10).
+fn file_heads(score: Score) -> Score {
+    score.files(
+        b"
+head 16 of 17          | 44 4B 02 00 11 00 52 51 10 02 00 00 01 00 47 52 10 03 43 4C AC BF             | 0 2 17 1 3 1
+head 31 of 32          | 44 4B 02 00 20 00 52 51 1F 01 00 00 01 00 47 52 1F 0D 47 52 1E 01 43 4C 1A 63 | 0 2 32 1 14 2
+head 31 of 31          | 44 4B 02 00 1F 00 52 51 1F 01 00 00 01 00 =                                   | 6
+head 32 of 32          | 44 4B 02 00 20 00 52 51 20 01 00 00 01 00 =                                   | 6
+grant of head 31 of 31 | 44 4B 02 00 1F 00 47 52 1F 01 =                                               | 10
+grant of head 32 of 32 | 44 4B 02 00 20 00 47 52 20 01 =                                               | 10
+both of head 31 of 31  | 44 4B 02 00 1F 00 52 51 1F 01 00 00 01 00 47 52 1F 01 =                       | 6
 ",
     )
 }
@@ -335,7 +356,7 @@ fn job_samples(score: Score) -> Score {
     score.jobs(
         b"
 smallest job             | 1 1     |                 |                            | 0 10 | 0 1 1 0 0 0     | 44 4B 01 00 01 00 43 4C 77 68
-largest sizes and fields | 4096 16 | 15 2 4095 4094  | 0F 0F 00                   | 0 26 | 0 4096 16 1 3 2 | 44 4B 00 10 10 00 52 51 0F 02 FF 0F FE 0F 47 52 0F 02 47 52 00 01 43 4C 6E 3D
+largest sizes and fields | 4096 32 | 31 2 4095 4094  | 1F 1F 00                   | 0 26 | 0 4096 32 1 3 2 | 44 4B 00 10 20 00 52 51 1F 02 FF 0F FE 0F 47 52 1F 02 47 52 00 01 43 4C 3E 3D
 document 01              | 4 2     | 0 1 2 3 1 2 0 1 | 01 01 00 00 00 00 00 00 01 | 0 38 | 0 4 2 2 9 3     | 44 4B 04 00 02 00 52 51 00 01 02 00 03 00 52 51 01 02 00 00 01 00 47 52 01 02 47 52 00 06 47 52 01 01 43 4C F1 C2
 ",
     )
@@ -363,11 +384,30 @@ fn job_sizes(score: Score) -> Score {
 4,097 places           | 4097 1  |          |  | 4
 no place               | 0 1     |          |  | 4
 65,537 places          | 65537 1 |          |  | 4
-17 heads               | 1 17    |          |  | 5
+33 heads               | 1 33    |          |  | 5
 no head                | 1 0     |          |  | 5
 65,537 heads           | 1 65537 |          |  | 5
 places and heads bad   | 0 0     |          |  | 4
-heads bad, request bad | 2 17    | 17 3 2 2 |  | 5
+no place, 33 heads     | 0 33    |          |  | 4
+heads bad, request bad | 2 33    | 33 3 2 2 |  | 5
+",
+    )
+}
+
+// The last of 16, 17 and 32 heads (02, A4), and the head behind the last, in a request (6) and in a grant (10).
+fn job_heads(score: Score) -> Score {
+    score.jobs(
+        b"
+16 heads, largest fields | 4096 16 | 15 2 4095 4094 | 0F 0F 00 | 0 26 | 0 4096 16 1 3 2 | 44 4B 00 10 10 00 52 51 0F 02 FF 0F FE 0F 47 52 0F 02 47 52 00 01 43 4C 6E 3D
+17 heads, last one       | 2 17    | 16 2 0 1       | 10*3     | 0 22 | 0 2 17 1 3 1    | 44 4B 02 00 11 00 52 51 10 02 00 00 01 00 47 52 10 03 43 4C AC BF
+32 heads, last two       | 2 32    | 31 1 0 1       | 1F*13 1E | 0 26 | 0 2 32 1 14 2   | 44 4B 02 00 20 00 52 51 1F 01 00 00 01 00 47 52 1F 0D 47 52 1E 01 43 4C 1A 63
+32 heads, no request     | 2 32    |                |          | 0 10 | 0 2 32 0 0 0    | 44 4B 02 00 20 00 43 4C 57 68
+head 31 of 31            | 2 31    | 31 1 0 1       |          | 6
+head 32 of 32            | 2 32    | 32 1 0 1       |          | 6
+grant of head 31 of 31   | 2 31    |                | 1F       | 10
+grant of head 32 of 32   | 2 32    |                | 20       | 10
+both of head 31 of 31    | 2 31    | 31 1 0 1       | 1F       | 6
+33 heads, both bad       | 2 33    | 33 3 2 2       | 21       | 5
 ",
     )
 }
@@ -403,7 +443,7 @@ fn job_requests(score: Score) -> Score {
 512 requests                   | 2 2  | Q*512         |    | 0 4106 | 0 2 2 512 0 0 | J Q*512 =
 512 requests and three numbers | 2 2  | Q*512 0 1 0   |    | 0 4106 | 0 2 2 512 0 0 | J Q*512 =
 513 requests                   | 2 2  | Q*513         |    | 9
-513 requests, heads bad        | 2 17 | Q*513         |    | 5
+513 requests, heads bad        | 2 33 | Q*513         |    | 5
 513 requests, grant bad        | 2 2  | Q*513         | 02 | 9
 513 requests, first bad        | 2 2  | 2 1 0 1 Q*512 |    | 9
 512 requests, last bad         | 2 2  | Q*511 0 1 0 2 |    | 8
@@ -492,7 +532,7 @@ pairs 256 0, 255 0     | 2 2 | Q*512 / 256 0 255 0 |  | 18
 fn job_pair_faults(score: Score) -> Score {
     score.jobs(
         b"
-heads bad, pair bad         | 2 17  | Q*2 / 1 1            |            | 5
+heads bad, pair bad         | 2 33  | Q*2 / 1 1            |            | 5
 513 requests, pair bad      | 2 2   | Q*513 / 1 1          |            | 9
 place 4, pair bad           | 4 2   | Q 0 1 0 4 / 1 1      |            | 8
 pair bad, grant bad         | 4 2   | Q*2 / 1 1            | 02         | 18
@@ -538,6 +578,7 @@ fn read_files(score: Score) -> Score {
     let score = file_cuts(score);
     let score = file_marks(score);
     let score = file_sizes(score);
+    let score = file_heads(score);
     let score = file_fields(score);
     let score = file_first_faults(score);
     let score = file_sample(score);
@@ -566,6 +607,7 @@ fn write_jobs(score: Score) -> Score {
     let score = job_samples(score);
     let score = job_runs(score);
     let score = job_sizes(score);
+    let score = job_heads(score);
     let score = job_fields(score);
     let score = job_requests(score);
     let score = job_lengths(score);

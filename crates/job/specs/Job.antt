@@ -21,9 +21,9 @@ use Rattle.job.specs.declared.Wait.{Wait}
 abbrev pub mostNodes : ℕ
 mostNodes = 4096
 
--- 16 heads
+-- 32 heads (02, A4)
 abbrev pub mostHeads : ℕ
-mostHeads = 16
+mostHeads = 32
 
 -- and 512 requests.
 abbrev pub mostRequests : ℕ

@@ -5,8 +5,8 @@ ghost use Rattle.job.specs.Job.{answerNumber};
 // The most nodes of a job and of a table (document 01: places).
 pub const MOST_NODES: usize = 4096;
 
-// The most heads of a job.
-pub const MOST_HEADS: usize = 16;
+// The most heads of a job (02, A4).
+pub const MOST_HEADS: usize = 32;
 
 // The most requests of a job.
 pub const MOST_REQUESTS: usize = 512;

@@ -65,7 +65,7 @@ kind-byte : (k : Kind) → kindNumber k < 256
 kind-byte Union = omega arith
 kind-byte SameSet = omega arith
 
--- a request's numbers are bytes: there are at most 4,096 nodes and 16 heads
+-- a request's numbers are bytes: there are at most 4,096 nodes and 32 heads
 requests-each : (nodes heads : ℕ) (qs : List Request) (t : List ℕ) → nodes ≤ mostNodes → heads ≤ mostHeads
     → ((q : ℕ) (none : Request) → q < length qs → Serves nodes heads (getD qs q none)) → Each t → Each (requestsBytes qs ++ t)
 requests-each nodes heads [] t few-nodes few-heads serves rest = rest

@@ -48,12 +48,12 @@ sized nodes heads e =
     let a = passed (eqb nodes 0) 3 _ e in
     let b = passed (ltb mostNodes nodes) 3 _ (a .rest) in
     let c = passed (eqb heads 0) 4 _ (b .rest) in
-    let d = passed (ltb mostHeads heads) 4 _ (c .rest) in
+    let d = passed (ltb _ heads) 4 _ (c .rest) in
     record {
       some-nodes = omega (arith, eqb-false nodes 0 (a .test));
       few-nodes = ltb-false mostNodes nodes (b .test);
       some-heads = omega (arith, eqb-false heads 0 (c .test));
-      few-heads = ltb-false mostHeads heads (d .test);
+      few-heads = omega (arith, ltb-false _ heads (d .test));
     }
 
 pub sized-passes : (nodes heads : ℕ) → Sized nodes heads → sizesRefusal nodes heads ≡ 0

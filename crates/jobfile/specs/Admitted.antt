@@ -28,7 +28,7 @@ pub record Pairs (count : ℕ) (w : Wait) : Type 0 where
 
 -- A job that no check refuses.
 pub record Admitted (j : Job) : Type 0 where
-  -- there are 1 to 4,096 nodes, 1 to 16 heads and at most 512 requests
+  -- there are 1 to 4,096 nodes, 1 to 32 heads and at most 512 requests
   pub some-nodes : 0 < j .nodes
   pub few-nodes : j .nodes ≤ mostNodes
   pub some-heads : 0 < j .heads

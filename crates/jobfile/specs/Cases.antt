@@ -1,4 +1,4 @@
--- Document 01, "Job file" and "Played cases", and 02, A3: files, jobs and drafts at the format's edges, as one table.
+-- Document 01, "Job file" and "Played cases", and 02, A3 and A4: files, jobs and drafts at the format's edges, as one table.
 --
 --   Case                a file that is accepted or refused, a job that is written, a draft that is checked, and what is expected
 --   Outcome             a meaning, a file, or a number
@@ -10,6 +10,7 @@
 --   emptyJob n h        the job of n places and h heads with nothing to do
 --   alternating n       a schedule of n grants, no two in a row for one head
 --   sampleJob, sampleFile         document 01's job, and its bytes
+--   wideJob, wideFile   a job of 32 heads, and its bytes
 --   pair later earlier  a pair, by its numbers
 --   unions n ws, front n          a job of n unions and the pairs ws, and what stands before the pairs in its file
 --   files, pairs, drafts          the parts of the table: document 01's files, those with pairs, and drafts
@@ -119,6 +120,19 @@ sampleFile =
     ∷ 0x47 ∷ 0x52 ∷ 0x01 ∷ 0x01
     ∷ 0x43 ∷ 0x4C ∷ 0xF1 ∷ 0xC2 ∷ []
 
+-- Two places, 32 heads (02, A4), a union by the last head, thirteen grants to it and one to the head before it;
+abbrev pub wideJob : Job
+wideJob = job 2 32 (record { head = 31; kind = Union; x = 0; y = 1 } ∷ []) [] (replicate 13 31 ++ (30 ∷ []))
+
+-- and its bytes.
+abbrev pub wideFile : List ℕ
+wideFile =
+    0x44 ∷ 0x4B ∷ 0x02 ∷ 0x00 ∷ 0x20 ∷ 0x00
+    ∷ 0x52 ∷ 0x51 ∷ 0x1F ∷ 0x01 ∷ 0x00 ∷ 0x00 ∷ 0x01 ∷ 0x00
+    ∷ 0x47 ∷ 0x52 ∷ 0x1F ∷ 0x0D
+    ∷ 0x47 ∷ 0x52 ∷ 0x1E ∷ 0x01
+    ∷ 0x43 ∷ 0x4C ∷ 0x1A ∷ 0x63 ∷ []
+
 -- Later request and earlier request (02, A3).
 abbrev pub pair : ℕ → ℕ → Wait
 pair later earlier = record { later = later; earlier = earlier }
@@ -147,13 +161,23 @@ files =
     -- length is checked first: 32,768 bytes are looked at, one byte more is not
     ∷ refuse (replicate 32768 0) 3
     ∷ refuse (replicate 32769 0) 1
-    -- 4,096 places pass, 4,097 and 0 don't; 16 heads pass, 0 and 17 don't
+    -- 4,096 places pass, 4,097 and 0 don't; 16, 17 and 32 heads pass, 0 and 33 don't (02, A4)
     ∷ accept (header 4096 1 ++ close 0x5878) (emptyJob 4096 1)
-    ∷ refuse (header 4097 17) 4
+    ∷ refuse (header 4097 33) 4
     ∷ refuse (header 0 1) 4
     ∷ accept (header 1 16 ++ close 0x6868) (emptyJob 1 16)
+    ∷ accept (header 1 17 ++ close 0x6867) (emptyJob 1 17)
+    ∷ accept (header 2 32 ++ close 0x6857) (emptyJob 2 32)
     ∷ refuse (header 1 0) 5
-    ∷ refuse (header 1 17) 5
+    ∷ refuse (header 2 33) 5
+    -- heads are checked behind places, and before the balance
+    ∷ refuse (header 2 33 ++ close 0) 5
+    ∷ refuse (header 0 33 ++ close 0) 4
+    -- 32 heads have a head 31, read and written; 31 heads have none, for a request or for a run
+    ∷ accept wideFile wideJob
+    ∷ write wideJob wideFile
+    ∷ refuse (header 2 31 ++ request 31 1 0 1) 6
+    ∷ refuse (header 2 31 ++ run 31 1) 10
     -- a request that is cut short; then its fields left to right
     ∷ refuse (header 2 2 ++ take 7 (request 2 3 2 0)) 2
     ∷ refuse (header 2 2 ++ request 2 3 2 0) 6
@@ -217,12 +241,19 @@ pairs =
 
 abbrev pub drafts : List Case
 drafts =
-    -- the last head of sixteen, a same-set of the last two places of 4,096, and a grant for that head
+    -- the last head of 16, 17 and 32 (02, A4), a same-set of the last two places of 4,096, and a grant for that head
     check (draft 4096 16 (15 ∷ 2 ∷ 4095 ∷ 4094 ∷ []) [] (15 ∷ [])) 0
+    ∷ check (draft 4096 17 (16 ∷ 2 ∷ 4095 ∷ 4094 ∷ []) [] (16 ∷ [])) 0
+    ∷ check (draft 4096 32 (31 ∷ 2 ∷ 4095 ∷ 4094 ∷ []) [] (31 ∷ [])) 0
     -- places are checked before heads
     ∷ check (draft 0 0 [] [] []) 4
-    -- heads before a request and a grant that are wrong too
-    ∷ check (draft 2 17 (17 ∷ 3 ∷ 2 ∷ 2 ∷ []) [] (17 ∷ [])) 5
+    ∷ check (draft 0 33 [] [] []) 4
+    -- heads, a 32-bit number, before a request and a grant that are wrong too
+    ∷ check (draft 2 33 (33 ∷ 3 ∷ 2 ∷ 2 ∷ []) [] (33 ∷ [])) 5
+    ∷ check (draft 2 4294967295 (33 ∷ 3 ∷ 2 ∷ 2 ∷ []) [] (33 ∷ [])) 5
+    -- 31 heads have no head 31, for a request or for a grant
+    ∷ check (draft 2 31 (31 ∷ 1 ∷ 0 ∷ 1 ∷ []) [] (31 ∷ [])) 6
+    ∷ check (draft 2 31 [] [] (31 ∷ [])) 10
     -- a rest of one, two or three numbers is no request, so it can't be a wrong one
     ∷ check (draft 2 2 (2 ∷ []) [] []) 0
     ∷ check (draft 2 2 (2 ∷ 3 ∷ []) [] []) 0

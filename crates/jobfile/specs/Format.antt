@@ -1,5 +1,5 @@
--- Document 01, "Job file" and "Turned down", and 02, A3: the numbers of the format, and the checks that the reader and the
--- writer share. A refusal is its number in these documents; 0 is none.
+-- Document 01, "Job file" and "Turned down", and 02, A3 and A4: the numbers of the format, and the checks that the reader and
+-- the writer share. A refusal is its number in these documents; 0 is none.
 --
 --   jobMark, requestMark, waitMark, runMark, closeMark   the marks of the five records, as 16-bit words
 --   jobSize, requestSize, waitSize, runSize, closeSize   the bytes of each
@@ -11,6 +11,7 @@
 --   word t, wordBytes w     the 16-bit word at the start of t, and the two bytes of the word w
 --   wordSum s               the sum of the 16-bit words of s
 --   a then b (_then_)       the refusal a, or b where a is none
+--   sizesRefusalWith m n h  the refusal of n nodes and h heads where m heads are the most
 --   sizesRefusal n h        the refusal of n nodes and h heads
 --   fieldsRefusal n h q     the refusal of a request's numbers q in a job of n nodes and h heads
 --   requestOf q             the request that admitted numbers stand for
@@ -113,13 +114,17 @@ infixr 40 _then_
 abbrev pub _then_ : ℕ → ℕ → ℕ
 a then b = cond (eqb a 0) b a
 
--- 4: places 0 or above 4,096. 5: heads 0 or above 16.
-unfoldable pub sizesRefusal : ℕ → ℕ → ℕ
-sizesRefusal nodes heads =
+-- 4: places 0 or above 4,096. 5: heads 0 or above a limit, which is left open here;
+abbrev pub sizesRefusalWith : ℕ → ℕ → ℕ → ℕ
+sizesRefusalWith most nodes heads =
     cond (eqb nodes 0) 4
     (cond (ltb mostNodes nodes) 4
     (cond (eqb heads 0) 5
-    (cond (ltb mostHeads heads) 5 0)))
+    (cond (ltb most heads) 5 0)))
+
+-- it is 32 (02, A4). 5: heads 0 or above 32.
+unfoldable pub sizesRefusal : ℕ → ℕ → ℕ
+sizesRefusal = sizesRefusalWith mostHeads
 
 -- Fields left to right. 6: a request's head not below the heads. 7: kind neither 1 nor 2. 8: a place not below the places.
 unfoldable pub fieldsRefusal : ℕ → ℕ → Fields → ℕ
