@@ -8,10 +8,11 @@
 --   wanted c    what is expected
 --   union, sameSet, row, entry, tally   requests, report rows, entries and tallies by their numbers
 --   n for h        n grants for head h
+--   upFrom i n, neighbours i n   numbers in a row, and as many unions of neighbouring places
 --   case, leaves   a case and an outcome by their parts, in the order of the documents' tables
 --   cases       the table
 use mathlib.Core.List.{List, [], _∷_, _++_, map}
-use Prim.Native.Nat.{ℕ}
+use Prim.Native.Nat.{ℕ, zero, suc}
 use lib.ListN.{replicate}
 use Rattle.job.specs.declared.Kind.the-variants.{Union, SameSet}
 use Rattle.job.specs.declared.Request.{Request}
@@ -78,6 +79,16 @@ infix 70 _for_
 abbrev pub _for_ : ℕ → ℕ → List ℕ
 n for h = replicate n h
 
+-- That many numbers in a row.
+abbrev pub upFrom : ℕ → ℕ → List ℕ
+upFrom i zero = []
+upFrom i (suc n) = i ∷ upFrom (suc i) n
+
+-- That many unions of a place and the next one, each by the head of the place's number.
+abbrev pub neighbours : ℕ → ℕ → List Request
+neighbours i zero = []
+neighbours i (suc n) = union i i (suc i) ∷ neighbours (suc i) n
+
 -- Nodes, heads, requests, pairs of requests of which the later one waits, grants; and what they leave.
 abbrev pub case : ℕ → ℕ → List Request → List Wait → List ℕ → Outcome → Case
 case nodes heads requests waits schedule expected =
@@ -88,7 +99,8 @@ abbrev pub leaves : List ℕ → List Row → List Entry → Tally → Outcome
 leaves words report entries tally = record { words = words; report = report; entries = entries; tally = tally }
 
 -- The starred cases in document 01's order, each with what document 02 makes of it; after them schedules that reach what they
--- do not: wrong links that make a cycle, swaps that fail, ranks above 0, unions whose last swap writes; (02, A3) requests that wait.
+-- do not: wrong links that make a cycle, swaps that fail, ranks above 0, unions whose last swap writes; (02, A3) requests that wait;
+-- (02, A4) more than sixteen heads.
 abbrev pub cases : List Case
 cases =
     -- One place, union 0 0, two grants: already together; point 2.
@@ -238,4 +250,16 @@ cases =
     -- (02, A3) A head's first request waits for none and is served, its second waits.
     case 2 2 (union 0 0 1 ∷ sameSet 1 0 0 ∷ sameSet 1 0 1 ∷ []) (pair 2 0 ∷ []) (3 for 1 ++ 13 for 0 ++ 6 for 1)
     (leaves (1 ∷ 65537 ∷ []) (row 1 4 16 13 ∷ row 3 1 2 2 ∷ row 3 17 22 6 ∷ []) (entry 2 1 ∷ entry 8 0 ∷ entry 22 2 ∷ []) (tally 1 1 1 0))
+    ∷
+    -- (02, A4) The last of 32 heads has the one request; a grant to the head before it is idle.
+    case 2 32 (union 31 0 1 ∷ []) [] (13 for 31 ++ 1 for 30)
+    (leaves (1 ∷ 65537 ∷ []) (row 1 1 13 13 ∷ []) (entry 5 0 ∷ []) (tally 1 1 1 0))
+    ∷
+    -- (02, A4) The last of 17 heads.
+    case 2 17 (sameSet 16 0 1 ∷ []) [] (3 for 16)
+    (leaves (0 ∷ 1 ∷ []) (row 4 1 3 3 ∷ []) (entry 2 0 ∷ []) (tally 0 0 0 0))
+    ∷
+    -- (02, A4) All 32 heads have work left.
+    case 33 32 (neighbours 0 32) [] []
+    (leaves (upFrom 0 33) (replicate 32 (row 0 0 0 0)) [] (tally 0 0 0 32))
     ∷ []
