@@ -23,13 +23,13 @@ abbrev μ-loop : tie.MeasureT-loop
 abbrev start : tie.After-struct-known2 Inv-loop μ-loop → tie.Start Inv-loop μ-loop
 start c = c .before .before .before .before
 
-cast-firsts : tie.Need-cast-firsts Inv-loop μ-loop
-cast-firsts c = omega (arith, few-requests (c .before .before .pre))
-
 loop-holds : tie.Need-loop-holds Inv-loop μ-loop
 loop-holds c =
     let a = c .before .before .args in
     begun-none 0 (firstRequest (requestsIn (now (a .file)))) (a .counts .requests) mostHeads
+
+cast-firsts : tie.Need-cast-firsts Inv-loop μ-loop
+cast-firsts c = omega (arith, few-requests (c .before .before .pre))
 
 next-request-requires : tie.Need-next-request-requires Inv-loop μ-loop
 next-request-requires c κs = (start (c .before) .pre, omega arith)

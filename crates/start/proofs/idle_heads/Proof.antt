@@ -1,4 +1,4 @@
--- `start::idle_heads`: sixteen heads at rest.
+-- `start::idle_heads`: every head at rest.
 use mathlib.Core.Path.{ap, _∙_}
 use mathlib.Core.List.{map}
 use borrow.Author.Needs.{needs}
