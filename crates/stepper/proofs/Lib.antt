@@ -6,6 +6,7 @@ pub mod Room
 pub mod Seek
 pub mod Pairs
 pub mod Renewed
+pub mod Halves
 pub mod Waiting
 pub mod Reached
 pub mod Served

@@ -1,7 +1,7 @@
 -- What a served grant asks of its parts, and what it leaves, from a state that the buffers show.
 --
--- Main laws: what each part asks of a grant (ready-raisable, ready-touchable, ready-room, ready-insertable ..); serve-shown
--- and serve-done, what the parts leave together; idle-shown and idle-done, the grant that serves nobody.
+-- Main laws: what each part asks of a grant (ready-raisable, ready-touchable, ready-room, ready-insertable ..);
+-- serve-stepped, what the parts leave together; idle-shown and idle-done, the grant that serves nobody.
 use mathlib.Core.Path.{_≡_, refl, sym, ap, _∙_, subst}
 use mathlib.Core.Logic.{_≢_}
 use mathlib.Core.Bool.{Bool, true, false, cond, not}
@@ -49,8 +49,8 @@ use Rattle.stepper.specs.declared.Done.{Done}
 use Rattle.stepper.specs.declared.Granted.{Granted}
 use Rattle.table.specs.Touch.{Touchable}
 use Rattle.stepper.specs.Buffers.{rowIn, stored, rowsOf}
-use Rattle.stepper.specs.Shown.{Buffers, buffers, noted, shown, idleDone, doneOf, stateAfter, historyAfter, requestsIn, waitsIn}
-use Rattle.stepper.specs.Shown.{Playing, Standing, Grantable, Stepped}
+use Rattle.stepper.specs.Shown.{Buffers, buffers, noted, shown, idleDone, usedDone, doneOf, stateAfter, historyAfter}
+use Rattle.stepper.specs.Shown.{requestsIn, waitsIn, Playing, Standing, Grantable, Stepped}
 use Rattle.stepper.specs.Waits.{frees, Renewable}
 use Rattle.stepper.proofs.Seek.{playing-count, playing-waits}
 use Rattle.stepper.proofs.Lists.{length-rows}
@@ -286,6 +286,13 @@ module _ {file : List ℕ} {counts : Checked} {h number : ℕ} {b : Buffers} (pl
         still-busy =
             after-busy (served-effect (playing-inside playing) (here .invariant) h (omega (arith, here .heads)) in-service .after)
 
+        serve-done : (done : Done) → done ≡ usedDone (moved .event) → done ≡ doneOf (happened qs ws S h)
+        serve-done done is =
+            is
+            ∙ ap (λ m. usedDone (m .event))
+            (to-moved ∙ moved-here here h present in-service)
+            ∙ ap doneOf (sym (happened-served qs ws S h goes))
+
         module _ (table′ report′ linearization′ : List ℕ) (entries′ mask′ : ℕ) (next : Head)
             (is-table : table′ ≡ map encode (touched (map decode (b .table)) (accessOf head)))
             (is-report : report′ ≡ charged-report head)
@@ -293,7 +300,7 @@ module _ {file : List ℕ} {counts : Checked} {h number : ℕ} {b : Buffers} (pl
             (is-entries : entries′ ≡ cond (eqb (moved .event .point) 0) (b .entries) (b .entries + 1))
             (is-next : next ≡ settled qs h moved)
             (is-mask : mask′ ≡ cond (ltb (next .task .request) (counts .requests)) (b .mask) (b .mask - 2 ^ h)) where
-          pub serve-shown : (heads′ : List Head)
+          serve-shown : (heads′ : List Head)
               → heads′ ≡ cond (frees (counts .waits) (moved .event .answer)) (map (noted ws (rowsOf report′)) (set (b .heads) h next))
               (set (b .heads) h next)
               → buffers heads′ table′ report′ linearization′ entries′ mask′ ≡ shown qs ws (step qs ws S h) lent
@@ -321,13 +328,18 @@ module _ {file : List ℕ} {counts : Checked} {h number : ℕ} {b : Buffers} (pl
               (is-mask ∙ ap (λ k. cond (ltb (next .task .request) k) (b .mask) (b .mask - 2 ^ h)) (playing-count playing))
               final)
 
-        pub serve-done : (done : Done) → done ≡ record { idle = false; failed = moved .event .failed; linked = moved .event .linked }
-            → done ≡ doneOf (happened qs ws S h)
-        serve-done done is =
-            is
-            ∙ ap (λ m. record { idle = false; failed = m .event .failed; linked = m .event .linked })
-            (to-moved ∙ moved-here here h present in-service)
-            ∙ ap doneOf (sym (happened-served qs ws S h goes))
+          -- the parts together are the step, with the heads as the report wants them
+          pub serve-stepped : (heads′ : List Head)
+              → heads′ ≡ cond (frees (counts .waits) (moved .event .answer)) (map (noted ws (rowsOf report′)) (set (b .heads) h next))
+              (set (b .heads) h next)
+              → (r : Granted) → r ≡ record { heads = heads′; entries = entries′; mask = mask′; done = usedDone (moved .event) }
+              → Stepped file h (buffers (r .heads) table′ report′ linearization′ (r .entries) (r .mask)) (r .done) origin gs lent
+          serve-stepped heads′ is-heads r is =
+              record {
+                buffers = ap (λ g. buffers (g .heads) table′ report′ linearization′ (g .entries) (g .mask)) is
+                    ∙ serve-shown heads′ is-heads;
+                done = serve-done (r .done) (ap (λ g. g .done) is);
+              }
 
 -- ---- what the parts of a grant ask
 

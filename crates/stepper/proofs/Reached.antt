@@ -41,7 +41,7 @@ pub record Reached (origin : Start) (qs : List Request) (ws : List Wait) (n : �
 
 -- ---- the grants of a schedule, one by one
 
-below-member : (k h : ℕ) (gs : List ℕ) → ((g none : ℕ) → g < length gs → getD gs g none < k) → List·Memᴰ h gs → h < k
+pub below-member : (k h : ℕ) (gs : List ℕ) → ((g none : ℕ) → g < length gs → getD gs g none < k) → List·Memᴰ h gs → h < k
 below-member k h (g ∷ gs) below (List·Memᴰ·head same) = omega (arith, same, below 0 0 (omega arith))
 below-member k h (g ∷ gs) below (List·Memᴰ·tail m) = below-member k h gs (λ i none l. below (suc i) none (omega arith)) m
 

@@ -3,3 +3,4 @@ pub mod Buffers
 pub mod Shown
 pub mod Index
 pub mod Waits
+pub mod Halves

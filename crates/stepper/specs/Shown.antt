@@ -4,7 +4,8 @@
 --   buffers ..                the same, by its parts
 --   noted ws report head      the head with what it waits for in its record
 --   shown qs ws S lent        what the buffers hold in state S; numbers past the entries are as lent
---   Done, idleDone, doneOf a  what a grant adds to the tally
+--   Done, doneOf a            what a grant adds to the tally
+--   idleDone, usedDone event  the same of one that serves nobody, and of one that does
 --   requestsIn file, waitsIn file   the requests and the pairs of a file
 --   startOf origin j          the rules' state of the job j before its first grant, from that start
 --   stateAfter origin j gs    the same after the grants gs
@@ -24,6 +25,7 @@ use Rattle.job.specs.declared.Wait.{Wait}
 use Rattle.job.specs.Job.{Job, mostHeads}
 use Rattle.word.specs.Word.{encode}
 use Rattle.process.specs.declared.Head.{Head}
+use Rattle.process.specs.declared.Event.{Event}
 use Rattle.process.specs.Process.{waitingFor}
 use Rattle.linearization.specs.Entry.{flat}
 use Rattle.jobfile.specs.Meaning.{meaning}
@@ -71,12 +73,16 @@ shown qs ws S lent =
 abbrev pub idleDone : Done
 idleDone = record { idle = true; failed = false; linked = false }
 
--- and what every grant adds.
+-- one that is used for a request,
+abbrev pub usedDone : Event → Done
+usedDone event = record { idle = false; failed = event .failed; linked = event .linked }
+
+-- and every grant.
 abbrev pub doneOf : Happening → Done
 doneOf idle = idleDone
-doneOf (serving q act) = record { idle = false; failed = act .event .failed; linked = act .event .linked }
+doneOf (serving q act) = usedDone (act .event)
 
--- Every job is played with sixteen heads; those that it does not have get no request and no grant.
+-- Every job is played with the most heads (02, A4); those that it does not have get no request and no grant.
 abbrev pub startOf : Start → Job → State
 startOf origin j = start (j .requests) mostHeads (origin .table)
 

@@ -2,17 +2,24 @@
 -- waits is left as it is. After the access the heads' records are as the report wants them, one after the other.
 use Rattle.stepper.proofs.Needs.{Service, waiting-stepped, ready-next, ready-mask, ready-small, ready-raisable, ready-touchable}
 use Rattle.stepper.proofs.Needs.{ready-room, ready-used, ready-insertable, ready-moved, ready-own, ready-records, ready-rows}
-use Rattle.stepper.proofs.Needs.{ready-number, serve-shown, serve-renewable, serve-done}
+use Rattle.stepper.proofs.Needs.{ready-number, serve-stepped, serve-renewable}
 use Rattle.stepper.proofs.Renewed.{Renewed, renewed-start, renewed-some, renewed-here, renewed-on, renewed-end}
 use Rattle.stepper.proofs.Renewed.{frees-final, renewed-noted}
-use mathlib.Core.Path.{refl, sym, _∙_}
+use Rattle.stepper.proofs.Halves.{alike-set}
+use mathlib.Core.Path.{_≡_, refl, sym, _∙_}
+use mathlib.Core.Bool.{Bool, cond}
+use mathlib.Core.List.{List, map}
 use native.Mathlib.Omega.{arith}
 use borrow.Author.Needs.{needs}
 use Prim.Native.Nat.{_-_}
+use lib.ListN.{length, set}
 use Rattle.job.specs.Job.{mostHeads}
+use Rattle.process.specs.declared.Head.{Head}
+use Rattle.stepper.specs.declared.Granted.{Granted}
 use Rattle.stepper.specs.Buffers.{rowsOf}
-use Rattle.stepper.specs.Shown.{Buffers, buffers, waitsIn, noted}
+use Rattle.stepper.specs.Shown.{Buffers, buffers, waitsIn, noted, usedDone, Grants}
 use Rattle.stepper.specs.Waits.{frees}
+use Rattle.stepper.specs.Halves.{half}
 use Rattle.stepper.proofs.serve.Statement.{statement}
 use Rattle.stepper.proofs.serve.Tie as tie
 
@@ -50,7 +57,7 @@ abbrev charged : tie.After-struct-known Inv-loop μ-loop → tie.After-charge-ro
 charged c = c .before .before .before .before
 
 -- and its entry
-abbrev entered : tie.After-first-due Inv-loop μ-loop → tie.After-enter Inv-loop μ-loop
+abbrev entered : tie.After-work-left Inv-loop μ-loop → tie.After-enter Inv-loop μ-loop
 entered c = c .before .before .before
 
 -- a record has been looked at
@@ -59,7 +66,7 @@ looped c = c .before .before .before
 
 -- ---- what holds there
 
--- the head does not wait, and is served; `t4` is the array of heads as it came, since a parameter that is changed loses its name
+-- the head does not wait, and is served
 module _ (k : tie.After-ready-head Inv-loop μ-loop) where
   abbrev begun : tie.Start Inv-loop μ-loop
   begun = start (tested k)
@@ -67,9 +74,10 @@ module _ (k : tie.After-ready-head Inv-loop μ-loop) where
   abbrev lent : Buffers
   lent =
       let a = begun .args in
-      buffers (a .t4) (a .table .now) (a .report .now) (a .linearization .now) (a .entries) (a .mask)
+      buffers (a .before) (a .table .now) (a .report .now) (a .linearization .now) (a .entries) (a .mask)
 
-  abbrev service : Service (begun .args .file .now) (begun .args .counts) (begun .args .h) (begun .args .number) lent (k .ready-head .result)
+  abbrev service : Service (begun .args .file .now) (begun .args .counts) (begun .args .h) (begun .args .number) lent
+      (k .ready-head .result)
   service =
       record {
         asked = begun .pre .0;
@@ -77,6 +85,57 @@ module _ (k : tie.After-ready-head Inv-loop μ-loop) where
         free = sym (tested k .is-waiting .ensures) ∙ k .before .if1 .left;
         is = k .ready-head .ensures;
       }
+
+-- the grant frees nobody or some; heads₀ are the heads with the one that was granted
+module _ (d : tie.After-first-due Inv-loop μ-loop) where
+  abbrev listed : tie.After-enter Inv-loop μ-loop
+  listed = entered (d .before)
+
+  abbrev paid : tie.After-charge-row Inv-loop μ-loop
+  paid = charged (listed .before)
+
+  abbrev next : Head
+  next = settled (paid .before) .settled-head .result
+
+  abbrev made : tie.After-stepped Inv-loop μ-loop
+  made = stepped (settled (paid .before) .before)
+
+  abbrev known : tie.After-ready-head Inv-loop μ-loop
+  known = found made
+
+  abbrev heads₀ : List Head
+  heads₀ = set (begun known .args .before) (begun known .args .h) next
+
+  abbrev freeing : Bool
+  freeing = frees (begun known .args .counts .waits) (made .stepped .result .event .answer)
+
+  abbrev renew : Head → Head
+  renew = noted (waitsIn (begun known .args .file .now)) (rowsOf (paid .charge-row .last .0))
+
+  records : length heads₀ ≡ mostHeads
+  records = ready-records (service known .asked) next
+
+  -- with the heads as the report wants them, the parts together make the rules' step
+  leaves : (heads : List Head) → heads ≡ cond freeing (map renew heads₀) heads₀ → (r : Granted)
+      → r ≡ record {
+        heads = heads;
+        entries = listed .enter .result;
+        mask = d .before .work-left .result;
+        done = usedDone (made .stepped .result .event);
+      }
+      → Grants (begun known .args .file .now) (begun known .args .h) (begun known .args .number) (lent known)
+      (buffers (r .heads) (made .stepped .last .0) (paid .charge-row .last .0) (listed .enter .last .0) (r .entries) (r .mask)) (r .done)
+  leaves heads renewed r is origin gs lent standing =
+      let s = service known in
+      let moved = made .stepped in
+      serve-stepped (s .asked .playing) (s .asked .head) standing (s .bit) (s .free) _ (s .is)
+      (moved .result) (moved .ensures .0) _ _ _ (listed .enter .result) (d .before .work-left .result) next
+      (moved .ensures .1) (paid .charge-row .ensures) (listed .enter .ensures .1) (listed .enter .ensures .0)
+      (settled (paid .before) .settled-head .ensures) (d .before .work-left .ensures) heads renewed r is
+
+  -- where it frees nobody, the heads are as they are
+  unchanged : d .first-due .result ≡ mostHeads → heads₀ ≡ cond freeing (map renew heads₀) heads₀
+  unchanged past = renewed-end (renewed-start freeing renew heads₀ _ (d .first-due .ensures)) records (omega arith)
 
 -- ---- the needs
 
@@ -124,65 +183,76 @@ enter-requires c κs =
     let s = service (found made) in
     (ready-insertable s (made .stepped .result) (made .stepped .ensures .0), ready-small s)
 
-loop-holds : tie.Need-loop-holds Inv-loop μ-loop
-loop-holds c = renewed-start _ _ _ _ (c .first-due .ensures)
-
-renewed-head-requires : tie.Need-renewed-head-requires Inv-loop μ-loop
-renewed-head-requires c κs =
-    let paid = charged (entered (looped c .before) .before) in
-    let s = service (found (stepped (settled (paid .before) .before))) in
-    (s .asked .playing, (ready-rows (s .asked) _ _ _ (paid .charge-row .ensures), ready-number s))
-
-loop-again : tie.Need-loop-again Inv-loop μ-loop
-loop-again c =
-    let at = looped (c .before) in
-    let l = at .loop in
-    let listed = entered (at .before) in
-    let paid = charged (listed .before) in
-    let next = settled (paid .before) .settled-head in
-    let made = stepped (settled (paid .before) .before) in
-    let moved = made .stepped in
-    let s = service (found made) in
-    let renewable = serve-renewable (s .asked .playing) (s .asked .head) (s .asked .standing) (s .bit) (s .free) _ (s .is)
-    (moved .result) (moved .ensures .0) _ _ _ (listed .enter .result) _ (next .result)
-    (moved .ensures .1) (paid .charge-row .ensures) (listed .enter .ensures .1) (listed .enter .ensures .0) (next .ensures) refl in
-    let size = ready-records (s .asked) (next .result) in
-    let there = c .before .before .before .loop-test .taken in
-    let some = renewed-some (l .inv) size (omega (arith, there)) in
-    let final = frees-final (begun (found made) .args .counts .waits) (moved .result .event .answer) some in
-    renewed-on (l .inv) size _ (omega (arith, there))
-    (c .renewed-head .ensures
-    ∙ renewed-noted (renewable final) (l .k) (omega (arith, there)) _ (renewed-here (l .inv) size (omega (arith, there))))
-
 work-left-requires : tie.Need-work-left-requires Inv-loop μ-loop
 work-left-requires c κs =
-    let s = service (found (stepped (settled (charged (entered (c .before .before) .before) .before) .before))) in
+    let s = service (found (stepped (settled (charged (c .before .before .before) .before) .before))) in
     (omega (arith, s .asked .head), ready-mask s)
+
+half-moved-requires : tie.Need-half-moved-requires Inv-loop μ-loop
+half-moved-requires c κs = alike-set 0 _ _ _ (omega arith) (omega arith) (omega (arith, c .if3 .taken))
+
+same-length : tie.Need-same-length Inv-loop μ-loop
+same-length c = search (needs, made (c .before .before .before .before) .stepped)
 
 returns-2 : tie.Need-returns-2 Inv-loop μ-loop
 returns-2 c =
-    λ origin gs lent standing.
-    let masked = c .before in
-    let at = masked .before .before in
-    let listed = entered (at .before) in
-    let paid = charged (listed .before) in
-    let next = settled (paid .before) .settled-head in
-    let made = stepped (settled (paid .before) .before) in
-    let moved = made .stepped in
-    let s = service (found made) in
-    let shown = serve-shown (s .asked .playing) (s .asked .head) standing (s .bit) (s .free) _ (s .is)
-    (moved .result) (moved .ensures .0) _ _ _ (listed .enter .result) (masked .work-left .result) (next .result)
-    (moved .ensures .1) (paid .charge-row .ensures) (listed .enter .ensures .1) (listed .enter .ensures .0)
-    (next .ensures) (masked .work-left .ensures) (at .loop .heads)
-    (renewed-end (at .loop .inv) (ready-records (s .asked) (next .result)) (omega arith)) in
-    let done = serve-done (s .asked .playing) (s .asked .head) standing (s .bit) (s .free) _ (s .is)
-    (moved .result) (moved .ensures .0) _ (c .done-of .ensures) in
-    record { buffers = shown; done = done }
+    let d = c .before .before .before .before in
+    let is = c .before .half-moved .ensures ∙ unchanged d (c .before .before .before .if2 .taken) in
+    leaves d (c .before .half-moved .result) is (c .used .result) (c .used .ensures)
+
+half-moved-requires-2 : tie.Need-half-moved-requires-2 Inv-loop μ-loop
+half-moved-requires-2 c κs =
+    let d = c .before .before in
+    alike-set half _ _ _ (omega arith) (omega (arith, c .if3 .left)) (omega (arith, service (known d) .asked .head))
+
+same-length-4 : tie.Need-same-length-4 Inv-loop μ-loop
+same-length-4 c = search (needs, made (c .before .before .before .before) .stepped)
+
+returns-3 : tie.Need-returns-3 Inv-loop μ-loop
+returns-3 c =
+    let d = c .before .before .before .before in
+    let is = c .before .half-moved2 .ensures ∙ unchanged d (c .before .before .before .if2 .taken) in
+    leaves d (c .before .half-moved2 .result) is (c .used2 .result) (c .used2 .ensures)
+
+loop-holds : tie.Need-loop-holds Inv-loop μ-loop
+loop-holds c = renewed-start _ _ _ _ (c .before .first-due .ensures)
+
+renewed-head-requires : tie.Need-renewed-head-requires Inv-loop μ-loop
+renewed-head-requires c κs =
+    let d = looped c .before .before in
+    let s = service (known d) in
+    (s .asked .playing, (ready-rows (s .asked) _ _ _ (paid d .charge-row .ensures), ready-number s))
+
+loop-again : tie.Need-loop-again Inv-loop μ-loop
+loop-again c =
+    let l = looped (c .before) .loop in
+    let d = looped (c .before) .before .before in
+    let s = service (known d) in
+    let moved = made d .stepped in
+    let renewable = serve-renewable (s .asked .playing) (s .asked .head) (s .asked .standing) (s .bit) (s .free) _ (s .is)
+    (moved .result) (moved .ensures .0) _ _ _ (listed d .enter .result) _ (next d)
+    (moved .ensures .1) (paid d .charge-row .ensures) (listed d .enter .ensures .1) (listed d .enter .ensures .0)
+    (settled (paid d .before) .settled-head .ensures) refl in
+    let there = c .before .before .before .loop-test .taken in
+    let some = renewed-some (l .inv) (records d) (omega (arith, there)) in
+    let final = frees-final (begun (known d) .args .counts .waits) (moved .result .event .answer) some in
+    renewed-on (l .inv) (records d) _ (omega (arith, there))
+    (c .renewed-head .ensures
+    ∙ renewed-noted (renewable final) (l .k) (omega (arith, there)) _ (renewed-here (l .inv) (records d) (omega (arith, there))))
+
+returns-4 : tie.Need-returns-4 Inv-loop μ-loop
+returns-4 c =
+    let at = c .before .before in
+    let d = at .before .before in
+    leaves d (at .loop .heads) (renewed-end (at .loop .inv) (records d) (omega arith)) (c .used3 .result) (c .used3 .ensures)
 
 pub serve-spec : {M : Type 1} → statement M
 serve-spec =
     tie.close (tie.spec Inv-loop μ-loop (λ c. search needs) (λ c. search needs) (λ c κs. search needs) (λ c κs. search needs)
     returns ready-head-requires stepped-requires settled-head-requires mul-heads array-set-from-heads charge-row-requires
-    (λ c. search needs) enter-requires (λ c κs. search needs) loop-holds (λ c. search needs) (λ c. search needs)
-    (λ c. search needs) renewed-head-requires (λ c. search needs) (λ c. search needs) (λ c. search needs) (λ c. search needs)
-    loop-again work-left-requires (λ c κs. search needs) (λ c. search needs) (λ c. search needs) (λ c. search needs) returns-2)
+    (λ c. search needs) enter-requires work-left-requires (λ c κs. search needs)
+    half-moved-requires (λ c κs. search needs) same-length (λ c. search needs) (λ c. search needs) returns-2
+    half-moved-requires-2 (λ c κs. search needs) same-length-4 (λ c. search needs) (λ c. search needs) returns-3
+    loop-holds (λ c. search needs) (λ c. search needs) (λ c. search needs) renewed-head-requires
+    (λ c. search needs) (λ c. search needs) (λ c. search needs) (λ c. search needs) loop-again
+    (λ c κs. search needs) (λ c. search needs) (λ c. search needs) (λ c. search needs) returns-4)
