@@ -131,7 +131,8 @@ module _ (w : Setting) (P : Parameters) (known : Known w) (L : ℕ → ℕ) (cou
           (lends-ref-again 𝓤 H A W (row tally-struct) (named 4) (P .tally .lifetime) (ν ∷ []) (P .tally .share)
           (P .tally .name) (P .tally .block) (P .tally .offset) (named 0) (a .tally)) $ await ! tt $ pick ! (λ δ. split ! $
           makes ! progress-struct (z .result) _ is-p $ move ! (3 ∷ 1 ∷ 0 ∷ []) $
-          use3 W (raw (Add w .pre (to-add w P (a .tally) (z .result) (loan ν δ)))) (goes-add w P (a .tally) (z .result) (loan ν δ) addition) $
+          use3 W (raw (Add w .pre (to-add w P (a .tally) (z .result) (loan ν δ))))
+          (goes-add w P (a .tally) (z .result) (loan ν δ) addition) $
           calls-at-last ! fm (Add w) (known .add) (to-add w P (a .tally) (z .result) (loan ν δ))
           (also ! refl (also ! refl (no-more !))) (λ v.
           use1 W (later (given (v ≡ vunit) (‵ (flft (ν ∷ []) fullShare) ⊛ ‵ (fres δ (row tally-struct .coded .code h′)))))
@@ -153,7 +154,8 @@ module _ (w : Setting) (P : Parameters) (known : Known w) (L : ℕ → ℕ) (cou
               record {
                 room = along-addable (entry P) counts a more;
                 still = along-still (entry P) counts a more (z .result) (z .left .table) (z .left .report)
-                    (z .left .linearization) h′ (turned .same .table) (turned .same .report) (turned .same .linearization) (turned .does) refl;
+                    (z .left .linearization) h′ (turned .same .table) (turned .same .report) (turned .same .linearization)
+                    (turned .does) refl;
               }
 
           next : Here P counts
