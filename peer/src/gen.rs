@@ -4,7 +4,7 @@
 use std::collections::BTreeSet;
 
 use crate::job::{self, Job, Request, Wait};
-use crate::job::{CLOSE, MAX_BYTES, MAX_REQUESTS, OPENING, REQUEST, RUN, WAIT};
+use crate::job::{CLOSE, MAX_BYTES, MAX_HEADS, MAX_REQUESTS, OPENING, REQUEST, RUN, WAIT};
 use crate::numbers::refusal;
 use crate::word::{parent, rank, word};
 
@@ -43,7 +43,8 @@ impl Random {
 
 /// A small job: few nodes, many heads, so that swaps fail and links are overtaken.
 pub fn contended(random: &mut Random) -> Job {
-    let (nodes, heads) = (random.between(2, 8), random.between(2, 16));
+    let nodes = random.between(2, 8);
+    let (heads, of_everyone) = crew(random, nodes);
     let count = random.between(1, 24);
     let (mut requests, mut grants) = (Vec::new(), Vec::new());
     if random.chance(25) {
@@ -59,9 +60,24 @@ pub fn contended(random: &mut Random) -> Job {
     }
     let rest = count - requests.len() as u32;
     requests.extend(self::requests(random, nodes, heads, rest));
-    let length = random.between(0, 24 * count);
+    requests.extend(of_everyone);
+    let length = random.between(0, 24 * requests.len() as u32);
     grants.extend(schedule(random, heads, length));
     Job { nodes, heads, requests, waits: Vec::new(), grants }
+}
+
+/// A job's number of heads and requests that it is to have: one job in four has the most heads
+/// and a request of each, so that all of them work.
+fn crew(random: &mut Random, nodes: u32) -> (u32, Vec<Request>) {
+    if random.chance(75) {
+        return (random.between(1, MAX_HEADS), Vec::new());
+    }
+    let mut requests = requests(random, nodes, MAX_HEADS, MAX_HEADS);
+    for (request, head) in requests.iter_mut().zip(0..) {
+        request.head = head;
+    }
+    requests.sort_by_cached_key(|_| random.bits());
+    (MAX_HEADS, requests)
 }
 
 /// A contended job with up to 30 pairs.
@@ -82,9 +98,11 @@ pub fn contended_or_waiting(random: &mut Random) -> Job {
 }
 
 /// A job of which at least a tenth of the grants wait: before request 0 has any, the other heads,
-/// which wait for it, have theirs in vain. No more than 30 pairs.
+/// which wait for it, have theirs in vain. No more than 46 pairs.
 pub fn held(random: &mut Random) -> Job {
     let mut job = contended(random);
+    // A head waits only where there is another.
+    job.heads = job.heads.max(2);
     let first = job.requests[0].head;
     job.requests.push(Request::union((first + 1) % job.heads as u8, 0, 1));
     let next_of = |head: u8| job.requests.iter().position(|request| request.head == head);
@@ -124,10 +142,11 @@ pub fn nearest_pairs(requests: u32, least_apart: u32, count: usize) -> Vec<Wait>
 /// A larger job, up to every limit, whose requests keep to a part of the nodes.
 pub fn larger(random: &mut Random) -> Job {
     let most = random.pick(&[16, 64, 512, 4096]);
-    let (nodes, heads) = (random.between(2, most), random.between(1, 16));
+    let nodes = random.between(2, most);
     let busy = random.pick(&[nodes.min(8), nodes.min(100), nodes]);
-    let count = random.between(1, 512);
-    let requests = requests(random, busy, heads, count);
+    let (heads, mut requests) = crew(random, busy);
+    let count = random.between(1, (MAX_REQUESTS - requests.len()) as u32);
+    requests.extend(self::requests(random, busy, heads, count));
     let length = random.between(0, 20 * count).min(7_000);
     Job { nodes, heads, requests, waits: Vec::new(), grants: schedule(random, heads, length) }
 }
@@ -180,15 +199,16 @@ fn schedule(random: &mut Random, heads: u32, length: u32) -> Vec<u8> {
 /// Schedules that random ones seldom meet.
 pub fn built() -> Vec<Job> {
     let three = [Request::union(0, 0, 1), Request::union(0, 2, 1), Request::union(1, 1, 2)];
-    let everyone: Vec<Request> = (0..16).map(|head| Request::union(head, 0, 1)).collect();
-    let in_turn = |grants: u8| (0..16 * grants).map(|n| (n % 16, 1)).collect::<Vec<_>>();
+    let heads = 0..MAX_HEADS as u8;
+    let everyone: Vec<Request> = heads.clone().map(|head| Request::union(head, 0, 1)).collect();
+    let in_turn: Vec<(u8, usize)> = heads.map(|head| (head, 1)).collect();
     vec![
         // A link that stores y's rank makes a cycle here.
         Job::new(3, 2, &three, &[(0, 13), (1, 2), (0, 5), (1, 3)]),
         // And one that does not compare x's rank makes one here.
         Job::new(3, 2, &three, &[(1, 4), (0, 18), (1, 1)]),
         Job::new(3, 2, &three, &[(1, 4), (0, 18), (1, 7)]),
-        Job::new(2, 16, &everyone, &in_turn(13)),
+        Job::new(2, MAX_HEADS, &everyone, &in_turn.repeat(13)),
         tournament(512),
         full(),
     ]
@@ -196,10 +216,10 @@ pub fn built() -> Vec<Job> {
 
 /// The longest file without pairs, with every request and head that it can have.
 pub fn full() -> Job {
-    let requests = requests(&mut Random::new(0), 64, 16, 512);
-    let runs: Vec<_> =
-        (0..7_165).map(|n| (n as u8 % 16, if n < 7_000 { 1 } else { 255 })).collect();
-    Job::new(4_096, 16, &requests, &runs)
+    let requests = requests(&mut Random::new(0), 64, MAX_HEADS, 512);
+    let heads = (0..MAX_HEADS as u8).cycle();
+    let runs: Vec<_> = heads.zip((0..7_165).map(|n| if n < 7_000 { 1 } else { 255 })).collect();
+    Job::new(4_096, MAX_HEADS, &requests, &runs)
 }
 
 /// Every request, and the most pairs that there can be beside them: no byte is left for a run.
@@ -371,7 +391,7 @@ fn opening_out_of_range(random: &mut Random, mut file: Vec<u8>) -> (Vec<u8>, Exp
         set_field(&mut file, 2, nodes);
         (file, Expected::Number(refusal::NODES))
     } else {
-        let heads = random.pick(&[0, 17, 256, 65_535]);
+        let heads = random.pick(&[0, MAX_HEADS + 1, 256, 65_535]);
         set_field(&mut file, 4, heads);
         (file, Expected::Number(refusal::HEADS))
     }

@@ -4,7 +4,7 @@ use crate::numbers::refusal;
 
 pub const MAX_BYTES: usize = 32_768;
 pub const MAX_NODES: u32 = 4_096;
-pub const MAX_HEADS: u32 = 16;
+pub const MAX_HEADS: u32 = 32;
 pub const MAX_REQUESTS: usize = 512;
 pub const MAX_RUN: usize = 255;
 

@@ -92,9 +92,9 @@ struct Run<'a, W> {
     shape: Shape,
     heads: [Head; job::MAX_HEADS as usize],
     /// The heads with work left, a bit each.
-    work: u16,
+    work: u32,
     /// Those of them that wait.
-    waiting: u16,
+    waiting: u32,
     idle: u32,
     memory: Memory<'a, W>,
     report: &'a mut [u32],
@@ -152,7 +152,7 @@ impl<'a, W: FnMut(Access)> Run<'a, W> {
         let lowest = job::waited_for(self.file, &self.shape, state.request).find(unfinished);
         state.waits = lowest.map(|number| number as u16);
         self.waiting &= !(1 << head);
-        self.waiting |= u16::from(state.waits.is_some()) << head;
+        self.waiting |= u32::from(state.waits.is_some()) << head;
     }
 
     /// Heads that waited for the request just finished wait for the next one, or for none.

@@ -145,17 +145,17 @@ fn busy(job: Job) -> Job {
     Job { grants: trace.iter().map(|access| access.head).collect(), ..job }
 }
 
-/// Sixteen heads get 7,000 grants one by one, in turn, or as many bursts of one to eight, at random.
-fn busy_job(seed: u64, nodes: u32, requests: u32, unions: u32, bursts: bool) -> Job {
+/// The heads get 7,000 grants one by one, in turn, or as many bursts of one to eight, at random.
+fn busy_job(heads: u32, seed: u64, nodes: u32, requests: u32, unions: u32, bursts: bool) -> Job {
     let mut random = Random::new(seed);
-    let requests = gen::mixed_requests(&mut random, nodes, 16, requests, unions);
+    let requests = gen::mixed_requests(&mut random, nodes, heads, requests, unions);
     let runs: Vec<(u8, usize)> = (0..7_000)
         .map(|n| match bursts {
-            true => (random.below(16) as u8, random.between(1, 8) as usize),
-            false => ((n % 16) as u8, 1),
+            true => (random.below(heads) as u8, random.between(1, 8) as usize),
+            false => ((n % heads) as u8, 1),
         })
         .collect();
-    busy(Job::new(nodes, 16, &requests, &runs))
+    busy(Job::new(nodes, heads, &requests, &runs))
 }
 
 /// Sixteen heads climb one chain after another, a grant each in turn. As unions tidy up, a chain
@@ -196,17 +196,25 @@ type Row = (String, Vec<Job>);
 
 /// The rows of the table of grants.
 fn rows() -> Vec<Row> {
-    let mut rows = Vec::new();
-    for (name, bursts) in [("one by one", false), ("bursts of 1 to 8", true)] {
-        for unions in [10, 50, 90] {
-            let jobs = (0..JOBS).map(|seed| busy_job(seed, 4096, 512, unions, bursts)).collect();
-            rows.push((format!("busy, {name}, {unions} % unions"), jobs));
-        }
-    }
+    let mut rows = busy_rows("busy", 16);
+    rows.extend(busy_rows("32 heads", 32));
     rows.push(("idle, the most in a file".into(), vec![idle_job()]));
     rows.push(("waiting, the most in a file".into(), vec![gen::longest_wait()]));
     rows.push(("16 heads in step along a chain".into(), (0..JOBS).map(chain_in_step).collect()));
     rows.push(("one head's deep finds".into(), (0..JOBS).map(deep_finds).collect()));
+    rows
+}
+
+/// So many heads without idle grants, in either order and with each share of unions.
+fn busy_rows(name: &str, heads: u32) -> Vec<Row> {
+    let mut rows = Vec::new();
+    for (order, bursts) in [("one by one", false), ("bursts of 1 to 8", true)] {
+        for unions in [10, 50, 90] {
+            let job = |seed| busy_job(heads, seed, 4096, 512, unions, bursts);
+            let jobs = (0..JOBS).map(job).collect();
+            rows.push((format!("{name}, {order}, {unions} % unions"), jobs));
+        }
+    }
     rows
 }
 
@@ -215,7 +223,10 @@ fn idle_job() -> Job {
 }
 
 fn grants() {
-    println!("\nns a grant, 16 heads, {JOBS} jobs a row in turn, idle grants in rows of their own");
+    println!(
+        "\nns a grant, 16 heads where a row does not say 32, {JOBS} jobs a row in turn, idle grants in \
+         rows of their own"
+    );
     println!("{:<40} {:>26}   {:>26}   {:>26}", "", "whole call", "without reading", "lent");
     let titles = "     core      peer  ratio";
     println!("{:<40} {titles}   {titles}        lent      core  ratio", "");
@@ -253,7 +264,7 @@ fn bytes() {
         let bytes = file(job).len() as f64;
         println!("{:<40} {}", format!("write, {name}"), write(job).columns(bytes));
     }
-    let played = file(&busy_job(0, 4096, 512, 50, false));
+    let played = file(&busy_job(16, 0, 4096, 512, 50, false));
     let text = (PEER.list)(&played);
     assert_eq!((CORE.list)(&played), text);
     let printing = list(&Outcome::of(PEER.play, &played, AMPLE));
@@ -320,14 +331,14 @@ fn growth() {
         println!("{name:<40} {}   {each:>9.2}", times.columns(1_000.0));
     };
     for nodes in [16, 64, 256, 1024, 4096] {
-        let job = busy_job(1, nodes, 256, 50, false);
+        let job = busy_job(16, 1, nodes, 256, 50, false);
         row(format!("{nodes} nodes, 256 requests, {} grants", job.grants.len()), &job);
     }
     for requests in [32, 64, 128, 256, 512] {
-        let job = busy_job(1, 4096, requests, 50, false);
+        let job = busy_job(16, 1, 4096, requests, 50, false);
         row(format!("4096 nodes, {requests} requests, {} grants", job.grants.len()), &job);
     }
-    let whole = busy_job(1, 64, 512, 50, false);
+    let whole = busy_job(16, 1, 64, 512, 50, false);
     for parts in [16, 8, 4, 2, 1] {
         let job = whole.cut(whole.grants.len() / parts);
         row(format!("64 nodes, 512 requests, {} grants", job.grants.len()), &job);

@@ -1,5 +1,5 @@
-//! Document 01's played cases with document 02's longer union, and more of that union, each with
-//! the whole text that the program prints for it.
+//! Document 01's played cases with document 02's longer union, more of that union, and document 02's
+//! long dock, each with the whole text that the program prints for it.
 
 use peer::gen;
 use peer::job::{self, Job, Request};
@@ -394,6 +394,85 @@ fn heads_in_each_others_way() {
             ],
         ),
     ]);
+}
+
+/// The job's file is these bytes, and every player prints these lines for it.
+fn written_and_listed(job: &Job, file: &[u8], lines: &[String]) {
+    assert_eq!(job.file().as_deref(), Ok(file));
+    lists(file, &lines.iter().map(|line| format!("{line}\n")).collect::<String>());
+}
+
+#[test]
+fn last_heads_of_a_long_dock() {
+    let last_of_32 = [
+        0x44, 0x4B, 0x02, 0x00, 0x20, 0x00, // two nodes, 32 heads
+        0x52, 0x51, 0x1F, 0x01, 0x00, 0x00, 0x01, 0x00, //
+        0x47, 0x52, 0x1F, 0x0D, 0x47, 0x52, 0x1E, 0x01, //
+        0x43, 0x4C, 0x1A, 0x63,
+    ];
+    let lines = [
+        "job 2 32 1 14",
+        "word 0 1 0",
+        "word 1 1 1",
+        "request 0 1 1 13 13",
+        "line 5 0",
+        "tally 1 1 1 0",
+    ];
+    let job = Job::new(2, 32, &[union(31, 0, 1)], &[(31, 13), (30, 1)]);
+    written_and_listed(&job, &last_of_32, &lines.map(String::from));
+
+    let last_of_17 = [
+        0x44, 0x4B, 0x02, 0x00, 0x11, 0x00, // two nodes, 17 heads
+        0x52, 0x51, 0x10, 0x02, 0x00, 0x00, 0x01, 0x00, //
+        0x47, 0x52, 0x10, 0x03, //
+        0x43, 0x4C, 0xAC, 0xBF,
+    ];
+    let lines = [
+        "job 2 17 1 3",
+        "word 0 0 0",
+        "word 1 1 0",
+        "request 0 4 1 3 3",
+        "line 2 0",
+        "tally 0 0 0 0",
+    ];
+    let job = Job::new(2, 17, &[same_set(16, 0, 1)], &[(16, 3)]);
+    written_and_listed(&job, &last_of_17, &lines.map(String::from));
+
+    let empty = [0x44, 0x4B, 0x02, 0x00, 0x20, 0x00, 0x43, 0x4C, 0x57, 0x68];
+    let lines = ["job 2 32 0 0", "word 0 0 0", "word 1 1 0", "tally 0 0 0 0"];
+    written_and_listed(&Job::new(2, 32, &[], &[]), &empty, &lines.map(String::from));
+}
+
+/// Each of 32 heads has a union, and none has a grant.
+#[test]
+fn every_head_has_work_left() {
+    let requests: Vec<Request> = (0..32).map(|h| union(h, h.into(), u32::from(h) + 1)).collect();
+    let mut file = vec![0x44, 0x4B, 0x21, 0x00, 0x20, 0x00];
+    file.extend((0..32).flat_map(|h| [0x52, 0x51, h, 0x01, h, 0x00, h + 1, 0x00]));
+    file.extend([0x43, 0x4C, 0x08, 0x18]);
+    assert_eq!(file.len(), 266);
+    let mut lines = vec!["job 33 32 32 0".to_string()];
+    lines.extend((0..33).map(|node| format!("word {node} {node} 0")));
+    lines.extend((0..32).map(|request| format!("request {request} 0 0 0 0")));
+    lines.push("tally 0 0 0 32".into());
+    written_and_listed(&Job::new(33, 32, &requests, &[]), &file, &lines);
+}
+
+/// Each of 32 heads asks about the one node, a grant each in turn, twice over.
+#[test]
+fn every_head_ends_its_work() {
+    let requests: Vec<Request> = (0..32).map(|head| same_set(head, 0, 0)).collect();
+    let in_turn: Vec<(u8, usize)> = (0..32).map(|head| (head, 1)).collect();
+    let mut file = vec![0x44, 0x4B, 0x01, 0x00, 0x20, 0x00];
+    file.extend((0..32).flat_map(|head| [0x52, 0x51, head, 0x02, 0x00, 0x00, 0x00, 0x00]));
+    file.extend((0..64).flat_map(|grant| [0x47, 0x52, grant % 32, 0x01]));
+    file.extend([0x43, 0x4C, 0x88, 0x26]);
+    assert_eq!(file.len(), 522);
+    let mut lines = vec!["job 1 32 32 64".to_string(), "word 0 0 0".into()];
+    lines.extend((0..32).map(|n| format!("request {n} 3 {} {} 2", n + 1, n + 33)));
+    lines.extend((0..32).map(|n| format!("line {} {n}", n + 33)));
+    lines.push("tally 0 0 0 0".into());
+    written_and_listed(&Job::new(1, 32, &requests, &in_turn.repeat(2)), &file, &lines);
 }
 
 #[test]

@@ -1,4 +1,5 @@
-//! The limits of a job file, from both sides: the rows that `crates/edges` plays, put to every player.
+//! The limits of a job file, from both sides: the rows that `crates/edges` plays, and rows of document
+//! 02's long dock, put to every player.
 
 use peer::gen;
 use peer::job;
@@ -6,14 +7,51 @@ use peer::player::{Outcome, AMPLE};
 
 use crate::PLAYERS;
 
-/// The rows, by their fields; `crates/edges` says what stands in them. A job's pairs stand behind
-/// its requests, after a stroke.
-fn rows() -> impl Iterator<Item = Vec<&'static str>> {
-    let table = include_str!("../../../crates/edges/src/main.rt");
+const EDGES: &str = include_str!("../../../crates/edges/src/main.rt");
+
+/// 1 to 32 heads, in files and in jobs for the writer; each head's number is below theirs.
+const LONG_DOCK: &str = "
+16 heads                  | 44 4B 02 00 10 00 =                         | 0 2 16 0 0
+17 heads                  | 44 4B 02 00 11 00 =                         | 0 2 17 0 0
+32 heads                  | 44 4B 02 00 20 00 43 4C 57 68               | 0 2 32 0 0
+33 heads                  | 44 4B 02 00 21 00 =                         | 5
+33 heads, wrong balance   | 44 4B 02 00 21 00 43 4C 00 00               | 5
+33 heads, then nothing    | 44 4B 02 00 21 00                           | 5
+288 heads                 | 44 4B 02 00 20 01 =                         | 5
+no place, 33 heads        | 44 4B 00 00 21 00 43 4C 00 00               | 4
+request of head 31 of 32  | 44 4B 02 00 20 00 52 51 1F 01 00 00 01 00 = | 0 2 32 1 0
+request of head 32 of 32  | 44 4B 02 00 20 00 52 51 20 01 00 00 01 00 = | 6
+request of head 31 of 31  | 44 4B 02 00 1F 00 52 51 1F 01 00 00 01 00 = | 6
+grant to head 31 of 32    | 44 4B 02 00 20 00 47 52 1F 01 =             | 0 2 32 0 1
+grant to head 32 of 32    | 44 4B 02 00 20 00 47 52 20 01 =             | 10
+grant to head 31 of 31    | 44 4B 02 00 1F 00 47 52 1F 01 =             | 10
+
+16 heads                  | 2 16         |          |    | 0 10 | 0 2 16 0 0 | 44 4B 02 00 10 00 =
+17 heads                  | 2 17         |          |    | 0 10 | 0 2 17 0 0 | 44 4B 02 00 11 00 =
+32 heads                  | 2 32         |          |    | 0 10 | 0 2 32 0 0 | 44 4B 02 00 20 00 43 4C 57 68
+33 heads                  | 2 33         |          |    | 5
+4,294,967,295 heads       | 2 4294967295 |          |    | 5
+65,568 heads              | 2 65568      |          |    | 5
+33 heads, empty buffer    | 2 33 0       |          |    | 5
+no place, 33 heads        | 0 33         |          |    | 4
+head 31 of 32             | 2 32         | 31 1 0 1 | 1F | 0 22 | 0 2 32 1 1 | 44 4B 02 00 20 00 52 51 1F 01 00 00 01 00 47 52 1F 01 =
+request of head 32 of 32  | 2 32         | 32 1 0 1 |    | 6
+request of head 31 of 31  | 2 31         | 31 1 0 1 |    | 6
+grant to head 32 of 32    | 2 32         |          | 20 | 10
+grant to head 31 of 31    | 2 31         |          | 1F | 10
+";
+
+/// The rows of a table, by their fields; `crates/edges` says what stands in them. A job's pairs stand
+/// behind its requests, after a stroke.
+fn rows_of(table: &'static str) -> impl Iterator<Item = Vec<&'static str>> {
     table
         .lines()
         .filter(|line| line.contains('|'))
         .map(|row| row.split('|').map(str::trim).collect())
+}
+
+fn rows() -> impl Iterator<Item = Vec<&'static str>> {
+    rows_of(EDGES).chain(rows_of(LONG_DOCK))
 }
 
 /// A field's words, and how many times each is meant.
@@ -83,7 +121,7 @@ fn assert_played(label: &str, file: &[u8], told: &[u32]) {
 #[test]
 fn every_row() {
     let played = include_str!("../../../crates/edges/stdout");
-    assert!(played.ends_with(&format!("cases {} wrong 0\n", rows().count())));
+    assert!(played.ends_with(&format!("cases {} wrong 0\n", rows_of(EDGES).count())));
 }
 
 #[test]

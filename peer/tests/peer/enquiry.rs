@@ -1,7 +1,7 @@
 //! The counter enquiry: every budget, held against a same-set played alone; refusals 15 and 16.
 
 use peer::gen::{self, Random};
-use peer::job::Request;
+use peer::job::{Request, MAX_HEADS};
 use peer::numbers::{answer, refusal};
 use peer::player::{Outcome, AMPLE};
 use peer::query::Queried;
@@ -27,7 +27,7 @@ fn agrees_with_a_same_set_played_alone() {
     for seed in 0..1_000 {
         let mut random = Random::new(seed);
         let mut job = gen::contended(&mut random);
-        if job.heads == 16 {
+        if job.heads == MAX_HEADS {
             continue;
         }
         let asking = job.heads as u8;

@@ -7,6 +7,7 @@ mod damage;
 mod document;
 mod edges;
 mod enquiry;
+mod kept;
 #[cfg(feature = "core")]
 mod listed;
 mod page;

@@ -1,11 +1,14 @@
 //! Seeded jobs held against the demands on whole runs, the slow reading and the writer.
 
+use std::collections::BTreeSet;
+
 use peer::demand;
 use peer::gen::{self, Random};
 use peer::head::Access;
-use peer::job::{self, Job};
+use peer::job::{self, Job, MAX_HEADS};
 use peer::listing;
 use peer::numbers::answer;
+use peer::play;
 use peer::player::{Lengths, Outcome, AMPLE};
 
 use crate::plain::{self, Turn};
@@ -73,7 +76,7 @@ fn jobs_of_which_a_tenth_waits() {
         let job = gen::held(&mut Random::new(seed));
         let (waiting, grants) = (waiting_grants(&job), job.grants.len());
         assert!(10 * waiting >= grants, "seed {seed}: {waiting} of {grants}");
-        assert!((1..=30).contains(&job.waits.len()));
+        assert!((1..=46).contains(&job.waits.len()));
         assert_eq!(check(&job, (seed % 3) as usize), Ok(()), "seed {seed}");
     }
 }
@@ -128,6 +131,41 @@ fn a_cut_leaves_what_the_grants_before_it_left() {
             assert_eq!(demand::check(&cut, &before, &outcome), Ok(()), "{cut:?}");
         }
     }
+}
+
+/// One job in four has the most heads, and all of them work. The last one's work ends in some of
+/// them and is left in others, and where it has waited it goes on: its bit in a mask of the heads,
+/// the highest of 32, is set and cleared.
+#[test]
+fn the_last_of_the_most_heads_works() {
+    let last = MAX_HEADS as usize - 1;
+    let (mut of_heads, mut crowded) = ([0; MAX_HEADS as usize], 0);
+    let (mut ended, mut left, mut waited) = (0, 0, 0);
+    for seed in 0..2_000 {
+        let job = gen::contended(&mut Random::new(seed));
+        of_heads[job.heads as usize - 1] += 1;
+        let heads: BTreeSet<u8> = job.requests.iter().map(|request| request.head).collect();
+        if heads.len() == MAX_HEADS as usize {
+            crowded += 1;
+            let work_ends = works_to_its_end(&job, last as u8);
+            ended += u32::from(work_ends);
+            left += u32::from(!work_ends);
+        }
+        let job = gen::held(&mut Random::new(seed));
+        let at_first = play::waits_after(&job.cut(0).file().expect("accepted"));
+        let waits = |waits: Vec<Option<usize>>| waits.get(last).is_some_and(Option::is_some);
+        waited += u32::from(at_first.is_ok_and(waits) && works_to_its_end(&job, last as u8));
+    }
+    assert!(of_heads.into_iter().all(|jobs| jobs >= 25), "{of_heads:?}");
+    assert!((400..600).contains(&crowded), "{crowded}");
+    assert!(ended.min(left).min(waited) >= 50, "{ended} {left} {waited}");
+}
+
+/// Whether every request of a head is finished.
+fn works_to_its_end(job: &Job, head: u8) -> bool {
+    let outcome = Outcome::traced(&job.file().expect("accepted"), AMPLE).0;
+    let rows = job.requests.iter().zip(outcome.report.chunks_exact(4));
+    rows.filter(|(request, _)| request.head == head).all(|(_, row)| row[0] != answer::UNFINISHED)
 }
 
 /// The jobs are worth playing: heads get in each other's way in every manner there is.

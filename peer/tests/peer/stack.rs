@@ -7,7 +7,7 @@ use std::thread;
 
 use grouping_core::{self as core, stack, Played, Row, Tally};
 use peer::gen::{self, Random};
-use peer::job::{Job, Request};
+use peer::job::{Job, Request, MAX_HEADS};
 use peer::player::{Outcome, AMPLE};
 
 /// A thread of this size makes the longest enquiry.
@@ -78,9 +78,9 @@ fn files() -> Vec<Vec<u8>> {
     files.extend([gen::most_pairs(), gen::longest_wait()].iter().map(file));
     files.push(file(&Job::new(
         4_096,
-        16,
-        &[Request::union(15, 4_095, 4_094); 512],
-        &[(15, 13 + 511 * 6)],
+        MAX_HEADS,
+        &[Request::union(MAX_HEADS as u8 - 1, 4_095, 4_094); 512],
+        &[(MAX_HEADS as u8 - 1, 13 + 511 * 6)],
     )));
     files
 }

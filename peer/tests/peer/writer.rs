@@ -1,7 +1,7 @@
 //! The writer: its file, its refusals in their order, and the bytes it leaves alone.
 
 use peer::gen::{self, Random};
-use peer::job::{Job, Request, Wait, MAX_BYTES};
+use peer::job::{Job, Request, Wait, MAX_BYTES, MAX_HEADS};
 use peer::numbers::refusal;
 use peer::player::Player;
 
@@ -59,7 +59,7 @@ const ORDER: [u32; 10] = [
 fn spoil(random: &mut Random, number: u32, request: usize, job: &mut Job, requests: &mut Vec<u32>) {
     match number {
         refusal::NODES => job.nodes = random.pick(&[0, 4_097, 65_537, u32::MAX]),
-        refusal::HEADS => job.heads = random.pick(&[0, 17, 65_537, u32::MAX]),
+        refusal::HEADS => job.heads = random.pick(&[0, MAX_HEADS + 1, 65_537, u32::MAX]),
         refusal::TOO_MANY_REQUESTS => requests.resize(4 * 513, 0),
         refusal::REQUEST_HEAD => requests[4 * request] = random.pick(&[job.heads, 256, u32::MAX]),
         refusal::REQUEST_KIND => requests[4 * request + 1] = random.pick(&[0, 3, 257, 258]),
@@ -69,7 +69,11 @@ fn spoil(random: &mut Random, number: u32, request: usize, job: &mut Job, reques
         }
         refusal::WAIT => spoil_waits(random, job),
         refusal::GRANT => job.grants.push(random.between(job.heads, 255) as u8),
-        refusal::FILE_TOO_LONG => job.grants = [0, 1].repeat(5_000),
+        refusal::FILE_TOO_LONG => {
+            // Two heads in turn need a run for each grant.
+            job.heads = job.heads.max(2);
+            job.grants = [0, 1].repeat(5_000);
+        }
         _ => (),
     }
 }
