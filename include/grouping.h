@@ -34,7 +34,7 @@ extern "C" {
 enum {
     GROUPING_MOST_FILE = 32768,     /* bytes of a job file */
     GROUPING_MOST_PLACES = 4096,
-    GROUPING_MOST_HEADS = 16,
+    GROUPING_MOST_HEADS = 32,
     GROUPING_MOST_REQUESTS = 512,
     GROUPING_MOST_GRANTS = 2088195, /* 8,189 runs of 255 fill a file */
     GROUPING_MOST_ALLOWANCE = 65535
@@ -60,7 +60,7 @@ enum {
     GROUPING_REFUSED_FILE_ENDS_EARLY = 2,   /* before a record is whole or before the close */
     GROUPING_REFUSED_MARK = 3,              /* a mark not allowed at that position */
     GROUPING_REFUSED_PLACES = 4,            /* 0 or above 4,096 */
-    GROUPING_REFUSED_HEADS = 5,             /* 0 or above 16 */
+    GROUPING_REFUSED_HEADS = 5,             /* 0 or above 32 */
     GROUPING_REFUSED_REQUEST_HEAD = 6,      /* not below the heads */
     GROUPING_REFUSED_REQUEST_KIND = 7,      /* neither 1 nor 2 */
     GROUPING_REFUSED_REQUEST_PLACE = 8,     /* not below the places */
@@ -96,14 +96,14 @@ enum {
 /* The stack that each call needs at most, in bytes. */
 enum {
     GROUPING_STACK_PLAY = 3072,
-    GROUPING_STACK_PLAY_LENT = 1024,
+    GROUPING_STACK_PLAY_LENT = 2048,
     GROUPING_STACK_WRITE = 512,
     GROUPING_STACK_QUERY = 17408,
     GROUPING_STACK_LIST = 1536,
     GROUPING_STACK_PAGE = 245760
 };
 
-/* The counters of a play: idle grants, failed swaps, links, and the heads with work left. */
+/* The counters of a play: idle grants, failed swaps, links, and the heads with work left, up to 32. */
 struct grouping_tally {
     uint32_t idle;
     uint32_t failed;
@@ -111,7 +111,7 @@ struct grouping_tally {
     uint32_t working;
 };
 
-/* number is 0, or the refusal's (1 to 14, 18). entries are those of the line-up. */
+/* number is 0, or the refusal's (1 to 14, 18). heads are 1 to 32; entries are those of the line-up. */
 struct grouping_played {
     uint32_t number;
     uint32_t places;

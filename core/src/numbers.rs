@@ -7,7 +7,7 @@ pub const MOST_FILE: usize = 32_768;
 /// Places of the largest job.
 pub const MOST_PLACES: u32 = 4_096;
 /// Heads of the largest job.
-pub const MOST_HEADS: u32 = 16;
+pub const MOST_HEADS: u32 = 32;
 /// Requests of the largest job.
 pub const MOST_REQUESTS: u32 = 512;
 /// Grants of the longest job: 8,189 runs of 255 fill a file.
@@ -40,7 +40,7 @@ pub mod stack {
     /// [`play`](crate::play)
     pub const PLAY: usize = 3_072;
     /// [`play_lent`](crate::play_lent)
-    pub const PLAY_LENT: usize = 1_024;
+    pub const PLAY_LENT: usize = 2_048;
     /// [`write`](crate::write)
     pub const WRITE: usize = 512;
     /// [`query`](crate::query)
@@ -120,7 +120,7 @@ pub enum Refusal {
     Mark = 3,
     /// The places are 0 or above 4,096.
     Places = 4,
-    /// The heads are 0 or above 16.
+    /// The heads are 0 or above 32.
     Heads = 5,
     /// A request's head is not below the heads.
     RequestHead = 6,
@@ -188,7 +188,7 @@ impl Refusal {
             Refusal::FileEndsEarly => "the file ends before a record is whole or before the close",
             Refusal::Mark => "a mark is not allowed at its position",
             Refusal::Places => "the places are 0 or above 4,096",
-            Refusal::Heads => "the heads are 0 or above 16",
+            Refusal::Heads => "the heads are 0 or above 32",
             Refusal::RequestHead => "a request's head is not below the heads",
             Refusal::RequestKind => "a request's kind is neither 1 nor 2",
             Refusal::RequestPlace => "a request's place is not below the places",

@@ -14,7 +14,7 @@ pub struct Tally {
     pub failed: u32,
     /// Unions that have linked.
     pub links: u32,
-    /// Heads with an unfinished request.
+    /// Heads with an unfinished request, up to 32.
     pub working: u32,
 }
 
@@ -27,7 +27,7 @@ pub struct Played {
     pub number: u32,
     /// Places (nodes) of the job: words of the table.
     pub places: u32,
-    /// Heads of the job.
+    /// Heads of the job, 1 to 32.
     pub heads: u32,
     /// Requests of the job: rows of four numbers in the report.
     pub requests: u32,
