@@ -8,7 +8,7 @@ use crate::{Answer, Refusal};
 #[repr(C)]
 #[derive(Clone, Copy, Debug, Default, PartialEq, Eq)]
 pub struct Tally {
-    /// Grants to a head without requests left.
+    /// Grants to a head without requests left, or to one whose next request waits.
     pub idle: u32,
     /// Swaps that did not write.
     pub failed: u32,
