@@ -288,9 +288,7 @@ module _ {file : List ℕ} {counts : Checked} {h number : ℕ} {b : Buffers} (pl
 
         serve-done : (done : Done) → done ≡ usedDone (moved .event) → done ≡ doneOf (happened qs ws S h)
         serve-done done is =
-            is
-            ∙ ap (λ m. usedDone (m .event))
-            (to-moved ∙ moved-here here h present in-service)
+            is ∙ ap (λ m. usedDone (m .event)) (to-moved ∙ moved-here here h present in-service)
             ∙ ap doneOf (sym (happened-served qs ws S h goes))
 
         module _ (table′ report′ linearization′ : List ℕ) (entries′ mask′ : ℕ) (next : Head)
@@ -300,22 +298,6 @@ module _ {file : List ℕ} {counts : Checked} {h number : ℕ} {b : Buffers} (pl
             (is-entries : entries′ ≡ cond (eqb (moved .event .point) 0) (b .entries) (b .entries + 1))
             (is-next : next ≡ settled qs h moved)
             (is-mask : mask′ ≡ cond (ltb (next .task .request) (counts .requests)) (b .mask) (b .mask - 2 ^ h)) where
-          serve-shown : (heads′ : List Head)
-              → heads′ ≡ cond (frees (counts .waits) (moved .event .answer)) (map (noted ws (rowsOf report′)) (set (b .heads) h next))
-              (set (b .heads) h next)
-              → buffers heads′ table′ report′ linearization′ entries′ mask′ ≡ shown qs ws (step qs ws S h) lent
-          serve-shown heads′ is-heads =
-              served-shown here h present in-service moved table′ report′ linearization′ entries′ mask′ next to-moved
-              (is-table ∙ ap (λ k. map encode (touched (map decode (b .table)) (accessOf k))) to-head)
-              (is-report ∙ ap charged-report to-head)
-              (is-linearization ∙ ap entered-linearization to-head)
-              is-entries is-next
-              (is-mask ∙ ap (λ k. cond (ltb (next .task .request) k) (b .mask) (b .mask - 2 ^ h)) (playing-count playing))
-              heads′ still-busy
-              (is-heads ∙ ap (λ k. cond (frees k (moved .event .answer)) (map (noted ws (rowsOf report′)) (set (b .heads) h next))
-              (set (b .heads) h next)) (playing-waits playing))
-              goes
-
           pub serve-renewable : isFinal (moved .event .answer) ≡ true
               → Renewable ws (rowsOf report′) (set (b .heads) h next) h (head .task .request)
           serve-renewable final =
@@ -337,7 +319,16 @@ module _ {file : List ℕ} {counts : Checked} {h number : ℕ} {b : Buffers} (pl
           serve-stepped heads′ is-heads r is =
               record {
                 buffers = ap (λ g. buffers (g .heads) table′ report′ linearization′ (g .entries) (g .mask)) is
-                    ∙ serve-shown heads′ is-heads;
+                    ∙ served-shown here h present in-service moved table′ report′ linearization′ entries′ mask′ next to-moved
+                    (is-table ∙ ap (λ k. map encode (touched (map decode (b .table)) (accessOf k))) to-head)
+                    (is-report ∙ ap charged-report to-head)
+                    (is-linearization ∙ ap entered-linearization to-head)
+                    is-entries is-next
+                    (is-mask ∙ ap (λ k. cond (ltb (next .task .request) k) (b .mask) (b .mask - 2 ^ h)) (playing-count playing))
+                    heads′ still-busy
+                    (is-heads ∙ ap (λ k. cond (frees k (moved .event .answer))
+                    (map (noted ws (rowsOf report′)) (set (b .heads) h next)) (set (b .heads) h next)) (playing-waits playing))
+                    goes;
                 done = serve-done (r .done) (ap (λ g. g .done) is);
               }
 

@@ -1,7 +1,7 @@
 -- The heads' records after a request is finished: one after the other they are as the report wants them.
 --
---   Swept f before k l      of the list `before`, the places before k have been changed by f
---   Renewed b f before k l  they have, if b; else the list is as before, and k is past it
+--   Renewed b f before k l  of the list `before`, the places before k have been changed by f, if b; else the list is as before,
+--                           and k is past it
 --
 -- Main laws: renewed-start, renewed-on and renewed-end, the loop; renewed-noted, what a record is that is looked at again or not.
 use mathlib.Core.Path.{_≡_, refl, sym, ap, _∙_, subst}
@@ -9,10 +9,8 @@ use mathlib.Core.Bool.{Bool, true, false, cond, true≢false}
 use mathlib.Core.List.{List, map}
 use Prim.Native.Nat.{ℕ, _+_, _≤_, _<_}
 use native.Mathlib.Omega.{arith}
-use native.Mathlib.Decide.{ℕ-discrete}
 use lib.Dec.{eqb}
-use lib.ListN.{length, getD, set, length-set, length-map}
-use lib.Seq.{getD-set-same, getD-set-other, ext-getD}
+use lib.ListN.{length, getD, set, length-map}
 use Rattle.basics.proofs.Lists.{getD-mapped}
 use Rattle.basics.proofs.Conditions.{split}
 use Rattle.job.specs.declared.Answer.{Answer}
@@ -24,49 +22,20 @@ use Rattle.rules.specs.Report.{isFinal}
 use Rattle.rules.specs.State.{resting}
 use Rattle.stepper.specs.Shown.{noted}
 use Rattle.stepper.specs.Waits.{frees, isDue, Renewable}
-
-record Swept (f : Head → Head) (before : List Head) (k : ℕ) (l : List Head) : Type 0 where
-  size : length l ≡ length before
-  changed : (j : ℕ) → j < k → getD l j (resting 0) ≡ f (getD before j (resting 0))
-  left : (j : ℕ) → k ≤ j → getD l j (resting 0) ≡ getD before j (resting 0)
-
-module _ (f : Head → Head) (before : List Head) where
-  swept-none : Swept f before 0 before
-  swept-none = record { size = refl; changed = λ j h. absurd (omega arith); left = λ j h. refl }
-
-  -- one place more
-  swept-on : (l : List Head) (k : ℕ) (v : Head) → k < length before → v ≡ f (getD l k (resting 0)) → Swept f before k l
-      → Swept f before (k + 1) (set l k v)
-  swept-on l k v inside is s =
-      record {
-        size = length-set l k v ∙ s .size;
-        changed = λ j h. at j h (ℕ-discrete j k);
-        left = λ j h. getD-set-other l k j v (resting 0) (λ e. absurd (omega arith)) ∙ s .left j (omega arith);
-      }
-    where
-      at : (j : ℕ) → j < k + 1 → Dec (j ≡ k) → getD (set l k v) j (resting 0) ≡ f (getD before j (resting 0))
-      at j h (yes e) =
-          rw e (getD-set-same l k v (resting 0) (omega (arith, s .size)) ∙ is ∙ ap f (s .left k (omega arith)))
-      at j h (no d) = getD-set-other l k j v (resting 0) d ∙ s .changed j (omega (arith, d))
-
-  -- every place
-  swept-all : (l : List Head) (k : ℕ) → length before ≤ k → Swept f before k l → l ≡ map f before
-  swept-all l k all s =
-      ext-getD (resting 0) l (map f before) (s .size ∙ sym (length-map before f))
-      (λ j h. s .changed j (omega (arith, s .size))
-      ∙ sym (getD-mapped f before j (resting 0) (resting 0) (omega (arith, s .size))))
+use Rattle.stepper.proofs.Taken.{Taken, taken-none, taken-on, taken-all}
 
 -- ---- where there is something to look at
 
 pub record Renewed (b : Bool) (f : Head → Head) (before : List Head) (k : ℕ) (l : List Head) : Type 0 where
-  swept : b ≡ true → Swept f before k l
+  swept : b ≡ true → Taken before (map f before) k l
   left : b ≡ false → l ≡ before
   past : b ≡ false → mostHeads ≤ k
 
 pub renewed-start : (b : Bool) (f : Head → Head) (before : List Head) (k : ℕ) → k ≡ cond b 0 mostHeads → Renewed b f before k before
 renewed-start b f before k is =
     record {
-      swept = λ t. subst (λ i. Swept f before i before) (sym (is ∙ ap (λ c. cond c 0 mostHeads) t)) (swept-none f before);
+      swept = λ t. subst (λ i. Taken before (map f before) i before) (sym (is ∙ ap (λ c. cond c 0 mostHeads) t))
+          (taken-none before (map f before));
       left = λ n. refl;
       past = λ n. omega (arith, is, ap {B = ℕ} (λ c. cond c 0 mostHeads) n);
     }
@@ -78,19 +47,20 @@ module _ {b : Bool} {f : Head → Head} {before l : List Head} {k : ℕ} (r : Re
 
   -- the record that is looked at is as before
   pub renewed-here : k < mostHeads → getD l k (resting 0) ≡ getD before k (resting 0)
-  renewed-here h = split b (λ t. r .swept t .left k (omega arith)) (λ n. absurd (omega (arith, r .past n)))
+  renewed-here h = split b (λ t. r .swept t .kept k (omega arith)) (λ n. absurd (omega (arith, r .past n)))
 
   pub renewed-on : (v : Head) → k < mostHeads → v ≡ f (getD l k (resting 0)) → Renewed b f before (k + 1) (set l k v)
   renewed-on v h is =
       record {
-        swept = λ t. swept-on f before l k v (omega (arith, size)) is (r .swept t);
+        swept = λ t. taken-on k l v (omega (arith, size)) (is ∙ ap f (r .swept t .kept k (omega arith))
+            ∙ sym (getD-mapped f before k (resting 0) (resting 0) (omega (arith, size)))) (r .swept t);
         left = λ n. absurd (omega (arith, r .past n));
         past = λ n. omega (arith, r .past n);
       }
 
   pub renewed-end : mostHeads ≤ k → l ≡ cond b (map f before) before
   renewed-end h =
-      split b (λ t. rw t (swept-all f before l k (omega (arith, size)) (r .swept t))) (λ n. rw n (r .left n))
+      split b (λ t. rw t (taken-all k l (sym (length-map before f)) (omega (arith, size)) (r .swept t))) (λ n. rw n (r .left n))
 
 -- an answer that frees a head finishes a request
 pub frees-final : (waits : ℕ) (answer : Answer) → frees waits answer ≡ true → isFinal answer ≡ true

@@ -6,7 +6,8 @@ use Prim.Native.Nat.{_+_, _-_, _<_}
 use lib.ListN.{length}
 use Rattle.job.specs.Job.{mostHeads}
 use Rattle.stepper.specs.Halves.{half}
-use Rattle.stepper.proofs.Halves.{Taken, taken-start, taken-on, taken-end}
+use Rattle.stepper.proofs.Taken.{Taken, taken-on}
+use Rattle.stepper.proofs.Halves.{taken-start, taken-end}
 use Rattle.stepper.proofs.half_moved.Statement.{statement}
 use Rattle.stepper.proofs.half_moved.Tie as tie
 
