@@ -3,3 +3,4 @@ pub mod Conditions
 pub mod Lists
 pub mod Counts
 pub mod Sums
+pub mod Taken

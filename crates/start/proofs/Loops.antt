@@ -1,16 +1,14 @@
 -- What the loops of the code keep: a list is filled from the front, and a mask is built from its last flag.
 --
 --   Filled d value n i l            of the n places of l, those before i have their values
---   Begun d value rest n i l        and the others have what every place had before
 --   Gathered flag numbers h mask    the mask has the flags of the numbers from place h on
 use mathlib.Core.Path.{_≡_, sym, ap, _∙_}
 use mathlib.Core.Bool.{Bool}
 use mathlib.Core.List.{List, map}
 use Prim.Native.Nat.{ℕ, zero, suc, _+_, _*_, _-_, _^_, _≤_, _<_}
 use native.Mathlib.Omega.{arith}
-use native.Mathlib.Decide.{ℕ-discrete, decLt}
-use lib.ListN.{length, getD, set, drop, replicate, length-set, length-drop, length-map, length-replicate, getD-replicate}
-use lib.ListN.{drop-of-length-le}
+use native.Mathlib.Decide.{ℕ-discrete}
+use lib.ListN.{length, getD, set, drop, length-set, length-drop, length-map, drop-of-length-le}
 use lib.Pow.{pow-mono}
 use lib.Seq.{drop-cons, getD-set-same, getD-set-other, ext-getD}
 use Rattle.job.specs.Job.{mostHeads}
@@ -40,39 +38,6 @@ module _ {A : Type 0} (d : A) (value : ℕ → A) (n : ℕ) (l : List A) where
   filled-all target size same i all done =
       ext-getD d l target (done .size ∙ sym size)
       (λ j h. done .filled j (omega (arith, done .size)) ∙ sym (same j (omega (arith, done .size))))
-
--- ---- a list that is filled in part
-
-pub record Begun {A : Type 0} (d : A) (value : ℕ → A) (rest : A) (n i : ℕ) (l : List A) : Type 0 where
-  pub front : Filled d value n i l
-  pub back : (j : ℕ) → i ≤ j → j < n → getD l j d ≡ rest
-
-module _ {A : Type 0} (d : A) (value : ℕ → A) (rest : A) (n : ℕ) where
-  pub begun-none : Begun d value rest n 0 (replicate n rest)
-  begun-none =
-      record {
-        front = filled-none d value n (replicate n rest) (length-replicate n rest);
-        back = λ j h l. getD-replicate n j rest d l;
-      }
-
-  -- one place more
-  pub begun-on : (l : List A) (i : ℕ) (v : A) → i < n → v ≡ value i → Begun d value rest n i l → Begun d value rest n (i + 1) (set l i v)
-  begun-on l i v inside same before =
-      record {
-        front = filled-on d value n l i v inside same (before .front);
-        back = λ j h k. getD-set-other l i j v d (λ e. omega (arith, e)) ∙ before .back j (omega arith) k;
-      }
-
-  -- every place, where the others are to have what they had
-  pub begun-all : (l target : List A) → length target ≡ n → ((j : ℕ) → j < n → getD target j d ≡ value j)
-      → (i : ℕ) → ((j : ℕ) → i ≤ j → value j ≡ rest) → Begun d value rest n i l → l ≡ target
-  begun-all l target size same i none done =
-      filled-all d value n l target size same n (omega arith)
-      (record { size = done .front .size; filled = λ j h. at j h (decLt j i) })
-    where
-      at : (j : ℕ) → j < n → Dec (j < i) → getD l j d ≡ value j
-      at j h (yes k) = done .front .filled j k
-      at j h (no k) = done .back j (omega arith) h ∙ sym (none j (omega arith))
 
 -- ---- the mask of the flags from h on
 

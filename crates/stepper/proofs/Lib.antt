@@ -5,7 +5,6 @@ pub mod Raisable
 pub mod Room
 pub mod Seek
 pub mod Pairs
-pub mod Taken
 pub mod Renewed
 pub mod Halves
 pub mod Waiting

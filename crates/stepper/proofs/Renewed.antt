@@ -13,6 +13,7 @@ use lib.Dec.{eqb}
 use lib.ListN.{length, getD, set, length-map}
 use Rattle.basics.proofs.Lists.{getD-mapped}
 use Rattle.basics.proofs.Conditions.{split}
+use Rattle.basics.proofs.Taken.{Taken, taken-none, taken-on, taken-all}
 use Rattle.job.specs.declared.Answer.{Answer}
 use Rattle.job.specs.declared.Wait.{Wait}
 use Rattle.job.specs.Job.{mostHeads}
@@ -22,20 +23,19 @@ use Rattle.rules.specs.Report.{isFinal}
 use Rattle.rules.specs.State.{resting}
 use Rattle.stepper.specs.Shown.{noted}
 use Rattle.stepper.specs.Waits.{frees, isDue, Renewable}
-use Rattle.stepper.proofs.Taken.{Taken, taken-none, taken-on, taken-all}
 
 -- ---- where there is something to look at
 
 pub record Renewed (b : Bool) (f : Head → Head) (before : List Head) (k : ℕ) (l : List Head) : Type 0 where
-  swept : b ≡ true → Taken before (map f before) k l
+  swept : b ≡ true → Taken (resting 0) before (map f before) k l
   left : b ≡ false → l ≡ before
   past : b ≡ false → mostHeads ≤ k
 
 pub renewed-start : (b : Bool) (f : Head → Head) (before : List Head) (k : ℕ) → k ≡ cond b 0 mostHeads → Renewed b f before k before
 renewed-start b f before k is =
     record {
-      swept = λ t. subst (λ i. Taken before (map f before) i before) (sym (is ∙ ap (λ c. cond c 0 mostHeads) t))
-          (taken-none before (map f before));
+      swept = λ t. subst (λ i. Taken (resting 0) before (map f before) i before) (sym (is ∙ ap (λ c. cond c 0 mostHeads) t))
+          taken-none;
       left = λ n. refl;
       past = λ n. omega (arith, is, ap {B = ℕ} (λ c. cond c 0 mostHeads) n);
     }

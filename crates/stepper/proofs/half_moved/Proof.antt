@@ -6,19 +6,20 @@ use Prim.Native.Nat.{_+_, _-_, _<_}
 use lib.ListN.{length}
 use Rattle.job.specs.Job.{mostHeads}
 use Rattle.stepper.specs.Halves.{half}
-use Rattle.stepper.proofs.Taken.{Taken, taken-on}
-use Rattle.stepper.proofs.Halves.{taken-start, taken-end}
+use Rattle.basics.proofs.Taken.{Taken, taken-on}
+use Rattle.rules.specs.State.{resting}
+use Rattle.stepper.proofs.Halves.{half-start, half-end}
 use Rattle.stepper.proofs.half_moved.Statement.{statement}
 use Rattle.stepper.proofs.half_moved.Tie as tie
 
 abbrev Inv-loop : tie.InvT-loop
-Inv-loop first after heads₀ k₀ heads k = Taken heads₀ after k heads
+Inv-loop first after heads₀ k₀ heads k = Taken (resting 0) heads₀ after k heads
 
 abbrev μ-loop : tie.MeasureT-loop
 μ-loop first after heads₀ k₀ heads k = first + half - k
 
 loop-holds : tie.Need-loop-holds Inv-loop μ-loop
-loop-holds c = taken-start (c .pre)
+loop-holds c = half-start (c .pre)
 
 add-loop : tie.Need-add-loop Inv-loop μ-loop
 add-loop c = omega (arith, c .before .pre .within)
@@ -39,7 +40,7 @@ returns c =
     let l = c .before .loop in
     let a = c .before .before .args in
     let size : length (a .before) ≡ length (a .t2) = search needs in
-    taken-end (c .before .before .pre) (l .k) (l .heads) size (omega (arith, c .loop-test .left)) (l .inv)
+    half-end (c .before .before .pre) (l .k) (l .heads) size (omega (arith, c .loop-test .left)) (l .inv)
 
 pub half-moved-spec : {M : Type 1} → statement M
 half-moved-spec =
