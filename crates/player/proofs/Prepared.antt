@@ -16,9 +16,10 @@ use Rattle.job.specs.Job.{mostHeads}
 use Rattle.jobfile.specs.Meaning.{meaning}
 use Rattle.mask.specs.Mask.{maskOf}
 use Rattle.reader.specs.declared.Checked.{Checked}
+use Rattle.reader.specs.Reader.{Playing}
 use Rattle.rules.specs.Table.{fresh}
 use Rattle.stepper.specs.Buffers.{rowsOf}
-use Rattle.stepper.specs.Shown.{requestsIn, waitsIn, Playing}
+use Rattle.stepper.specs.Shown.{requestsIn, waitsIn}
 use Rattle.start.specs.Start.{firstRequests, firstTask, atRest, isRequest}
 use Rattle.start.proofs.Start.{first-heads, first-flags}
 use Rattle.turns.specs.declared.Progress.{Progress}

@@ -18,10 +18,10 @@ use Rattle.job.specs.Job.{Job}
 use Rattle.jobfile.specs.Format.{_then_}
 use Rattle.jobfile.specs.Meaning.{refused, meaning}
 use Rattle.reader.specs.declared.Checked.{Checked}
-use Rattle.reader.specs.Reader.{countsOf}
+use Rattle.reader.specs.Reader.{countsOf, Playing}
 use Rattle.rules.specs.State.{State, tallyOf}
 use Rattle.rules.specs.Start.{Start, freshStart}
-use Rattle.stepper.specs.Shown.{shown, Playing}
+use Rattle.stepper.specs.Shown.{shown}
 use Rattle.turns.specs.Turns.{runOf}
 
 -- Each refusal gives its number and zero for every count.

@@ -1,17 +1,20 @@
 -- What the reader answers: the counts of a meaning, and those of a section of the file. A refusal has zero for every count.
 --
 --   countsOf m                  the number of a meaning and the counts of its job
+--   Playing file c              an accepted file, with its counts: what is asked where its records are read
 --   requestSectionOf n h ts     the refusal or the count of the requests at the places ts
 --   waitSectionOf q ts          the refusal or the count of the pairs at the places ts, behind q requests
 --   runSectionOf h ts           the refusal, or the count and the grants, of the runs at the places ts
 --   isRecord size m t           a whole record of that size, with the mark m, stands at the place t
+use mathlib.Core.Path.{_≡_}
 use mathlib.Core.Bool.{Bool, false, cond}
 use mathlib.Core.List.{List, map}
 use Prim.Native.Nat.{ℕ}
 use lib.Dec.{eqb, ltb}
 use lib.ListN.{length}
 use Rattle.jobfile.specs.Format.{word, noPair}
-use Rattle.jobfile.specs.Meaning.{Meaning, requestsRefusal, waitsRefusal, runsRefusal, runAt, fullRun, granted}
+use Rattle.jobfile.specs.Meaning.{Meaning, meaning, requestsRefusal, waitsRefusal, runsRefusal, runAt, fullRun, granted}
+use Rattle.jobfile.specs.Admitted.{Bytes}
 use Rattle.jobfile.specs.Written.{longestRuns}
 use Rattle.reader.specs.declared.Checked.{Checked}
 use Rattle.reader.specs.declared.sections.Records.{Records}
@@ -29,6 +32,12 @@ countsOf m =
       grants = length (m .job .schedule);
       runs = length (longestRuns (m .job .schedule));
     }
+
+-- An accepted file is played from its own bytes: where a record stands is told by the counts.
+pub record Playing (file : List ℕ) (counts : Checked) : Type 0 where
+  pub accepted : meaning file .number ≡ 0
+  pub bytes : Bytes file
+  pub checked : counts ≡ countsOf (meaning file)
 
 -- The requests of the file: the first refusal, or how many there are.
 unfoldable pub requestSectionOf : ℕ → ℕ → List (List ℕ) → Records

@@ -28,7 +28,7 @@ ghost use Rattle.jobfile.specs.declared.Run.{Run};
 ghost use Rattle.jobfile.specs.Format.{mostBytes};
 ghost use Rattle.jobfile.specs.Meaning.{headerRefusal, refused, meaning};
 ghost use Rattle.jobfile.specs.Written.{longestRuns};
-ghost use Rattle.reader.specs.Reader.{countsOf};
+ghost use Rattle.reader.specs.Reader.{countsOf, Playing};
 
 // What a check answers: 0 and the counts of the file's job, or a refusal's number and zero for every count.
 pub struct Checked {
@@ -105,32 +105,29 @@ pub fn check(file: &[u8]) -> Checked
     check_records(file)
 }
 
-// Request q of an accepted file.
-pub fn request_at(file: &[u8], q: u32) -> Request
-    requires { ⌜ meaning (now file) .number ≡ 0 ⌝ }
-    requires { ⌜ q < length (meaning (now file) .job .requests) ⌝ }
+// Request q of a file that is played.
+pub fn request_at(file: &[u8], counts: Checked, q: u32) -> Request
+    requires { ⌜ Playing (now file) counts ⌝ }
+    requires { ⌜ q < counts .requests ⌝ }
     ensures { λ r. ⌜ ((none : Request) → r ≡ getD (meaning (now (file .entry)) .job .requests) q none) ⌝ }
 {
     request_here(file, request_place(q))
 }
 
-// Pair number `index` of an accepted file, which has that many requests.
-pub fn wait_at(file: &[u8], requests: u32, index: u32) -> Wait
-    requires { ⌜ meaning (now file) .number ≡ 0 ⌝ }
-    requires { ⌜ requests ≡ length (meaning (now file) .job .requests) ⌝ }
-    requires { ⌜ index < length (meaning (now file) .job .waits) ⌝ }
+// Pair number `index` of a file that is played.
+pub fn wait_at(file: &[u8], counts: Checked, index: u32) -> Wait
+    requires { ⌜ Playing (now file) counts ⌝ }
+    requires { ⌜ index < counts .waits ⌝ }
     ensures { λ r. ⌜ ((none : Wait) → r ≡ getD (meaning (now (file .entry)) .job .waits) index none) ⌝ }
 {
-    wait_here(file, wait_place(requests, index))
+    wait_here(file, wait_place(counts.requests, index))
 }
 
-// Run number `index` of an accepted file, which has that many requests and pairs.
-pub fn run_at(file: &[u8], requests: u32, waits: u32, index: u32) -> Run
-    requires { ⌜ meaning (now file) .number ≡ 0 ⌝ }
-    requires { ⌜ requests ≡ length (meaning (now file) .job .requests) ⌝ }
-    requires { ⌜ waits ≡ length (meaning (now file) .job .waits) ⌝ }
-    requires { ⌜ index < length (longestRuns (meaning (now file) .job .schedule)) ⌝ }
+// Run number `index` of a file that is played.
+pub fn run_at(file: &[u8], counts: Checked, index: u32) -> Run
+    requires { ⌜ Playing (now file) counts ⌝ }
+    requires { ⌜ index < counts .runs ⌝ }
     ensures { λ r. ⌜ ((none : Run) → r ≡ getD (longestRuns (meaning (now (file .entry)) .job .schedule)) index none) ⌝ }
 {
-    run_here(file, run_place(requests, waits, index))
+    run_here(file, run_place(counts.requests, counts.waits, index))
 }

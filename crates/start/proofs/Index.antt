@@ -12,13 +12,15 @@ use native.Mathlib.Decide.{ℕ-discrete}
 use lib.ListN.{length, getD, set, replicate, length-set, getD-replicate}
 use lib.Seq.{getD-set-same, getD-set-other}
 use Rattle.reader.specs.declared.Checked.{Checked}
+use Rattle.reader.specs.Reader.{Playing}
 use Rattle.job.specs.Job.{mostHeads, mostRequests}
 use Rattle.job.specs.declared.Request.{Request}
 use Rattle.rules.specs.State.{noRequest, requestAt, seek}
 use Rattle.rules.proofs.Requests.{seek-absent}
-use Rattle.stepper.specs.Shown.{requestsIn, Playing}
+use Rattle.stepper.specs.Shown.{requestsIn}
 use Rattle.stepper.specs.Index.{Indexes}
-use Rattle.stepper.proofs.Seek.{seek-here, seek-on, seek-none, playing-count}
+use Rattle.reader.proofs.Playing.{playing-count}
+use Rattle.stepper.proofs.Seek.{seek-here, seek-on, seek-none}
 use Rattle.stepper.proofs.Reached.{playing-admitted}
 
 abbrev pub indexRoom : ℕ

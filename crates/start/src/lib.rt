@@ -16,11 +16,12 @@ ghost use Prim.Native.Nat.{_*_, _≤_};
 ghost use lib.ListN.{length, replicate};
 ghost use Rattle.word.specs.Word.{encode, nodeLimit};
 ghost use Rattle.job.specs.Job.{mostHeads};
+ghost use Rattle.reader.specs.Reader.{Playing};
 ghost use Rattle.mask.specs.Mask.{maskOf};
 ghost use Rattle.rules.specs.Table.{fresh};
 ghost use Rattle.rules.specs.State.{resting};
 ghost use Rattle.stepper.specs.Buffers.{rowsOf};
-ghost use Rattle.stepper.specs.Shown.{requestsIn, waitsIn, Playing};
+ghost use Rattle.stepper.specs.Shown.{requestsIn, waitsIn};
 ghost use Rattle.stepper.specs.Index.{Indexes};
 ghost use Rattle.start.specs.Start.{firstRequests, firstTask, atRest, isRequest};
 
@@ -81,7 +82,7 @@ pub fn successors(file: &[u8], counts: Checked) -> [u16; INDEX_ROOM]
     let mut q = requests;
     while 0 < q {
         q -= 1;
-        let request = reader::request_at(file, q);
+        let request = reader::request_at(file, counts, q);
         let h = request.head as usize;
         index[q as usize] = firsts[h];
         firsts[h] = q as u16;

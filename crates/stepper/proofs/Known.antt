@@ -8,6 +8,7 @@ use native.Mathlib.Omega.{arith}
 use lib.ListN.{getD}
 use Rattle.basics.proofs.Conditions.{split}
 use Rattle.reader.specs.declared.Checked.{Checked}
+use Rattle.reader.specs.Reader.{Playing}
 use Rattle.job.specs.Job.{mostHeads}
 use Rattle.process.specs.Process.{isResting, noWait}
 use Rattle.jobfile.specs.Meaning.{meaning}
@@ -16,7 +17,7 @@ use Rattle.rules.specs.Start.{Start}
 use Rattle.rules.specs.Step.{headAt}
 use Rattle.rules.specs.Waits.{pair}
 use Rattle.rules.proofs.Lowest.{lowest-found, lowest-told}
-use Rattle.stepper.specs.Shown.{Buffers, stateAfter, waitsIn, Playing, Standing}
+use Rattle.stepper.specs.Shown.{Buffers, stateAfter, waitsIn, Standing}
 use Rattle.stepper.specs.Waits.{WaitsFor, Known}
 use Rattle.stepper.proofs.Reached.{playing-admitted, reached}
 use Rattle.stepper.proofs.Served.{record-shown}

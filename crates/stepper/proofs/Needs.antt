@@ -13,6 +13,7 @@ use lib.ListN.{length, getD, set, drop, length-drop, length-set, length-map}
 use borrow.Author.Tests.{eqb-true, ltb-true, ne-eqb, not-true, not-false}
 use Rattle.basics.proofs.Conditions.{split, cond-both}
 use Rattle.reader.specs.declared.Checked.{Checked}
+use Rattle.reader.specs.Reader.{Playing}
 use Rattle.job.specs.declared.Request.{Request}
 use Rattle.job.specs.declared.Wait.{Wait}
 use Rattle.word.specs.Word.{decode, encode}
@@ -50,9 +51,9 @@ use Rattle.stepper.specs.declared.Granted.{Granted}
 use Rattle.table.specs.Touch.{Touchable}
 use Rattle.stepper.specs.Buffers.{rowIn, stored, rowsOf}
 use Rattle.stepper.specs.Shown.{Buffers, buffers, noted, shown, idleDone, usedDone, doneOf, stateAfter, historyAfter}
-use Rattle.stepper.specs.Shown.{requestsIn, waitsIn, Playing, Standing, Grantable, Stepped}
+use Rattle.stepper.specs.Shown.{requestsIn, waitsIn, Standing, Grantable, Stepped}
 use Rattle.stepper.specs.Waits.{frees, Renewable}
-use Rattle.stepper.proofs.Seek.{playing-count, playing-waits}
+use Rattle.reader.proofs.Playing.{playing-count, playing-waits}
 use Rattle.stepper.proofs.Lists.{length-rows}
 use Rattle.stepper.proofs.Room.{entries-few}
 use Rattle.stepper.proofs.Reached.{Reached, playing-admitted, playing-inside, reached}

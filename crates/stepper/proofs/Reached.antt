@@ -12,6 +12,7 @@ use native.Mathlib.Omega.{arith}
 use lib.ListN.{length, getD, take, drop, take-append-drop}
 use lib.Seq.{take-suc}
 use Rattle.reader.specs.declared.Checked.{Checked}
+use Rattle.reader.specs.Reader.{Playing}
 use Rattle.job.specs.declared.Request.{Request}
 use Rattle.job.specs.declared.Wait.{Wait}
 use Rattle.job.specs.Job.{Job, mostHeads}
@@ -28,7 +29,7 @@ use Rattle.rules.proofs.Invariant.{Invariant}
 use Rattle.rules.proofs.Theorem.{length-heads, run-prefix, started-invariant, initial-startable}
 use Rattle.rules.proofs.Laws.{run-heads}
 use Rattle.rules.proofs.Waits.{Unwaiting, start-unwaiting, run-unwaiting}
-use Rattle.stepper.specs.Shown.{Buffers, shown, startOf, stateAfter, historyAfter, requestsIn, waitsIn, Playing, Standing}
+use Rattle.stepper.specs.Shown.{Buffers, shown, startOf, stateAfter, historyAfter, requestsIn, waitsIn, Standing}
 
 pub record Reached (origin : Start) (qs : List Request) (ws : List Wait) (n : ℕ) (b : Buffers) (number : ℕ) (S : State)
     (past : List Happening) (lent : List ℕ) : Type 0 where

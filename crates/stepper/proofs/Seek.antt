@@ -12,9 +12,10 @@ use lib.ListN.{length, getD, drop-of-length-le}
 use lib.Seq.{drop-cons}
 use borrow.Author.Tests.{eq-eqb, ne-eqb}
 use Rattle.reader.specs.declared.Checked.{Checked}
+use Rattle.reader.proofs.Playing.{playing-count}
 use Rattle.job.specs.declared.Request.{Request}
 use Rattle.rules.specs.State.{noRequest, requestAt, seekIn, seek}
-use Rattle.stepper.specs.Shown.{requestsIn, waitsIn, Playing}
+use Rattle.stepper.specs.Shown.{requestsIn}
 use Rattle.stepper.specs.Index.{Successive}
 
 module _ (qs : List Request) (h q : ℕ) where
@@ -47,14 +48,6 @@ module _ {qs : List Request} {h from q : ℕ} (sought : Sought qs h from q) wher
   sought-none l =
       let all : length qs ≡ q = omega (arith, sought .within) in
       all ∙ sym (seek-none qs h q l) ∙ sought .same
-
--- the counts of an accepted file have the number of its requests
-pub playing-count : {file : List ℕ} {counts : Checked} → Playing file counts → counts .requests ≡ length (requestsIn file)
-playing-count playing = ap (λ k. k .requests) (playing .checked)
-
--- and of its pairs
-pub playing-waits : {file : List ℕ} {counts : Checked} → Playing file counts → counts .waits ≡ length (waitsIn file)
-playing-waits playing = ap (λ k. k .waits) (playing .checked)
 
 -- what an index of the requests has
 pub successor-indexed : {file successors : List ℕ} {counts : Checked} {h q : ℕ} → Successive file successors counts h q

@@ -8,8 +8,9 @@ use Prim.Native.Nat.{ℕ, suc, _<_}
 use lib.ListN.{length, getD}
 use Rattle.job.specs.declared.Request.{Request}
 use Rattle.reader.specs.declared.Checked.{Checked}
+use Rattle.reader.specs.Reader.{Playing}
 use Rattle.rules.specs.State.{requestAt, seek}
-use Rattle.stepper.specs.Shown.{requestsIn, Playing}
+use Rattle.stepper.specs.Shown.{requestsIn}
 
 pub record Indexes (qs : List Request) (successors : List ℕ) : Type 0 where
   pub successor : (q : ℕ) → q < length successors → q < length qs → getD successors q 0 ≡ seek qs (requestAt qs q .head) (suc q)

@@ -10,7 +10,6 @@
 --   startOf origin j          the rules' state of the job j before its first grant, from that start
 --   stateAfter origin j gs    the same after the grants gs
 --   historyAfter origin j gs  what those grants were, the newest first
---   Playing                   an accepted file, with its counts
 --   Standing                  the buffers show the state after the grants gs, and the next grant is the one of that number
 --   Grantable                 they do, for a grant to head h
 --   Stepped                   what a grant makes of the buffers, after the grants gs
@@ -29,10 +28,9 @@ use Rattle.process.specs.declared.Event.{Event}
 use Rattle.process.specs.Process.{waitingFor}
 use Rattle.linearization.specs.Entry.{flat}
 use Rattle.jobfile.specs.Meaning.{meaning}
-use Rattle.jobfile.specs.Admitted.{Bytes}
 use Rattle.mask.specs.Mask.{maskOf}
 use Rattle.reader.specs.declared.Checked.{Checked}
-use Rattle.reader.specs.Reader.{countsOf}
+use Rattle.reader.specs.Reader.{Playing}
 use Rattle.rules.specs.declared.Row.{Row}
 use Rattle.rules.specs.State.{State, start, hasWork, waitOf}
 use Rattle.rules.specs.Start.{Start, Initial}
@@ -109,11 +107,6 @@ requestsIn file = meaning file .job .requests
 -- So are the pairs.
 abbrev pub waitsIn : List ℕ → List Wait
 waitsIn file = meaning file .job .waits
-
-pub record Playing (file : List ℕ) (counts : Checked) : Type 0 where
-  pub accepted : meaning file .number ≡ 0
-  pub bytes : Bytes file
-  pub checked : counts ≡ countsOf (meaning file)
 
 pub record Grantable (file : List ℕ) (counts : Checked) (h number : ℕ) (b : Buffers) : Type 0 where
   pub playing : Playing file counts

@@ -6,8 +6,9 @@ use process::Task;
 use reader::Checked;
 ghost use mathlib.Core.Path.{_≡_};
 ghost use Prim.Native.Nat.{_<_};
+ghost use Rattle.reader.specs.Reader.{Playing};
 ghost use Rattle.rules.specs.Step.{ready, settled};
-ghost use Rattle.stepper.specs.Shown.{requestsIn, Playing};
+ghost use Rattle.stepper.specs.Shown.{requestsIn};
 ghost use Rattle.stepper.specs.Index.{Successive};
 
 // The head as a grant finds it: going on, or beginning its next request.
@@ -18,7 +19,7 @@ pub fn ready_head(file: &[u8], counts: Checked, head: Head) -> Head
 {
     if process::is_resting(head) {
         let number = head.task.request;
-        return process::begin(reader::request_at(file, number as u32), number);
+        return process::begin(reader::request_at(file, counts, number as u32), number);
     }
     head
 }

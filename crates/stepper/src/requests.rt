@@ -2,8 +2,9 @@
 use reader::Checked;
 ghost use mathlib.Core.Path.{_≡_};
 ghost use Prim.Native.Nat.{_+_, _≤_};
+ghost use Rattle.reader.specs.Reader.{Playing};
 ghost use Rattle.rules.specs.State.{seek};
-ghost use Rattle.stepper.specs.Shown.{requestsIn, Playing};
+ghost use Rattle.stepper.specs.Shown.{requestsIn};
 ghost use Rattle.stepper.specs.Index.{Successive};
 
 // The first request of head h from number `from` on, or the number of requests.
@@ -15,7 +16,7 @@ pub fn next_request(file: &[u8], counts: Checked, h: u32, from: u32) -> u32
     let requests = counts.requests;
     let mut q = from;
     while q < requests {
-        let request = reader::request_at(file, q);
+        let request = reader::request_at(file, counts, q);
         if request.head as u32 == h {
             return q;
         }

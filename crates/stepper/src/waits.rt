@@ -9,10 +9,11 @@ ghost use mathlib.Core.Bool.{cond};
 ghost use Prim.Native.Nat.{_+_, _*_, _≤_, _<_};
 ghost use lib.ListN.{length};
 ghost use Rattle.job.specs.Job.{mostHeads};
+ghost use Rattle.reader.specs.Reader.{Playing};
 ghost use Rattle.rules.specs.Report.{unfinished};
 ghost use Rattle.rules.specs.State.{lowestWait, waitOf};
 ghost use Rattle.stepper.specs.Buffers.{rowsOf};
-ghost use Rattle.stepper.specs.Shown.{waitsIn, noted, Playing};
+ghost use Rattle.stepper.specs.Shown.{waitsIn, noted};
 ghost use Rattle.stepper.specs.Waits.{Parted, frees, isDue};
 
 // The place of the first pair of request q, or where it would stand: the pairs rise, so that half of them go at each look.
@@ -24,7 +25,7 @@ fn first_pair(file: &[u8], counts: Checked, q: u32) -> u32
     let mut high = counts.waits;
     while low < high {
         let middle = low + (high - low) / 2;
-        let wait = reader::wait_at(file, counts.requests, middle);
+        let wait = reader::wait_at(file, counts, middle);
         if wait.later < q {
             low = middle + 1;
         } else {
@@ -50,7 +51,7 @@ pub fn lowest_wait(file: &[u8], counts: Checked, report: &[u32], q: u16) -> u16
 {
     let mut i = first_pair(file, counts, q as u32);
     while i < counts.waits {
-        let wait = reader::wait_at(file, counts.requests, i);
+        let wait = reader::wait_at(file, counts, i);
         if wait.later != q as u32 {
             return NO_WAIT;
         }

@@ -12,6 +12,7 @@ use lib.ListN.{length, getD, take, drop}
 use lib.Seq.{length-take-le, take-all}
 use lib.Count.{ones}
 use Rattle.reader.specs.declared.Checked.{Checked}
+use Rattle.reader.specs.Reader.{Playing}
 use Rattle.job.specs.declared.Request.{Request}
 use Rattle.job.specs.declared.Tally.{Tally}
 use Rattle.process.specs.declared.Head.{Head}
@@ -21,7 +22,7 @@ use Rattle.jobfile.proofs.Runs.{granted-longest}
 use Rattle.rules.specs.State.{State, hasWork, working, tallyOf}
 use Rattle.rules.specs.Start.{Start}
 use Rattle.rules.specs.Step.{step}
-use Rattle.stepper.specs.Shown.{startOf, stateAfter, requestsIn, waitsIn, Playing, Standing}
+use Rattle.stepper.specs.Shown.{startOf, stateAfter, requestsIn, waitsIn, Standing}
 use Rattle.stepper.proofs.Reached.{cut-granted, after-next, playing-admitted}
 use Rattle.turns.specs.declared.Progress.{Progress}
 use Rattle.turns.specs.Turns.{runsOf, scheduleIn, stateAt, remaining, countedOf, buffersOf, StandingAt, Turnable, Turned}

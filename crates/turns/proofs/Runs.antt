@@ -10,12 +10,12 @@ use native.Mathlib.Decide.{ℕ-discrete, decLt}
 use lib.ListN.{length, getD, drop, replicate}
 use borrow.Author.Tests.{eq-eqb, ne-eqb}
 use Rattle.reader.specs.declared.Checked.{Checked}
+use Rattle.reader.specs.Reader.{Playing}
 use Rattle.jobfile.specs.declared.Run.{Run}
 use Rattle.jobfile.specs.Format.{mostGrants}
 use Rattle.jobfile.specs.Meaning.{meaning, granted}
 use Rattle.jobfile.proofs.Runs.{Follows, longest-follow}
 use Rattle.jobfile.proofs.Places.{granted-next, granted-end, file-length, file-short, few-grants}
-use Rattle.stepper.specs.Shown.{Playing}
 use Rattle.stepper.proofs.Reached.{playing-admitted}
 use Rattle.turns.specs.declared.Cursor.{Cursor}
 use Rattle.turns.specs.Turns.{runsOf, noRun, openedOf, remaining, Openable}

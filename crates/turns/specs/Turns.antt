@@ -24,6 +24,7 @@ use lib.Count.{ones}
 use lib.Dec.{eqb}
 use lib.ListN.{length, getD, take, drop, replicate}
 use Rattle.reader.specs.declared.Checked.{Checked}
+use Rattle.reader.specs.Reader.{Playing}
 use Rattle.job.specs.declared.Tally.{Tally}
 use Rattle.job.specs.Job.{Job}
 use Rattle.process.specs.declared.Head.{Head}
@@ -35,7 +36,7 @@ use Rattle.rules.specs.Start.{Start}
 use Rattle.rules.specs.Step.{plus}
 use Rattle.rules.specs.Run.{happened}
 use Rattle.stepper.specs.declared.Done.{Done}
-use Rattle.stepper.specs.Shown.{Buffers, buffers, shown, doneOf, stateAfter, requestsIn, waitsIn, Playing, Standing}
+use Rattle.stepper.specs.Shown.{Buffers, buffers, shown, doneOf, stateAfter, requestsIn, waitsIn, Standing}
 use Rattle.turns.specs.declared.Cursor.{Cursor}
 use Rattle.turns.specs.declared.Progress.{Progress}
 

@@ -7,8 +7,9 @@ use stepper::grant;
 use word::Word;
 ghost use mathlib.Core.Path.{_≡_};
 ghost use Prim.Native.Nat.{_<_};
+ghost use Rattle.reader.specs.Reader.{Playing};
 ghost use Rattle.rules.specs.Step.{plus};
-ghost use Rattle.stepper.specs.Shown.{requestsIn, Playing};
+ghost use Rattle.stepper.specs.Shown.{requestsIn};
 ghost use Rattle.stepper.specs.Index.{Indexes};
 ghost use Rattle.turns.specs.Turns.{Addable, addedOf, countedOf, runsOf, openedOf, takenOf, Openable};
 ghost use Rattle.turns.specs.Turns.{buffersOf, Turnable, Turns, firstProgress, firstTally};
@@ -69,7 +70,7 @@ fn open_run(file: &[u8], counts: Checked, cursor: Cursor) -> Cursor
     ensures { λ r. ⌜ r ≡ openedOf (runsOf (now (file .entry))) cursor ⌝ }
 {
     if cursor.left == 0 {
-        let run = reader::run_at(file, counts.requests, counts.waits, cursor.next);
+        let run = reader::run_at(file, counts, cursor.next);
         return Cursor {
             next: cursor.next + 1,
             head: run.head as u32,

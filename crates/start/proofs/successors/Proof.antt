@@ -4,7 +4,7 @@ use Prim.Native.Nat.{_-_, _≤_, _<_}
 use native.Mathlib.Omega.{arith}
 use borrow.Author.Needs.{needs}
 use Rattle.job.specs.Job.{mostHeads, mostRequests}
-use Rattle.stepper.proofs.Seek.{playing-count}
+use Rattle.reader.proofs.Playing.{playing-count}
 use Rattle.rules.specs.State.{noRequest}
 use Rattle.stepper.specs.Shown.{requestsIn}
 use Rattle.start.proofs.Index.{Indexed, indexed-none, indexed-on, indexed-all, few-requests, few-heads}
@@ -12,10 +12,10 @@ use Rattle.start.proofs.successors.Statement.{statement}
 use Rattle.start.proofs.successors.Tie as tie
 
 abbrev Inv-loop : tie.InvT-loop
-Inv-loop file requests firsts₀ index₀ q₀ firsts index q = Indexed (requestsIn file) firsts index q
+Inv-loop file counts requests firsts₀ index₀ q₀ firsts index q = Indexed (requestsIn file) firsts index q
 
 abbrev μ-loop : tie.MeasureT-loop
-μ-loop file requests firsts₀ index₀ q₀ firsts index q = q
+μ-loop file counts requests firsts₀ index₀ q₀ firsts index q = q
 
 -- where the loop started, and what is known of the request at hand
 abbrev start : tie.In-loop Inv-loop μ-loop → tie.Start Inv-loop μ-loop
@@ -37,7 +37,7 @@ loop-holds : tie.Need-loop-holds Inv-loop μ-loop
 loop-holds c = indexed-none _ _ (playing-count (c .before .pre))
 
 request-at-requires : tie.Need-request-at-requires Inv-loop μ-loop
-request-at-requires c κs = (start c .pre .accepted, omega (arith, within c))
+request-at-requires c κs = (start c .pre, omega (arith, within c))
 
 mul-index : tie.Need-mul-index Inv-loop μ-loop
 mul-index c = omega (arith, head (c .before))

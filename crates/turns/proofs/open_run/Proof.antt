@@ -1,7 +1,7 @@
 -- `turns::open_run`: the next run where the one under way has no grant left.
 use native.Mathlib.Omega.{arith}
 use borrow.Author.Needs.{needs}
-use Rattle.stepper.proofs.Seek.{playing-count, playing-waits}
+use Rattle.reader.proofs.Playing.{playing-runs}
 use Rattle.turns.specs.Turns.{runsOf, noRun}
 use Rattle.turns.proofs.Runs.{runs-few, opens, stays-open}
 use Rattle.turns.proofs.open_run.Statement.{statement}
@@ -12,7 +12,7 @@ abbrev start : tie.Then1 → tie.Start
 start c = c .before .before .before
 
 run-at-requires : tie.Need-run-at-requires
-run-at-requires c κs = let p = start c .pre in (p .0 .accepted, (playing-count (p .0), (playing-waits (p .0), p .1 .there (c .if1 .taken))))
+run-at-requires c κs = let p = start c .pre in (p .0, omega (arith, p .1 .there (c .if1 .taken), playing-runs (p .0)))
 
 add-t6 : tie.Need-add-t6
 add-t6 c =

@@ -3,14 +3,11 @@ use mathlib.Core.Path.{sym, _∙_}
 use Rattle.rules.specs.State.{noRequest}
 use native.Mathlib.Omega.{arith}
 use borrow.Author.Needs.{needs}
-use Rattle.stepper.proofs.Seek.{playing-count}
 use Rattle.stepper.proofs.heads.ready_head.Statement.{statement}
 use Rattle.stepper.proofs.heads.ready_head.Tie as tie
 
 request-at-requires : tie.Need-request-at-requires
-request-at-requires c κs =
-    let p = c .before .before .before .pre in
-    (p .0 .accepted, omega (arith, p .1, playing-count (p .0)))
+request-at-requires c κs = let p = c .before .before .before .pre in (p .0, omega (arith, p .1))
 
 returns : tie.Need-returns
 returns c =

@@ -5,15 +5,16 @@ use native.Mathlib.Omega.{arith}
 use Rattle.rules.specs.State.{noRequest}
 use Prim.Native.Nat.{_-_}
 use Rattle.stepper.specs.Shown.{requestsIn}
-use Rattle.stepper.proofs.Seek.{Sought, sought-here, sought-on, sought-none, playing-count}
+use Rattle.reader.proofs.Playing.{playing-count}
+use Rattle.stepper.proofs.Seek.{Sought, sought-here, sought-on, sought-none}
 use Rattle.stepper.proofs.requests.next_request.Statement.{statement}
 use Rattle.stepper.proofs.requests.next_request.Tie as tie
 
 abbrev Inv-loop : tie.InvT-loop
-Inv-loop file h from requests q₀ q = Sought (requestsIn file) h from q
+Inv-loop file counts h from requests q₀ q = Sought (requestsIn file) h from q
 
 abbrev μ-loop : tie.MeasureT-loop
-μ-loop file h from requests q₀ q = requests - q
+μ-loop file counts h from requests q₀ q = requests - q
 
 -- where a request is looked at, and where the loop started
 abbrev looped : tie.After-request-at Inv-loop μ-loop → tie.At-loop Inv-loop μ-loop
@@ -26,7 +27,7 @@ loop-holds : tie.Need-loop-holds Inv-loop μ-loop
 loop-holds c = record { within = omega (arith, c .before .pre .1, playing-count (c .before .pre .0)); same = refl }
 
 request-at-requires : tie.Need-request-at-requires Inv-loop μ-loop
-request-at-requires c κs = let p = start (c .before) .pre .0 in (p .accepted, omega (arith, playing-count p))
+request-at-requires c κs = (start (c .before) .pre .0, omega arith)
 
 returns : tie.Need-returns Inv-loop μ-loop
 returns c =

@@ -5,7 +5,7 @@ use Prim.Native.Nat.{_-_}
 use Rattle.rules.specs.Waits.{pair}
 use Rattle.stepper.specs.Shown.{waitsIn}
 use Rattle.stepper.proofs.Reached.{playing-admitted}
-use Rattle.stepper.proofs.Seek.{playing-count, playing-waits}
+use Rattle.reader.proofs.Playing.{playing-waits}
 use Rattle.stepper.proofs.Pairs.{admitted-few, Halved, halved-all, halved-up, halved-down, halved-end}
 use Rattle.stepper.proofs.waits.first_pair.Statement.{statement}
 use Rattle.stepper.proofs.waits.first_pair.Tie as tie
@@ -35,7 +35,7 @@ add-middle c = omega (arith, c .before .loop .inv .within, admitted-few _ (playi
 wait-at-requires : tie.Need-wait-at-requires Inv-loop μ-loop
 wait-at-requires c κs =
     let p = start (c .before) .pre in
-    (p .accepted, (playing-count p, omega (arith, c .before .loop .inv .within)))
+    (p, omega (arith, c .before .loop .inv .within, playing-waits p))
 
 add-low : tie.Need-add-low Inv-loop μ-loop
 add-low c =

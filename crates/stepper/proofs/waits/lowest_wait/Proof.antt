@@ -7,12 +7,13 @@ use Prim.Native.Nat.{ℕ, _+_, _-_, _<_}
 use lib.ListN.{length, getD}
 use Rattle.job.specs.declared.Wait.{Wait}
 use Rattle.reader.specs.declared.Checked.{Checked}
+use Rattle.reader.specs.Reader.{Playing}
 use Rattle.rules.specs.Report.{unfinished}
 use Rattle.rules.specs.Waits.{pair}
 use Rattle.stepper.specs.Buffers.{rowsOf}
-use Rattle.stepper.specs.Shown.{waitsIn, Playing}
+use Rattle.stepper.specs.Shown.{waitsIn}
 use Rattle.stepper.proofs.Reached.{playing-admitted}
-use Rattle.stepper.proofs.Seek.{playing-count, playing-waits}
+use Rattle.reader.proofs.Playing.{playing-count, playing-waits}
 use Rattle.stepper.proofs.Pairs.{Scanned, scanned-start, scanned-here, scanned-on, scanned-past, scanned-end}
 use Rattle.stepper.proofs.waits.lowest_wait.Statement.{statement}
 use Rattle.stepper.proofs.waits.lowest_wait.Tie as tie
@@ -55,9 +56,7 @@ loop-holds : tie.Need-loop-holds Inv-loop μ-loop
 loop-holds c = scanned-start _ (c .first-pair .ensures)
 
 wait-at-requires : tie.Need-wait-at-requires Inv-loop μ-loop
-wait-at-requires c κs =
-    let p = start (c .before .before) .pre .0 in
-    (p .accepted, (playing-count p, omega (arith, c .if1 .taken, playing-waits p)))
+wait-at-requires c κs = (start (c .before .before) .pre .0, omega (arith, c .if1 .taken))
 
 returns : tie.Need-returns Inv-loop μ-loop
 returns c =
