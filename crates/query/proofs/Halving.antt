@@ -5,11 +5,11 @@
 -- Main law: halved-keeps; halved-admitted, the same of a table that is halved.
 use mathlib.Core.Path.{_≡_, refl, sym, _∙_, subst}
 use mathlib.Core.List.{List}
-use Prim.Native.Nat.{ℕ, _<_}
+use Prim.Native.Nat.{ℕ}
 use native.Mathlib.Omega.{arith}
 use lib.ListN.{length-set}
 use Rattle.word.specs.declared.Node.{Node}
-use Rattle.forest.proofs.Forest.{WellFormed, Labelled}
+use Rattle.forest.proofs.Forest.{Labelled}
 use Rattle.forest.proofs.Writes.{Changed}
 use Rattle.forest.proofs.Halving.{Halving, halving-ranks, halving-formed, halving-labelled}
 use Rattle.rules.specs.Table.{parent, rank}

@@ -1,45 +1,17 @@
--- What the loops of the code keep: a list is filled from the front, and a mask is built from its last flag.
+-- What the loop that makes a mask keeps: it is built from its last flag.
 --
---   Filled d value n i l            of the n places of l, those before i have their values
 --   Gathered flag numbers h mask    the mask has the flags of the numbers from place h on
 use mathlib.Core.Path.{_≡_, sym, ap, _∙_}
 use mathlib.Core.Bool.{Bool}
 use mathlib.Core.List.{List, map}
 use Prim.Native.Nat.{ℕ, zero, suc, _+_, _*_, _-_, _^_, _≤_, _<_}
 use native.Mathlib.Omega.{arith}
-use native.Mathlib.Decide.{ℕ-discrete}
-use lib.ListN.{length, getD, set, drop, length-set, length-drop, length-map, drop-of-length-le}
+use lib.ListN.{length, getD, drop, length-drop, length-map, drop-of-length-le}
 use lib.Pow.{pow-mono}
-use lib.Seq.{drop-cons, getD-set-same, getD-set-other, ext-getD}
+use lib.Seq.{drop-cons}
 use Rattle.job.specs.Job.{mostHeads}
 use Rattle.mask.specs.Mask.{bitOf, maskOf}
 use Rattle.mask.proofs.Laws.{mask-none, mask-more, mask-bound}
-
-pub record Filled {A : Type 0} (d : A) (value : ℕ → A) (n i : ℕ) (l : List A) : Type 0 where
-  pub size : length l ≡ n
-  pub filled : (j : ℕ) → j < i → getD l j d ≡ value j
-
-module _ {A : Type 0} (d : A) (value : ℕ → A) (n : ℕ) (l : List A) where
-  pub filled-none : length l ≡ n → Filled d value n 0 l
-  filled-none size = record { size = size; filled = λ j h. absurd (omega arith) }
-
-  -- one place more
-  pub filled-on : (i : ℕ) (v : A) → i < n → v ≡ value i → Filled d value n i l → Filled d value n (i + 1) (set l i v)
-  filled-on i v inside same before =
-      record { size = length-set l i v ∙ before .size; filled = λ j h. at j h (ℕ-discrete j i) }
-    where
-      at : (j : ℕ) → j < i + 1 → Dec (j ≡ i) → getD (set l i v) j d ≡ value j
-      at j h (yes e) = rw e (getD-set-same l i v d (omega (arith, before .size)) ∙ same)
-      at j h (no e) = getD-set-other l i j v d e ∙ before .filled j (omega arith)
-
-  -- every place
-  pub filled-all : (target : List A) → length target ≡ n → ((j : ℕ) → j < n → getD target j d ≡ value j)
-      → (i : ℕ) → n ≤ i → Filled d value n i l → l ≡ target
-  filled-all target size same i all done =
-      ext-getD d l target (done .size ∙ sym size)
-      (λ j h. done .filled j (omega (arith, done .size)) ∙ sym (same j (omega (arith, done .size))))
-
--- ---- the mask of the flags from h on
 
 pub record Gathered (flag : ℕ → Bool) (numbers : List ℕ) (h mask : ℕ) : Type 0 where
   pub within : h ≤ length numbers
