@@ -74,12 +74,7 @@ fn idled(heads: Heads, entries: u32, mask: u32) -> Granted
 
 // What a grant leaves that was used for a request.
 fn used(heads: Heads, entries: u32, mask: u32, event: Event) -> Granted
-    ensures { λ r. ⌜ r ≡ record {
-      heads = heads;
-      entries = entries;
-      mask = mask;
-      done = record { idle = false; failed = event .failed; linked = event .linked };
-    } ⌝ }
+    ensures { λ r. ⌜ r ≡ record { heads = heads; entries = entries; mask = mask; done = usedDone event } ⌝ }
 {
     Granted {
         heads,
