@@ -2,7 +2,7 @@
 --
 --   close-front              the bytes of a close that is not refused are what stands there
 --   request-section, wait-section, run-section   the sections of a file stand one behind the other
---   waits-rule, runs-rule    the pairs of an accepted file rise, and its runs follow the rules
+--   requests-rule, waits-rule, runs-rule   the requests of an accepted file are a job's, its pairs rise, its runs follow the rules
 --   written-job              the file of an accepted file's job is that file
 --   admitted-job             the job of an accepted file is admitted
 use mathlib.Core.Path.{_≡_, refl, _∙_, ap}
@@ -14,18 +14,27 @@ use lib.Seq.{drop-drop}
 use Rattle.jobfile.specs.declared.Run.{Run}
 use Rattle.jobfile.specs.Format.{jobMark, requestMark, waitMark, runMark, closeMark, jobSize, requestSize, waitSize, runSize}
 use Rattle.jobfile.specs.Format.{closeSize, word, wordBytes, wordSum, noPair}
-use Rattle.jobfile.specs.Meaning.{nodesIn, headsIn, requestAt, waitAt, runAt, runRefusal, fullRun, requestRecords, waitsStart}
+use Rattle.jobfile.specs.Meaning.{nodesIn, headsIn, requestAt, requestRefusal, waitAt, runAt, runRefusal, fullRun, requestRecords, waitsStart}
 use Rattle.jobfile.specs.Meaning.{waitRecords, runsStart, runRecords, closeStart, runsIn, jobIn}
 use Rattle.jobfile.specs.Written.{fileWith, balance, written}
 use Rattle.jobfile.specs.Admitted.{Admitted, Bytes}
 use Rattle.jobfile.proofs.Refusals.{Paired}
-use Rattle.jobfile.proofs.Passed.{requests-few, each-serves, wait-passed, run-passed, ClosePassed, FilePassed}
+use Rattle.jobfile.proofs.Passed.{request-passed, wait-passed, run-passed, ClosePassed, FilePassed}
 use Rattle.jobfile.proofs.Records.{Section, records-section, bytes-drop, section-front}
-use Rattle.jobfile.proofs.Chains.{section-chain}
+use Rattle.jobfile.proofs.Chains.{latest, counted, section-chain}
+use Rattle.jobfile.proofs.Requests.{Asked, Asking, asking-each, asking-few}
 use Rattle.jobfile.proofs.Pairs.{Rising, rising-each, rising-next}
 use Rattle.jobfile.proofs.Runs.{Following, Follows, longest-granted, granted-below}
 use Rattle.jobfile.proofs.Layouts.{word-at, mark-front, requestLayout, waitLayout, runLayout}
 use Rattle.jobfile.proofs.Forward.{sum-parts}
+
+-- A request that is not refused is one of a job's.
+request-asked : (nodes heads number : ℕ) (t : List ℕ) → requestRefusal nodes heads number t ≡ 0
+    → Asked nodes heads number (requestAt t)
+request-asked nodes heads number t e =
+    let p = request-passed nodes heads number t e in
+    let f = p .fields in
+    record { few = p .counted; serves = record { head = f .head; x = f .x; y = f .y } }
 
 -- A run that is not refused follows the rules: it is a byte.
 run-follows : (heads : ℕ) (before : Run) (t : List ℕ) → Bytes t → runRefusal heads before t ≡ 0 → Following heads before (runAt t)
@@ -51,15 +60,20 @@ pub run-section : (s : List ℕ) → Section runSize runMark (drop (runsStart s)
 run-section s = rw drop-drop at (records-section runSize runMark (omega arith) refl (drop (runsStart s) s))
 
 module _ (s : List ℕ) (b : Bytes s) (p : FilePassed s) where
+  pub requests-rule : Asking (nodesIn s) (headsIn s) 0 (map requestAt (requestRecords s))
+  requests-rule =
+      section-chain (requestLayout (nodesIn s) (headsIn s)) (Asked (nodesIn s) (headsIn s)) counted (λ number t. refl)
+      (λ number t b e. request-asked (nodesIn s) (headsIn s) number t e) 0 (request-section s) (bytes-drop jobSize s b) (p .requests)
+
   pub waits-rule : Rising (length (requestRecords s)) noPair (map waitAt (waitRecords s))
   waits-rule =
       let count = length (requestRecords s) in
-      section-chain (waitLayout count) (Paired count) (λ before t. refl) (λ before t b e. wait-passed count before t e .pair)
+      section-chain (waitLayout count) (Paired count) latest (λ before t. refl) (λ before t b e. wait-passed count before t e .pair)
       noPair (wait-section s) (bytes-drop (waitsStart s) s b) (p .waits)
 
   pub runs-rule : Follows (headsIn s) fullRun (runsIn s)
   runs-rule =
-      section-chain (runLayout (headsIn s)) (Following (headsIn s)) (λ before t. refl) (run-follows (headsIn s))
+      section-chain (runLayout (headsIn s)) (Following (headsIn s)) latest (λ before t. refl) (run-follows (headsIn s))
       fullRun (run-section s) (bytes-drop (runsStart s) s b) (p .runs)
 
   file-front : fileWith (jobIn s) (word (drop 2 (drop (closeStart s) s))) ≡ s
@@ -96,8 +110,8 @@ module _ (s : List ℕ) (b : Bytes s) (p : FilePassed s) where
         few-nodes = p .header .sizes .few-nodes;
         some-heads = p .header .sizes .some-heads;
         few-heads = p .header .sizes .few-heads;
-        few-requests = rw length-map (omega (arith, requests-few (nodesIn s) (headsIn s) 0 (requestRecords s) (omega arith) (p .requests)));
-        each-request = each-serves (nodesIn s) (headsIn s) 0 (requestRecords s) (p .requests);
+        few-requests = omega (arith, asking-few (nodesIn s) (headsIn s) 0 (map requestAt (requestRecords s)) (omega arith) requests-rule);
+        each-request = asking-each (nodesIn s) (headsIn s) 0 (map requestAt (requestRecords s)) requests-rule;
         each-wait = rw (length-map (requestRecords s) requestAt)
             (rising-each (length (requestRecords s)) noPair (map waitAt (waitRecords s)) waits-rule);
         rising = rising-next (length (requestRecords s)) noPair (map waitAt (waitRecords s)) waits-rule;

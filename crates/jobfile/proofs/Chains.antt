@@ -1,15 +1,20 @@
--- Chains: lists in which each keeps a rule with the one before it, and sections whose records are checked so, pairs and runs.
+-- Chains: lists in which each keeps a rule with what those before it leave, and sections whose records are checked so.
 --
---   Chained R b l       each of l keeps the rule R with the one before it; b stands before the first
+--   Chained R next b l  each of l keeps the rule R with what those before it leave; b stands before the first
+--   latest, counted     what they leave: the one before it, of pairs and runs; how many there are, of requests
 --   chained-each        what the rule says of one alone holds of each
 --   chained-next        the rule holds of each and the next
 --   chained             from the rule of the first, and of each and the next
+--   counted-at          the rule holds of each with its number
+--   counted-all         and from that of each
+--   counted-few         where the rule bounds the number, there are few
 --   chain-passes        written records that keep the rule are not refused
 --   section-chain       records that are not refused keep it
 use mathlib.Core.Path.{_≡_}
 use mathlib.Core.List.{List, [], _∷_, _++_, map}
-use Prim.Native.Nat.{ℕ, zero, suc, _<_}
+use Prim.Native.Nat.{ℕ, zero, suc, _+_, _≤_, _<_}
 use native.Mathlib.Omega.{arith}
+use native.Mathlib.Nat.{add-zero}
 use lib.ListN.{length, getD}
 use Rattle.jobfile.specs.Meaning.{sectionRefusal}
 use Rattle.jobfile.specs.Written.{recordsBytes}
@@ -18,18 +23,25 @@ use Rattle.jobfile.proofs.Refusals.{through}
 use Rattle.jobfile.proofs.Records.{Section, Layout, Passes, refusal, bytes-drop}
 use Rattle.jobfile.proofs.Records.Section.{over, more}
 
-abbrev pub Chained : {A : Type 0} → (A → A → Type 0) → A → List A → Type 0
-Chained R before [] = Unit {0}
-Chained R before (a ∷ l) = R before a × Chained R a l
+abbrev pub Chained : {S A : Type 0} → (S → A → Type 0) → (S → A → S) → S → List A → Type 0
+Chained R next before [] = Unit {0}
+Chained R next before (a ∷ l) = R before a × Chained R next (next before a) l
 
-module _ {A : Type 0} (R : A → A → Type 0) where
-  pub chained-each : (P : A → Type 0) → ((before a : A) → R before a → P a) → (before : A) (l : List A) → Chained R before l
+abbrev pub latest : {A : Type 0} → A → A → A
+latest before a = a
+
+abbrev pub counted : {A : Type 0} → ℕ → A → ℕ
+counted number a = number + 1
+
+module _ {S A : Type 0} (R : S → A → Type 0) (next : S → A → S) where
+  pub chained-each : (P : A → Type 0) → ((before : S) (a : A) → R before a → P a) → (before : S) (l : List A) → Chained R next before l
       → (i : ℕ) (none : A) → i < length l → P (getD l i none)
   chained-each P alone before [] c i none l = absurd (omega arith)
   chained-each P alone before (a ∷ rest) c zero none l = alone before a (c .0)
-  chained-each P alone before (a ∷ rest) c (suc i) none l = chained-each P alone a rest (c .1) i none (omega arith)
+  chained-each P alone before (a ∷ rest) c (suc i) none l = chained-each P alone (next before a) rest (c .1) i none (omega arith)
 
-  pub chained-next : (before : A) (l : List A) → Chained R before l
+module _ {A : Type 0} (R : A → A → Type 0) where
+  pub chained-next : (before : A) (l : List A) → Chained R latest before l
       → (i : ℕ) (none : A) → suc i < length l → R (getD l i none) (getD l (suc i) none)
   chained-next before [] c i none l = absurd (omega arith)
   chained-next before (a ∷ []) c i none l = absurd (omega arith)
@@ -37,23 +49,49 @@ module _ {A : Type 0} (R : A → A → Type 0) where
   chained-next before (a ∷ b ∷ rest) c (suc i) none l = chained-next a (b ∷ rest) (c .1) i none (omega arith)
 
   pub chained : (before : A) (l : List A) → ((none : A) → 0 < length l → R before (getD l 0 none))
-      → ((i : ℕ) (none : A) → suc i < length l → R (getD l i none) (getD l (suc i) none)) → Chained R before l
+      → ((i : ℕ) (none : A) → suc i < length l → R (getD l i none) (getD l (suc i) none)) → Chained R latest before l
   chained before [] first next = tt
   chained before (a ∷ l) first next =
       (first a (omega arith), chained a l (λ none h. next 0 none (omega arith)) (λ i none h. next (suc i) none (omega arith)))
 
--- The one before a record is what the record before it is read as.
-module _ {A : Type 0} (k : Layout A A) (R : A → A → Type 0) (kept : (before : A) (t : List ℕ) → k .next before t ≡ k .at t) where
-  pub chain-passes : ((before a : A) (t : List ℕ) → R before a → k .check before (k .bytes a ++ t) ≡ 0)
-      → (before : A) (l : List A) (t : List ℕ) → Chained R before l → Passes k t before l
+module _ {A : Type 0} (R : ℕ → A → Type 0) where
+  -- one number more
+  shift : (number i : ℕ) → number + 1 + i ≡ number + suc i
+  shift number i = omega arith
+
+  pub counted-at : (number : ℕ) (l : List A) → Chained R counted number l
+      → (i : ℕ) (none : A) → i < length l → R (number + i) (getD l i none)
+  counted-at number [] c i none l = absurd (omega arith)
+  counted-at number (a ∷ rest) c zero none l = rw add-zero (c .0)
+  counted-at number (a ∷ rest) c (suc i) none l = rw (← shift number i) (counted-at (number + 1) rest (c .1) i none (omega arith))
+
+  pub counted-all : (number : ℕ) (l : List A) → ((i : ℕ) (none : A) → i < length l → R (number + i) (getD l i none))
+      → Chained R counted number l
+  counted-all number [] each = tt
+  counted-all number (a ∷ l) each = (
+    rw add-zero at (each 0 a (omega arith)),
+    counted-all (number + 1) l (λ i none h. rw (shift number i) (each (suc i) none (omega arith))),
+  )
+
+  pub counted-few : (most : ℕ) → ((number : ℕ) (a : A) → R number a → number < most) → (number : ℕ) (l : List A) → number ≤ most
+      → Chained R counted number l → number + length l ≤ most
+  counted-few most bounds number [] few c = omega arith
+  counted-few most bounds number (a ∷ l) few c =
+      omega (arith, counted-few most bounds (number + 1) l (omega (arith, bounds number a (c .0))) (c .1))
+
+-- What the records before one leave is told by what they are read as.
+module _ {S A : Type 0} (k : Layout A S) (R : S → A → Type 0) (next : S → A → S)
+    (kept : (before : S) (t : List ℕ) → k .next before t ≡ next before (k .at t)) where
+  pub chain-passes : ((before : S) (a : A) (t : List ℕ) → R before a → k .check before (k .bytes a ++ t) ≡ 0)
+      → (before : S) (l : List A) (t : List ℕ) → Chained R next before l → Passes k t before l
   chain-passes passes before [] t c = tt
   chain-passes passes before (a ∷ l) t c =
       let rest = recordsBytes (k .bytes) l ++ t in
-      (passes before a rest (c .0), rw (kept, k .back) (chain-passes passes a l t (c .1)))
+      (passes before a rest (c .0), rw (kept, k .back) (chain-passes passes (next before a) l t (c .1)))
 
-  pub section-chain : ((before : A) (t : List ℕ) → Bytes t → k .check before t ≡ 0 → R before (k .at t))
-      → {t rest : List ℕ} {ts : List (List ℕ)} (before : A) → Section (k .size) (k .mark) t ts rest → Bytes t
-      → refusal k before ts ≡ 0 → Chained R before (map (k .at) ts)
+  pub section-chain : ((before : S) (t : List ℕ) → Bytes t → k .check before t ≡ 0 → R before (k .at t))
+      → {t rest : List ℕ} {ts : List (List ℕ)} (before : S) → Section (k .size) (k .mark) t ts rest → Bytes t
+      → refusal k before ts ≡ 0 → Chained R next before (map (k .at) ts)
   unfolding sectionRefusal
   section-chain rule before over b e = tt
   section-chain rule {t} before (more m s) b e =

@@ -19,10 +19,11 @@ use Rattle.jobfile.specs.Meaning.{runsStart, runRecords, closeStart, fil
 use Rattle.jobfile.specs.Written.{requestsBytes, waitsBytes, runsBytes, longestRuns, fileWith, balance, written}
 use Rattle.jobfile.specs.Admitted.{Admitted}
 use Rattle.jobfile.proofs.Refusals.{sized-passes}
+use Rattle.jobfile.proofs.Requests.{asking-all}
 use Rattle.jobfile.proofs.Pairs.{rising-all}
 use Rattle.jobfile.proofs.Runs.{granted-longest, longest-follow}
 use Rattle.jobfile.proofs.Records.{length-records, section-other, written-read, written-count, written-behind, written-passes}
-use Rattle.jobfile.proofs.Layouts.{word-back, requestLayout, waitLayout, runLayout, served-pass, rising-pass, following-pass}
+use Rattle.jobfile.proofs.Layouts.{word-back, requestLayout, waitLayout, runLayout, asking-pass, rising-pass, following-pass}
 
 -- The close with the balance w.
 abbrev close : ℕ → List ℕ
@@ -128,7 +129,8 @@ module _ (j : Job) (w : ℕ) (a : Admitted j) where
   requests-pass =
       rw (nodes-here, heads-here)
       (written-passes (requestLayout (j .nodes) (j .heads)) file jobSize (j .requests) behind-requests requests-here no-request 0
-      (served-pass (j .nodes) (j .heads) 0 (j .requests) behind-requests (a .each-request) (omega arith)))
+      (asking-pass (j .nodes) (j .heads) 0 (j .requests) behind-requests
+      (asking-all (j .nodes) (j .heads) (j .requests) (a .few-requests) (a .each-request))))
 
   waits-pass : waitsRefusal (length (requestRecords file)) noPair (waitRecords file) ≡ 0
   waits-pass =

@@ -5,12 +5,12 @@
 --   requestLayout n h       a request of a job with n nodes and h heads, checked with the number of requests before it
 --   waitLayout q            a pair of a job with q requests, checked with the pair before it
 --   runLayout h             a run of a job with h heads, checked with the run before it; where only the bytes matter, n, q and h are 0
---   served-pass             written requests that are served, and at most 512, are not refused
+--   asking-pass             written requests that are a job's are not refused
 --   rising-pass             nor are written pairs that rise
 --   following-pass          nor are written runs that follow the rules
 use mathlib.Core.Path.{_≡_, refl, sym, ap, _∙_}
 use mathlib.Core.List.{List, [], _∷_, _++_}
-use Prim.Native.Nat.{ℕ, suc, _+_, _*_, _%_, _/_, _≤_, _<_}
+use Prim.Native.Nat.{ℕ, _+_, _*_, _%_, _/_, _≤_}
 use native.Mathlib.Omega.{arith}
 use lib.ListN.{length, getD, drop, length-drop}
 use lib.Seq.{drop-drop, drop-cons}
@@ -21,11 +21,12 @@ use Rattle.jobfile.specs.declared.Run.{Run}
 use Rattle.jobfile.specs.Format.{requestMark, waitMark, runMark, requestSize, waitSize, runSize, word, wordBytes, pairRefusal}
 use Rattle.job.specs.Job.{mostRequests}
 use Rattle.jobfile.specs.Meaning.{fieldsAt, requestAt, requestRefusal, waitAt, waitRefusal, runAt, runRefusal}
-use Rattle.jobfile.specs.Written.{requestBytes, requestsBytes, waitBytes, runBytes}
-use Rattle.jobfile.specs.Admitted.{Serves, Bytes}
+use Rattle.jobfile.specs.Written.{requestBytes, waitBytes, runBytes}
+use Rattle.jobfile.specs.Admitted.{Bytes}
 use Rattle.jobfile.proofs.KindNumbers.{kind-back, kind-written, some-kind, few-kinds}
 use Rattle.jobfile.proofs.Refusals.{Fit, fit-passes, Paired, paired-passes}
-use Rattle.jobfile.proofs.Chains.{chain-passes}
+use Rattle.jobfile.proofs.Chains.{latest, counted, chain-passes}
+use Rattle.jobfile.proofs.Requests.{Asked, Asking}
 use Rattle.jobfile.proofs.Pairs.{Rising}
 use Rattle.jobfile.proofs.Runs.{Following, Follows}
 use Rattle.jobfile.proofs.Passed.{RequestPassed, request-passed, wait-passed, run-passed}
@@ -57,10 +58,11 @@ pair-after t l = sym (drop-cons t 2 0 (omega arith) ∙ ap (λ (u : List ℕ). g
 pub request-back : (q : Request) (t : List ℕ) → requestAt (requestBytes q ++ t) ≡ q
 request-back q t = λ i. record { head = q .head; kind = kind-back (q .kind) i; x = word-back (q .x) i; y = word-back (q .y) i }
 
-request-passes : (nodes heads number : ℕ) (q : Request) (t : List ℕ) → Serves nodes heads q → number < mostRequests
+request-passes : (nodes heads number : ℕ) (q : Request) (t : List ℕ) → Asked nodes heads number q
     → requestRefusal nodes heads number (requestBytes q ++ t) ≡ 0
 unfolding requestRefusal
-request-passes nodes heads number q t s l =
+request-passes nodes heads number q t a =
+    let s = a .serves in
     let u : List ℕ = requestBytes q ++ t in
     let f : Fit nodes heads (fieldsAt u) = record {
       head = s .head;
@@ -69,7 +71,7 @@ request-passes nodes heads number q t s l =
       x = rw word-back (s .x);
       y = rw word-back (s .y);
     } in
-    rw (le-ltb (length u) requestSize (omega arith), lt-leb mostRequests number l) (fit-passes nodes heads (fieldsAt u) f)
+    rw (le-ltb (length u) requestSize (omega arith), lt-leb mostRequests number (a .few)) (fit-passes nodes heads (fieldsAt u) f)
 
 pub wait-back : (w : Wait) (t : List ℕ) → waitAt (waitBytes w ++ t) ≡ w
 wait-back w t = λ i. record { later = word-back (w .later) i; earlier = word-back (w .earlier) i }
@@ -158,19 +160,15 @@ runLayout heads =
       front = λ before t e. run-front t (run-passed heads before t e .whole);
     }
 
-pub served-pass : (nodes heads number : ℕ) (qs : List Request) (t : List ℕ)
-    → ((q : ℕ) (none : Request) → q < length qs → Serves nodes heads (getD qs q none))
-    → number + length qs ≤ mostRequests → Passes (requestLayout nodes heads) t number qs
-served-pass nodes heads number [] t each l = tt
-served-pass nodes heads number (q ∷ qs) t each l = (
-  request-passes nodes heads number q (requestsBytes qs ++ t) (each 0 q (omega arith)) (omega arith),
-  served-pass nodes heads (number + 1) qs t (λ i none h. each (suc i) none (omega arith)) (omega arith),
-)
+pub asking-pass : (nodes heads number : ℕ) (qs : List Request) (t : List ℕ) → Asking nodes heads number qs
+    → Passes (requestLayout nodes heads) t number qs
+asking-pass nodes heads =
+    chain-passes (requestLayout nodes heads) (Asked nodes heads) counted (λ number t. refl) (request-passes nodes heads)
 
 pub rising-pass : (count : ℕ) (before : Wait) (ws : List Wait) (t : List ℕ) → Rising count before ws
     → Passes (waitLayout count) t before ws
-rising-pass count = chain-passes (waitLayout count) (Paired count) (λ before t. refl) (wait-passes count)
+rising-pass count = chain-passes (waitLayout count) (Paired count) latest (λ before t. refl) (wait-passes count)
 
 pub following-pass : (heads : ℕ) (before : Run) (rs : List Run) (t : List ℕ) → Follows heads before rs
     → Passes (runLayout heads) t before rs
-following-pass heads = chain-passes (runLayout heads) (Following heads) (λ before t. refl) (run-passes heads)
+following-pass heads = chain-passes (runLayout heads) (Following heads) latest (λ before t. refl) (run-passes heads)

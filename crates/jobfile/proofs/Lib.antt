@@ -6,6 +6,7 @@ pub mod KindNumbers
 mod Sums
 pub mod Records
 pub mod Chains
+pub mod Requests
 pub mod Pairs
 pub mod Runs
 pub mod Passed

@@ -20,18 +20,18 @@ use Rattle.jobfile.specs.Format.{risesTo, pairRefusal, noPair}
 use Rattle.jobfile.specs.Draft.{pairsRefusal}
 use Rattle.jobfile.specs.Admitted.{Pairs}
 use Rattle.jobfile.proofs.Refusals.{through, Paired, paired, paired-passes}
-use Rattle.jobfile.proofs.Chains.{Chained, chained-each, chained-next, chained}
+use Rattle.jobfile.proofs.Chains.{Chained, latest, chained-each, chained-next, chained}
 
 pub rises-equal : (before w : Wait) → before .later ≡ w .later → risesTo before w ≡ ltb (before .earlier) (w .earlier)
 rises-equal before w same = rw (le-ltb (before .later) (w .later) (omega arith), eq-eqb (before .later) (w .later) same)
 
 abbrev pub Rising : ℕ → Wait → List Wait → Type 0
-Rising count = Chained (Paired count)
+Rising count = Chained (Paired count) latest
 
 module _ (count : ℕ) where
   pub rising-each : (before : Wait) (ws : List Wait) → Rising count before ws
       → (i : ℕ) (none : Wait) → i < length ws → Pairs count (getD ws i none)
-  rising-each = chained-each (Paired count) (Pairs count) (λ before w p. record { later = p .later; earlier = p .earlier })
+  rising-each = chained-each (Paired count) latest (Pairs count) (λ before w p. record { later = p .later; earlier = p .earlier })
 
   pub rising-next : (before : Wait) (ws : List Wait) → Rising count before ws
       → (i : ℕ) (none : Wait) → suc i < length ws → risesTo (getD ws i none) (getD ws (suc i) none) ≡ true

@@ -1,26 +1,22 @@
 -- What it says that a record, or a whole file, is not refused: one record of facts for each check.
 --
 --   RequestPassed, WaitPassed, RunPassed, ClosePassed, HeaderPassed, FilePassed   the facts, by what is checked
---   requests-few        requests that are not refused are at most 512
---   each-serves         and each is served by one of the heads, on two of the nodes
 use mathlib.Core.Path.{_≡_}
 use mathlib.Core.Bool.{false, not}
-use mathlib.Core.List.{List, [], _∷_, map}
-use Prim.Native.Nat.{ℕ, zero, suc, _+_, _%_, _≤_, _<_}
+use mathlib.Core.List.{List}
+use Prim.Native.Nat.{ℕ, _%_, _≤_, _<_}
 use native.Mathlib.Omega.{arith}
 use lib.Dec.{eqb, ltb, leb}
 use lib.ListN.{length, getD, drop}
 use borrow.Author.Tests.{eqb-true, eqb-false, ltb-false, leb-false, not-false}
-use Rattle.job.specs.declared.Request.{Request}
 use Rattle.job.specs.declared.Wait.{Wait}
 use Rattle.jobfile.specs.declared.Run.{Run}
 use Rattle.jobfile.specs.Format.{jobMark, closeMark, jobSize, requestSize, waitSize, runSize, closeSize, mostBytes, word, wordSum}
 use Rattle.job.specs.Job.{mostRequests}
 use Rattle.jobfile.specs.Format.{noPair, extends, lengthRefusal}
-use Rattle.jobfile.specs.Meaning.{sectionRefusal, nodesIn, headsIn, headerRefusal, fieldsAt, requestAt, requestRefusal}
+use Rattle.jobfile.specs.Meaning.{nodesIn, headsIn, headerRefusal, fieldsAt, requestRefusal}
 use Rattle.jobfile.specs.Meaning.{requestsRefusal, waitAt, waitRefusal, waitsRefusal, runRefusal, runsRefusal, fullRun, closeRefusal}
 use Rattle.jobfile.specs.Meaning.{balanceRefusal, requestRecords, waitRecords, runRecords, closeStart, fileRefusal}
-use Rattle.jobfile.specs.Admitted.{Serves}
 use Rattle.jobfile.proofs.Refusals.{passed, through, Sized, sized, Fit, fit, Paired, paired}
 
 pub record RequestPassed (nodes heads number : ℕ) (t : List ℕ) : Type 0 where
@@ -38,26 +34,6 @@ request-passed nodes heads number t e =
       counted = leb-false mostRequests number (b .test);
       fields = fit nodes heads (fieldsAt t) (b .rest);
     }
-
-pub requests-few : (nodes heads number : ℕ) (ts : List (List ℕ)) → number ≤ mostRequests → requestsRefusal nodes heads number ts ≡ 0
-    → number + length ts ≤ mostRequests
-unfolding sectionRefusal
-requests-few nodes heads number [] l e = omega arith
-requests-few nodes heads number (t ∷ ts) l e =
-    let p = through _ _ e in
-    let q = request-passed nodes heads number t (p .first) in
-    omega (arith, requests-few nodes heads (number + 1) ts (omega arith) (p .second))
-
-pub each-serves : (nodes heads number : ℕ) (ts : List (List ℕ)) → requestsRefusal nodes heads number ts ≡ 0
-    → (q : ℕ) (none : Request) → q < length (map requestAt ts) → Serves nodes heads (getD (map requestAt ts) q none)
-unfolding sectionRefusal
-each-serves nodes heads number [] e q none l = absurd (omega arith)
-each-serves nodes heads number (t ∷ ts) e zero none l =
-    let f = request-passed nodes heads number t (through _ _ e .first) .fields in
-    record { head = f .head; x = f .x; y = f .y }
-each-serves nodes heads number (t ∷ ts) e (suc q) none l =
-    let p = through (requestRefusal nodes heads number t) _ e in
-    each-serves nodes heads (number + 1) ts (p .second) q none (omega arith)
 
 pub record WaitPassed (count : ℕ) (before : Wait) (t : List ℕ) : Type 0 where
   pub whole : waitSize ≤ length t

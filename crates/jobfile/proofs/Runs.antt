@@ -24,7 +24,7 @@ use Rattle.jobfile.specs.declared.Run.{Run}
 use Rattle.jobfile.specs.Format.{mostGrants, extends}
 use Rattle.jobfile.specs.Meaning.{granted}
 use Rattle.jobfile.specs.Written.{runsFrom, longestRuns}
-use Rattle.jobfile.proofs.Chains.{Chained}
+use Rattle.jobfile.proofs.Chains.{Chained, latest}
 
 -- A run of n grants for the head h.
 abbrev run : ℕ → ℕ → Run
@@ -70,7 +70,7 @@ pub record Following (heads : ℕ) (before r : Run) : Type 0 where
   pub apart : extends before (r .head) ≡ false
 
 abbrev pub Follows : ℕ → Run → List Run → Type 0
-Follows heads = Chained (Following heads)
+Follows heads = Chained (Following heads) latest
 
 abbrev pub Below : ℕ → List ℕ → Type 0
 Below heads gs = (g none : ℕ) → g < length gs → getD gs g none < heads
