@@ -3,6 +3,9 @@
 --   Passing t n           one of the numbers below n that pass
 --   count-in, count-out   one number more: it passes, or it does not
 --   count-next            one number more counts no less
+--   count-grows           nor does any higher limit
+--   count-before          a number that passes is counted before a higher one is reached
+--   count-apart           so numbers that pass have different counts below them
 --   count-le              at most every number passes
 --   count-all             every number passes
 --   count-none            no number passes
@@ -20,7 +23,7 @@ use mathlib.Core.Logic.{_≢_}
 use mathlib.Core.Bool.{Bool, true, false, cond, true≢false}
 use Prim.Native.Nat.{ℕ, zero, suc, _+_, _≤_, _<_}
 use native.Mathlib.Omega.{arith}
-use native.Mathlib.Decide.{ℕ-discrete}
+use native.Mathlib.Decide.{ℕ-discrete, decLt}
 use Rattle.basics.specs.Count.{count}
 use Rattle.basics.proofs.Conditions.{split}
 
@@ -32,6 +35,25 @@ count-out t n e = rw e
 
 pub count-next : (t : ℕ → Bool) (n : ℕ) → count t n ≤ count t (suc n)
 count-next t n = split (t n) (λ e. omega (arith, count-in t n e)) (λ e. omega (arith, count-out t n e))
+
+pub count-grows : (t : ℕ → Bool) (m n : ℕ) → m ≤ n → count t m ≤ count t n
+count-grows t m zero l = let none : m ≡ 0 = omega arith in omega (arith, ap (count t) none)
+count-grows t m (suc n) l = go (decLt m (suc n)) (count-grows t m n)
+  where
+    go : Dec (m < suc n) → (m ≤ n → count t m ≤ count t n) → count t m ≤ count t (suc n)
+    go (yes h) below = omega (arith, below (omega arith), count-next t n)
+    go (no h) below = let last : m ≡ suc n = omega arith in omega (arith, ap (count t) last)
+
+pub count-before : (t : ℕ → Bool) (p q : ℕ) → t p ≡ true → p < q → count t p < count t q
+count-before t p q e l = omega (arith, count-in t p e, count-grows t (suc p) q l)
+
+pub count-apart : (t : ℕ → Bool) (p q : ℕ) → t p ≡ true → t q ≡ true → count t p ≡ count t q → p ≡ q
+count-apart t p q e f same = go (decLt p q) (decLt q p)
+  where
+    go : Dec (p < q) → Dec (q < p) → p ≡ q
+    go (yes l) b = absurd (omega (arith, count-before t p q e l))
+    go (no a) (yes l) = absurd (omega (arith, count-before t q p f l))
+    go (no a) (no b) = omega arith
 
 pub count-le : (t : ℕ → Bool) (n : ℕ) → count t n ≤ n
 count-le t zero = omega arith

@@ -2,5 +2,6 @@
 pub mod Conditions
 pub mod Lists
 pub mod Counts
+pub mod Passing
 pub mod Sums
 pub mod Taken

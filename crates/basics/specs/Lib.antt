@@ -1,3 +1,3 @@
--- The definitions of a count and of a sum.
+-- The definitions of a count, of the numbers counted, and of a sum.
 pub mod Count
 pub mod Sum

@@ -3,6 +3,7 @@
 --   Leading n p root   `root` gives the root that each of n places leads to by the parents p
 --   weigh root w m r   the weight w of r if one of the places below m has the root r, else 0
 --   LowestOf root n i  which of the lowest places of n places has the root of place i
+--   LowestIn root i    the lowest place of the group of place i
 --
 -- Main laws: within-leads; lowest-row and lowest-one, a place's root is the root of exactly one lowest place; lowest-count,
 -- the lowest places are as many as the roots; lowest-sizes, the sizes of their groups add up to the place count.
@@ -14,12 +15,13 @@ use Prim.Native.Nat.{ℕ, zero, suc, _+_, _*_, _≤_, _<_}
 use native.Mathlib.Omega.{arith}
 use native.Mathlib.Decide.{ℕ-discrete, decLt}
 use lib.Dec.{eqb}
-use lib.ListN.{length, getD, length-append, List·getD-append}
-use lib.Seq.{getD-append-seam}
+use lib.ListN.{length, getD}
 use borrow.Author.Tests.{eqb-true, eqb-false, eq-eqb, ne-eqb}
+use Rattle.basics.specs.Count.{count}
 use Rattle.basics.specs.Sum.{sum, sumTo}
 use Rattle.basics.proofs.Conditions.{split}
-use Rattle.basics.proofs.Counts.{count-in, count-out, count-none, count-positive, Passing, count-some}
+use Rattle.basics.proofs.Counts.{count-in, count-out, count-before, count-le, count-none, count-positive, Passing, count-some}
+use Rattle.basics.proofs.Passing.{passing-many, passing-at, passing-rising, passing-all}
 use Rattle.basics.proofs.Sums.{sum-next, sum-ones, sumTo-same, sumTo-more, sumTo-none, sumTo-count}
 use Rattle.word.specs.Word.{key, nodeLimit}
 use Rattle.forest.specs.Forest.{rootCount, Leads, root as ends, up}
@@ -72,6 +74,13 @@ pub record LowestOf (root : ℕ → ℕ) (n i : ℕ) : Type 0 where
   pub inside : row < length (lowestPlaces root n)
   pub same : root (getD (lowestPlaces root n) row 0) ≡ root i
 
+-- The lowest place of the group of i.
+record LowestIn (root : ℕ → ℕ) (i : ℕ) : Type 0 where
+  place : ℕ
+  upto : place ≤ i
+  lowest : isLowest root place ≡ true
+  same : root place ≡ root i
+
 module _ (root : ℕ → ℕ) where
   pub lowest-in : (m : ℕ) → isLowest root m ≡ true → lowestPlaces root (suc m) ≡ lowestPlaces root m ++ (m ∷ [])
   lowest-in m e = rw e
@@ -79,14 +88,8 @@ module _ (root : ℕ → ℕ) where
   pub lowest-out : (m : ℕ) → isLowest root m ≡ false → lowestPlaces root (suc m) ≡ lowestPlaces root m
   lowest-out m e = rw e
 
-  lowest-more : (m : ℕ) → isLowest root m ≡ true → length (lowestPlaces root (suc m)) ≡ length (lowestPlaces root m) + 1
-  lowest-more m e = ap length (lowest-in m e) ∙ length-append (lowestPlaces root m) (m ∷ [])
-
   pub lowest-few : (m : ℕ) → length (lowestPlaces root m) ≤ m
-  lowest-few zero = omega arith
-  lowest-few (suc m) =
-      split (isLowest root m) (λ e. omega (arith, lowest-more m e, lowest-few m))
-      (λ e. omega (arith, ap length (lowest-out m e), lowest-few m))
+  lowest-few m = omega (arith, passing-many (isLowest root) m, count-le (isLowest root) m)
 
   -- no place below a lowest one has its root
   pub lowest-first : (i j : ℕ) → isLowest root j ≡ true → i < j → root i ≢ root j
@@ -100,76 +103,47 @@ module _ (root : ℕ → ℕ) where
       go (no a) (yes l) = absurd (lowest-first j i ei l (sym e))
       go (no a) (no b) = omega arith
 
-  -- the number k of a lowest place, where place m is one: it was there before, or it is the last, which is m
-  at-next : (m k : ℕ) (P : ℕ → Type 0) → isLowest root m ≡ true → k < length (lowestPlaces root (suc m))
-      → (k < length (lowestPlaces root m) → P (getD (lowestPlaces root m) k 0))
-      → (k ≡ length (lowestPlaces root m) → P m)
-      → P (getD (lowestPlaces root (suc m)) k 0)
-  at-next m k P e l old new = go (decLt k (length (lowestPlaces root m)))
-    where
-      go : Dec (k < length (lowestPlaces root m)) → P (getD (lowestPlaces root (suc m)) k 0)
-      go (yes h) = rw (e, List·getD-append (lowestPlaces root m) (m ∷ []) 0 k h) (old h)
-      go (no h) =
-          let last : k ≡ length (lowestPlaces root m) = omega (arith, lowest-more m e) in
-          rw (e, last, getD-append-seam (lowestPlaces root m) m [] 0) (new last)
-
   -- they are places, and lowest
   pub lowest-at : (m k : ℕ) → k < length (lowestPlaces root m)
       → (getD (lowestPlaces root m) k 0 < m) × (isLowest root (getD (lowestPlaces root m) k 0) ≡ true)
-  lowest-at zero k l = absurd (omega arith)
-  lowest-at (suc m) k l =
-      split (isLowest root m)
-      (λ e.
-      at-next m k (λ i. (i < suc m) × (isLowest root i ≡ true)) e l
-      (λ h. let below = lowest-at m k h in (omega arith, below .1)) (λ h. (omega arith, e)))
-      (λ e. let below = lowest-at m k (rw (lowest-out m e) at l) in rw e (omega arith, below .1))
+  lowest-at m k l =
+      let there = passing-at (isLowest root) m k (omega (arith, passing-many (isLowest root) m)) in
+      (there .inside, there .passes)
 
   pub lowest-rising : (m j k : ℕ) → j < k → k < length (lowestPlaces root m)
       → getD (lowestPlaces root m) j 0 < getD (lowestPlaces root m) k 0
-  lowest-rising zero j k h l = absurd (omega arith)
-  lowest-rising (suc m) j k h l =
-      split (isLowest root m)
-      (λ e.
-      let within : j < length (lowestPlaces root m) = omega (arith, lowest-more m e) in
-      let same : getD (lowestPlaces root (suc m)) j 0 ≡ getD (lowestPlaces root m) j 0 =
-      rw (e, List·getD-append (lowestPlaces root m) (m ∷ []) 0 j within) in
-      at-next m k (λ i. getD (lowestPlaces root (suc m)) j 0 < i) e l
-      (λ g. omega (arith, same, lowest-rising m j k h g)) (λ g. omega (arith, same, lowest-at m j within .0)))
-      (λ e. rw e (lowest-rising m j k h (rw (lowest-out m e) at l)))
+  lowest-rising m j k h l = passing-rising (isLowest root) m j k h (omega (arith, passing-many (isLowest root) m))
 
-  -- a place's root is the root of one of them: of the place itself, or of one below it
-  row-next : (m i : ℕ) → LowestOf root m i → LowestOf root (suc m) i
-  row-next m i found =
-      split (isLowest root m)
+  -- a group has a lowest place: the place itself, or one below it
+  group-lowest : (m i : ℕ) → i < m → LowestIn root i
+  group-lowest zero i l = absurd (omega arith)
+  group-lowest (suc m) i l =
+      split (isLowest root i)
+      (λ e. record { place = i; upto = omega arith; lowest = e; same = refl })
       (λ e.
-      let within = found .inside in
+      let other = eqb-false (size i root (root i)) 0 e in
+      let met = size-found root i (root i) (omega arith) in
+      let found = group-lowest m (met .number) (omega (arith, met .inside)) in
       record {
-        row = found .row;
-        inside = omega (arith, within, lowest-more m e);
-        same = rw (e, List·getD-append (lowestPlaces root m) (m ∷ []) 0 (found .row) within) (found .same);
+        place = found .place;
+        upto = omega (arith, found .upto, met .inside);
+        lowest = found .lowest;
+        same = found .same ∙ eqb-true _ _ (met .passes);
       })
-      (λ e. record { row = found .row; inside = rw e (found .inside); same = rw e (found .same) })
 
   pub lowest-row : (m i : ℕ) → i < m → LowestOf root m i
-  lowest-row zero i l = absurd (omega arith)
-  lowest-row (suc m) i l = go (ℕ-discrete i m) (λ j k. lowest-row m j k)
-    where
-      go : Dec (i ≡ m) → ((j : ℕ) → j < m → LowestOf root m j) → LowestOf root (suc m) i
-      go (no d) below = row-next m i (below i (omega arith))
-      go (yes d) below =
-          split (isLowest root m)
-          (λ e.
-          record {
-            row = length (lowestPlaces root m);
-            inside = omega (arith, lowest-more m e);
-            same = rw (e, d, getD-append-seam (lowestPlaces root m) m [] 0) refl;
-          })
-          (λ e.
-          let other = eqb-false (size m root (root m)) 0 e in
-          let met = size-found root m (root m) (omega arith) in
-          let found = below (met .number) (met .inside) in
-          row-next m i
-          record { row = found .row; inside = found .inside; same = found .same ∙ eqb-true _ _ (met .passes) ∙ ap root (sym d) })
+  lowest-row m i l =
+      let found = group-lowest m i l in
+      let inside : found .place < m = omega (arith, found .upto) in
+      record {
+        row = count (isLowest root) (found .place);
+        inside = omega (
+          arith,
+          count-before (isLowest root) (found .place) m (found .lowest) inside,
+          passing-many (isLowest root) m,
+        );
+        same = ap root (passing-all (isLowest root) m (found .place) inside (found .lowest)) ∙ found .same;
+      }
 
 -- ---- sums over the lowest places
 

@@ -5,11 +5,11 @@
 --   size n root r           how many of the places below n have the root r
 --   isLowest root i         i is the lowest place of its group
 --   lowestPlaces root n     the lowest places of the groups of n places, rising
-use mathlib.Core.Bool.{Bool, true, false, cond}
-use mathlib.Core.List.{List, [], _∷_, _++_}
+use mathlib.Core.Bool.{Bool, true, false}
+use mathlib.Core.List.{List}
 use Prim.Native.Nat.{ℕ, zero, suc}
 use lib.Dec.{eqb}
-use Rattle.basics.specs.Count.{count}
+use Rattle.basics.specs.Count.{count, passingBelow}
 
 -- A place is a root when it is its own parent; from any other the walk goes on from the parent.
 abbrev pub rootBy : Bool → ℕ → ℕ → (ℕ → ℕ) → ℕ
@@ -29,5 +29,4 @@ abbrev pub isLowest : (ℕ → ℕ) → ℕ → Bool
 isLowest root i = eqb (size i root (root i)) 0
 
 abbrev pub lowestPlaces : (ℕ → ℕ) → ℕ → List ℕ
-lowestPlaces root zero = []
-lowestPlaces root (suc i) = cond (isLowest root i) (lowestPlaces root i ++ (i ∷ [])) (lowestPlaces root i)
+lowestPlaces root = passingBelow (isLowest root)
