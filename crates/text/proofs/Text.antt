@@ -1,7 +1,7 @@
 -- Laws of texts: the digits of a number, fields and sequences piece by piece, and how long they get.
 --
 --   Narrow ns   every number of ns is one of 32 bits
-use mathlib.Core.Path.{_≡_, refl, sym, ap, _∙_}
+use mathlib.Core.Path.{_≡_, refl, sym, ap, ap₂, _∙_}
 use mathlib.Core.Bool.{Bool, true, false}
 use mathlib.Core.List.{List, [], _∷_, _++_, append-assoc, append-nil}
 use Prim.Native.Nat.{ℕ, zero, suc, _+_, _*_, _/_, _%_, _^_, _≤_, _<_}
@@ -85,6 +85,18 @@ fields-next ns i h =
 pub each-next : (f : ℕ → List ℕ) (i : ℕ) → each f (i + 1) ≡ each f i ++ f i
 unfolding each
 each-next f i = rw add-one
+
+-- the first apart instead of the last
+pub each-first : (f : ℕ → List ℕ) (n : ℕ) → each f (suc n) ≡ f 0 ++ each (λ i. f (suc i)) n
+unfolding each
+each-first f zero = sym (append-nil (f 0))
+each-first f (suc n) =
+    ap {B = List ℕ} (λ t. t ++ f (suc n)) (each-first f n) ∙ append-assoc (f 0) (each (λ i. f (suc i)) n) (f (suc n))
+
+pub each-same : (f g : ℕ → List ℕ) (n : ℕ) → ((i : ℕ) → i < n → f i ≡ g i) → each f n ≡ each g n
+unfolding each
+each-same f g zero same = refl
+each-same f g (suc n) same = ap₂ {C = List ℕ} _++_ (each-same f g n (λ i l. same i (omega arith))) (same n (omega arith))
 
 -- Lines of numbers of 32 bits are short, so that a text of them can be counted in 64 bits.
 abbrev pub Narrow : List ℕ → Type 0

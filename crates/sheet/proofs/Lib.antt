@@ -1,0 +1,6 @@
+-- The seen numbers, the entries that a sheet shows, the texts, and the promises; the table of sheets.
+pub mod Numbers
+pub mod Entries
+pub mod Texts
+pub mod Sheets
+mod Cases

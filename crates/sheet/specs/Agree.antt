@@ -1,0 +1,72 @@
+-- Document 02, A5: what two runs have to agree on to give the same sheet, and what is promised of sheets.
+--
+--   LineUp report entries    what the report and the line-up of every run have
+--   Agree                    the seen requests of two runs have the same report numbers and the same points, in file order
+--   Numbers numbers report   the numbers begin with those of the report's rows, four a request
+--   SeenBelow seen n         the seen numbers below n are numbered without gap, and stand in file order
+--   Agreement                two runs that agree give the same sheet
+--   FullSight                where every request is seen, the sheet is what the listing prints of requests and entries
+use mathlib.Core.Path.{_≡_}
+use mathlib.Core.Bool.{Bool, true}
+use mathlib.Core.List.{List, _++_, map, List·Memᴰ}
+use Prim.Native.Nat.{ℕ, _+_, _*_, _≤_, _<_}
+use lib.ListN.{length, getD}
+use Rattle.basics.specs.Count.{count}
+use Rattle.text.specs.Text.{each}
+use Rattle.listing.specs.declared.Section.the-variants.{Requests, Entries}
+use Rattle.listing.specs.Listing.{row}
+use Rattle.linearization.specs.Entry.{Entry, Rising, occurrences, flat}
+use Rattle.rules.specs.declared.Row.{Row}
+use Rattle.rules.specs.Report.{rowAt}
+use Rattle.sheet.specs.Sheet.{seenNumbers, numberOf, upTo, pointIn, sheetText}
+
+-- What a linearized run has (demand 3): a report row for every request, and a line-up.
+pub record LineUp (report : List Row) (entries : List Entry) : Type 0 where
+  -- entries rise strictly by point
+  pub rising : Rising 0 entries
+  -- an entry is a request's
+  pub requests : (e : Entry) → List·Memᴰ e entries → e .request < length report
+  -- and a request has one at most
+  pub once : (q : ℕ) → q < length report → occurrences q entries ≤ 1
+
+-- "Two runs that agree on those heads' requests in that order, their report numbers and their points". Nothing else of the two
+-- runs need be equal: not the numbers that the requests have in the file, not the rule, not the requests that are not seen.
+pub record Agree (seen : ℕ → Bool) (report : List Row) (entries : List Entry)
+    (seen′ : ℕ → Bool) (report′ : List Row) (entries′ : List Entry) : Type 0 where
+  pub rows : map (rowAt report) (seenNumbers seen (length report)) ≡ map (rowAt report′) (seenNumbers seen′ (length report′))
+  pub points : map (pointIn entries) (seenNumbers seen (length report)) ≡ map (pointIn entries′) (seenNumbers seen′ (length report′))
+
+-- The buffer that the listing prints the report from may be longer.
+pub record Numbers (numbers : List ℕ) (report : List Row) : Type 0 where
+  pub answers : (q : ℕ) → q < length report → getD numbers (4 * q) 0 ≡ rowAt report q .answer
+  pub firsts : (q : ℕ) → q < length report → getD numbers (4 * q + 1) 0 ≡ rowAt report q .first
+  pub lasts : (q : ℕ) → q < length report → getD numbers (4 * q + 2) 0 ≡ rowAt report q .last
+  pub useds : (q : ℕ) → q < length report → getD numbers (4 * q + 3) 0 ≡ rowAt report q .used
+
+-- How the seen ones of n requests are numbered.
+pub record SeenBelow (seen : ℕ → Bool) (n : ℕ) : Type 0 where
+  -- there are as many as are counted
+  pub many : length (seenNumbers seen n) ≡ count seen n
+  -- "numbered from 0 among themselves"
+  pub numbered : map (numberOf seen) (seenNumbers seen n) ≡ upTo (count seen n)
+  -- "in file order"
+  pub rising : (i j : ℕ) → i < j → j < count seen n → getD (seenNumbers seen n) i 0 < getD (seenNumbers seen n) j 0
+  -- each is a seen number below n, and each such number stands at its own number
+  pub inside : (i : ℕ) → i < count seen n → getD (seenNumbers seen n) i 0 < n
+  pub only : (i : ℕ) → i < count seen n → seen (getD (seenNumbers seen n) i 0) ≡ true
+  pub all : (q : ℕ) → q < n → seen q ≡ true → getD (seenNumbers seen n) (numberOf seen q) 0 ≡ q
+
+-- Two runs that agree "give the same sheet, byte for byte; the sheet's length is part of this".
+abbrev pub Agreement : Type 0
+Agreement =
+    (seen seen′ : ℕ → Bool) (report report′ : List Row) (entries entries′ : List Entry)
+    → LineUp report entries → LineUp report′ entries′ → Agree seen report entries seen′ report′ entries′
+    → sheetText seen report entries ≡ sheetText seen′ report′ entries′
+
+-- "sight of every head": the sheet is the listing's own request and line lines, whatever stands past the line-up in its buffer.
+abbrev pub FullSight : Type 0
+FullSight =
+    (seen : ℕ → Bool) (report : List Row) (entries : List Entry) (numbers past : List ℕ)
+    → LineUp report entries → Numbers numbers report → ((q : ℕ) → q < length report → seen q ≡ true)
+    → sheetText seen report entries
+    ≡ each (row Requests numbers) (length report) ++ each (row Entries (flat entries ++ past)) (length entries)
