@@ -15,8 +15,8 @@ use Prim.Native.Nat.{ℕ, _+_, _*_, _≤_, _<_}
 use native.Mathlib.Omega.{arith}
 use lib.ListN.{length, drop, length-drop, length-map}
 use borrow.Author.Tests.{lt-ltb, le-ltb, ne-eqb}
-use Rattle.jobfile.specs.Format.{waitMark, runMark, jobSize, waitSize, runSize, requestPlace, waitPlace, runPlace, mostBytes, _then_}
-use Rattle.jobfile.specs.Format.{noPair, lengthRefusal}
+use Rattle.jobfile.specs.Format.{requestMark, waitMark, runMark, jobSize, requestSize, waitSize, runSize, requestPlace, waitPlace, runPlace}
+use Rattle.jobfile.specs.Format.{mostBytes, _then_, noPair, lengthRefusal}
 use Rattle.jobfile.specs.Meaning.{records, nodesIn, headsIn, headerRefusal, requestsRefusal, requestAt, waitsRefusal, waitAt}
 use Rattle.jobfile.specs.Meaning.{runsRefusal, runAt, fullRun, granted, closeRefusal, balanceRefusal, requestRecords, waitsStart}
 use Rattle.jobfile.specs.Meaning.{waitRecords, runsStart, runRecords, closeStart, fileRefusal, runsIn, jobIn, refused, meaning}
@@ -81,9 +81,10 @@ pub record RequestsRead (s : List ℕ) (q : Records) : Type 0 where
   pub header : headerRefusal s ≡ 0
   pub read : q ≡ requestSectionOf (nodesIn s) (headsIn s) (requestRecords s)
 
-pub requests-told : {s : List ℕ} {nodes heads : ℕ} {q : Records} → (length s ≤ mostBytes) × (headerRefusal s ≡ 0)
-    → nodes ≡ nodesIn s → heads ≡ headsIn s → q ≡ requestSectionOf nodes heads (requestRecords s) → RequestsRead s q
-requests-told p n h r = record { short = p .0; header = p .1; read = rw (n, h) at r }
+pub requests-told : {s : List ℕ} {nodes heads start : ℕ} {q : Records} → (length s ≤ mostBytes) × (headerRefusal s ≡ 0)
+    → nodes ≡ nodesIn s → heads ≡ headsIn s → start ≡ requestPlace 0
+    → q ≡ requestSectionOf nodes heads (records requestSize requestMark (drop start s)) → RequestsRead s q
+requests-told p n h first r = record { short = p .0; header = p .1; read = rw (n, h, first) at r }
 
 module _ {s : List ℕ} {q : Records} (h : RequestsRead s q) where
   request-number : q .number ≡ requestsRefusal (nodesIn s) (headsIn s) 0 (requestRecords s)

@@ -20,8 +20,8 @@ use borrow.Author.Tests.{eq-eqb, ne-eqb, eqb-true, ltb-false}
 use Rattle.basics.proofs.Conditions.{split}
 use Rattle.job.specs.declared.Wait.{Wait}
 use Rattle.jobfile.specs.declared.Run.{Run}
-use Rattle.jobfile.specs.Format.{requestMark, waitMark, runMark, jobSize, waitSize, runSize, mostGrants, word, _then_, noPair}
-use Rattle.jobfile.specs.Meaning.{records, sectionRefusal, requestRefusal, requestRecords, waitAt, waitRefusal, runAt, runRefusal}
+use Rattle.jobfile.specs.Format.{requestMark, waitMark, runMark, requestSize, waitSize, runSize, mostGrants, word, _then_, noPair}
+use Rattle.jobfile.specs.Meaning.{records, sectionRefusal, requestRefusal, waitAt, waitRefusal, runAt, runRefusal}
 use Rattle.jobfile.specs.Meaning.{fullRun, granted}
 use Rattle.jobfile.proofs.Records.{records-here, records-end, Layout, places, refusal}
 use Rattle.jobfile.proofs.Layouts.{requestLayout, waitLayout, runLayout}
@@ -72,14 +72,14 @@ module _ {A S : Type 0} {k : Layout A S} {s : List ℕ} {start : ℕ} {none : S}
     pub read-count : length (places k (drop start s)) ≡ count
     read-count = omega (arith, rw none-left at (h .counted))
 
-module _ (nodes heads : ℕ) {s : List ℕ} {at count : ℕ} (h : ReadTo (requestLayout nodes heads) s jobSize 0 at count count) where
+module _ (nodes heads : ℕ) {s : List ℕ} {start at count : ℕ} (h : ReadTo (requestLayout nodes heads) s start 0 at count count) where
   pub requests-refused : (n : ℕ) → word (drop at s) ≡ requestMark → n ≡ requestRefusal nodes heads count (drop at s) → (n ≡ 0 → ⊥)
-      → record { number = n; count = 0 } ≡ requestSectionOf nodes heads (requestRecords s)
+      → record { number = n; count = 0 } ≡ requestSectionOf nodes heads (records requestSize requestMark (drop start s))
   unfolding requestSectionOf
   requests-refused n m e z = rw (read-refused h m n e z, ne-eqb n 0 z)
 
   pub requests-end : (word (drop at s) ≡ requestMark → ⊥)
-      → record { number = 0; count = count } ≡ requestSectionOf nodes heads (requestRecords s)
+      → record { number = 0; count = count } ≡ requestSectionOf nodes heads (records requestSize requestMark (drop start s))
   unfolding requestSectionOf
   requests-end m = rw (read-passes h m, read-count h m)
 

@@ -64,7 +64,7 @@ fn check_records(file: &[u8]) -> Checked
 {
     let nodes = word_at(file, 2) as u32;
     let heads = word_at(file, 4) as u32;
-    let requests = read_requests(file, nodes, heads);
+    let requests = read_requests(file, nodes, heads, request_place(0));
     if requests.number != 0 {
         return refuse(requests.number);
     }

@@ -24,8 +24,8 @@ use jobfile::sizes_refusal;
 ghost use mathlib.Core.Path.{_≡_};
 ghost use Prim.Native.Nat.{_≤_};
 ghost use lib.ListN.{length, drop};
-ghost use Rattle.jobfile.specs.Format.{waitMark, runMark, jobSize, waitSize, runSize, mostBytes, _then_};
-ghost use Rattle.jobfile.specs.Meaning.{records, headerRefusal, closeRefusal, balanceRefusal, requestRecords};
+ghost use Rattle.jobfile.specs.Format.{requestMark, waitMark, runMark, requestSize, waitSize, runSize, mostBytes, _then_};
+ghost use Rattle.jobfile.specs.Meaning.{records, headerRefusal, closeRefusal, balanceRefusal};
 ghost use Rattle.reader.specs.Reader.{requestSectionOf, waitSectionOf, runSectionOf};
 
 // The requests of a file, or its pairs: how many there are, or their refusal.
@@ -57,13 +57,13 @@ pub fn header_refusal(file: &[u8]) -> u32
     sizes_refusal(word_at(file, 2) as u32, word_at(file, 4) as u32)
 }
 
-// Reads the requests behind the header.
-pub fn read_requests(file: &[u8], nodes: u32, heads: u32) -> Records
-    requires { ⌜ jobSize ≤ length (now file) ⌝ }
+// Reads the requests from where they start.
+pub fn read_requests(file: &[u8], nodes: u32, heads: u32, start: usize) -> Records
+    requires { ⌜ start ≤ length (now file) ⌝ }
     requires { ⌜ length (now file) ≤ mostBytes ⌝ }
-    ensures { λ r. ⌜ r ≡ requestSectionOf nodes heads (requestRecords (now (file .entry))) ⌝ }
+    ensures { λ r. ⌜ r ≡ requestSectionOf nodes heads (records requestSize requestMark (drop start (now (file .entry)))) ⌝ }
 {
-    let mut at = JOB_SIZE;
+    let mut at = start;
     let mut count: u32 = 0;
     while word_at(file, at) == REQUEST_MARK {
         let number = request_refusal(file, at, nodes, heads, count);

@@ -25,19 +25,24 @@ after-waits c = c .before .before .before .before
 abbrev after-runs : tie.After-close-refusal → tie.After-struct-known3
 after-runs c = c .before .before .before
 
+-- the numbers of the header are read
+abbrev sized : tie.After-struct-known → tie.After-word-at2
+sized c = c .before .before .before
+
 abbrev file : tie.After-struct-known → List ℕ
-file c = now (start (c .before .before) .args .file)
+file c = now (start (sized c) .args .file)
 
 requests : (c : tie.After-struct-known) → RequestsRead (file c) (c .before .read-requests .result)
 requests c =
-    let words = c .before .before in
-    requests-told (start words .pre) (words .before .word-at .ensures) (words .word-at2 .ensures) (c .before .read-requests .ensures)
+    let words = sized c in
+    requests-told (start words .pre) (words .before .word-at .ensures) (words .word-at2 .ensures)
+    (c .before .before .request-place .ensures) (c .before .read-requests .ensures)
 
 waits : (c : tie.After-struct-known2)
     → WaitsRead (file (after-requests c)) (after-requests c .before .read-requests .result) (c .before .read-waits .result)
 waits c =
     let waited = c .before in
-    waits-told (requests (after-requests c)) (waited .before .before .if1 .left) (waited .before .request-place .ensures)
+    waits-told (requests (after-requests c)) (waited .before .before .if1 .left) (waited .before .request-place2 .ensures)
     (waited .read-waits .ensures)
 
 runs : (c : tie.After-struct-known3) → let waited = after-waits c in let read = after-requests waited in
@@ -45,7 +50,7 @@ runs : (c : tie.After-struct-known3) → let waited = after-waits c in let read 
 runs c =
     let ran = c .before in
     runs-told (waits (after-waits c)) (ran .before .before .if2 .left)
-    (after-requests (after-waits c) .before .before .word-at2 .ensures) (ran .before .wait-place .ensures) (ran .read-runs .ensures)
+    (sized (after-requests (after-waits c)) .word-at2 .ensures) (ran .before .wait-place .ensures) (ran .read-runs .ensures)
 
 close : (c : tie.After-close-refusal) → let ran = after-runs c in let waited = after-waits ran in let read = after-requests waited in
     CloseRead (file read) (read .before .read-requests .result) (waited .before .read-waits .result) (ran .before .read-runs .result)
@@ -54,7 +59,9 @@ close c =
     close-told (runs (after-runs c)) (c .before .before .if3 .left) (c .before .run-place .ensures) (c .close-refusal .ensures)
 
 read-requests-requires : tie.Need-read-requests-requires
-read-requests-requires c κs = (header-passed _ (start c .pre .1) .whole, start c .pre .0)
+read-requests-requires c κs =
+    let begun = start (c .before) in
+    (rw (c .request-place .ensures) (header-passed _ (begun .pre .1) .whole), begun .pre .0)
 
 returns : tie.Need-returns
 returns c = c .refuse .ensures ∙ requests-answer (requests (c .before .before)) (c .before .if1 .taken)
@@ -62,7 +69,7 @@ returns c = c .refuse .ensures ∙ requests-answer (requests (c .before .before)
 read-waits-requires : tie.Need-read-waits-requires
 read-waits-requires c κs =
     let read = requests (c .before .before) in
-    (rw (c .request-place .ensures) (waits-room read (c .before .if1 .left)), read .short)
+    (rw (c .request-place2 .ensures) (waits-room read (c .before .if1 .left)), read .short)
 
 returns-2 : tie.Need-returns-2
 returns-2 c = c .refuse2 .ensures ∙ waits-answer (waits (c .before .before)) (c .before .if2 .taken)
@@ -85,13 +92,13 @@ returns-4 c = c .refuse4 .ensures ∙ close-answers (close (c .before .before)) 
 
 returns-5 : tie.Need-returns-5
 returns-5 c =
-    let words = after-requests (after-waits (after-runs (c .before))) .before .before in
+    let words = sized (after-requests (after-waits (after-runs (c .before)))) in
     simp (words .before .word-at .ensures, words .word-at2 .ensures)
     (counts-answer (close (c .before)) (λ i. omega (arith, words .before .before .shared-slice-known .given i)) (c .if4 .left))
 
 pub check-records-spec : {M : Type 1} → statement M
 check-records-spec =
     tie.close (tie.spec (λ c κs. search needs) (λ c. search needs) (λ c κs. search needs) (λ c. search needs)
-    read-requests-requires (λ c κs. search needs) returns (λ c κs. search needs) read-waits-requires (λ c κs. search needs)
+    (λ c κs. search needs) read-requests-requires (λ c κs. search needs) returns (λ c κs. search needs) read-waits-requires (λ c κs. search needs)
     returns-2 (λ c κs. search needs) read-runs-requires (λ c κs. search needs) returns-3 (λ c κs. search needs)
     close-refusal-requires (λ c κs. search needs) returns-4 returns-5)

@@ -4,17 +4,17 @@ use Prim.Native.Nat.{_+_, _-_}
 use native.Mathlib.Omega.{arith}
 use lib.ListN.{length}
 use borrow.Author.Needs.{needs}
-use Rattle.jobfile.specs.Format.{jobSize, requestSize}
+use Rattle.jobfile.specs.Format.{requestSize}
 use Rattle.jobfile.proofs.Layouts.{requestLayout}
 use Rattle.reader.proofs.Loops.{ReadTo, read-start, read-next, requests-refused, requests-end}
 use Rattle.reader.proofs.sections.read_requests.Statement.{statement}
 use Rattle.reader.proofs.sections.read_requests.Tie as tie
 
 abbrev Inv-loop : tie.InvT-loop
-Inv-loop file nodes heads at₀ count₀ at count = ReadTo (requestLayout nodes heads) file jobSize 0 at count count
+Inv-loop file nodes heads start at₀ count₀ at count = ReadTo (requestLayout nodes heads) file start 0 at count count
 
 abbrev μ-loop : tie.MeasureT-loop
-μ-loop file nodes heads at₀ count₀ at count = length file + requestSize - at
+μ-loop file nodes heads start at₀ count₀ at count = length file + requestSize - at
 
 loop-holds : tie.Need-loop-holds Inv-loop μ-loop
 loop-holds c = read-start _ _ _ _ (c .before .pre .0)
