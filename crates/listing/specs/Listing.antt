@@ -3,6 +3,8 @@
 --   jobName .. refusedName   the names of the lines
 --   jobLine p, tallyLine y   the lines of the counts and of the tally
 --   refusedLine number       the line of a refusal
+--   requestLine n a f l u    the line of a request, by its number and its four
+--   entryLine p q            the line of an entry, by its point and its request
 --   row s buffer i           line number i of section s, from the numbers in the section's buffer
 --   rowSize s                how many numbers of its buffer a line of section s shows
 --   rows p t r l             the lines of all words, requests and entries
@@ -49,12 +51,20 @@ refusedName = 114 ∷ 101 ∷ 102 ∷ 117 ∷ 115 ∷ 101 ∷ 100 ∷ []
 abbrev pub jobLine : Played → List ℕ
 jobLine p = line jobName (p .nodes ∷ p .heads ∷ p .requests ∷ p .grants ∷ [])
 
--- word: place, parent, rank. request: number, then its four (answer, first grant, last grant, grants used). line: point, request.
+-- request: number, then its four (answer, first grant, last grant, grants used).
+abbrev pub requestLine : ℕ → ℕ → ℕ → ℕ → ℕ → List ℕ
+requestLine number answer first last used = line requestName (number ∷ answer ∷ first ∷ last ∷ used ∷ [])
+
+-- line: point, request.
+abbrev pub entryLine : ℕ → ℕ → List ℕ
+entryLine point request = line lineName (point ∷ request ∷ [])
+
+-- word: place, parent, rank. A request and an entry are read from their buffers.
 abbrev pub row : Section → List ℕ → ℕ → List ℕ
 row Words table i = line wordName (i ∷ parentOf (getD table i 0) ∷ rankOf (getD table i 0) ∷ [])
 row Requests report i =
-    line requestName (i ∷ getD report (4 * i) 0 ∷ getD report (4 * i + 1) 0 ∷ getD report (4 * i + 2) 0 ∷ getD report (4 * i + 3) 0 ∷ [])
-row Entries linearization i = line lineName (getD linearization (2 * i) 0 ∷ getD linearization (2 * i + 1) 0 ∷ [])
+    requestLine i (getD report (4 * i) 0) (getD report (4 * i + 1) 0) (getD report (4 * i + 2) 0) (getD report (4 * i + 3) 0)
+row Entries linearization i = entryLine (getD linearization (2 * i) 0) (getD linearization (2 * i + 1) 0)
 
 -- A place has one number in the table, a request four in the report, an entry two in the line-up.
 abbrev pub rowSize : Section → ℕ

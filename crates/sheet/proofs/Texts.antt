@@ -18,11 +18,11 @@ use Rattle.basics.proofs.Passing.{passing-many}
 use Rattle.text.specs.Text.{each}
 use Rattle.text.proofs.Text.{each-first, each-same}
 use Rattle.listing.specs.declared.Section.the-variants.{Requests, Entries}
-use Rattle.listing.specs.Listing.{row}
+use Rattle.listing.specs.Listing.{entryLine, row}
 use Rattle.linearization.specs.Entry.{Entry, flat}
 use Rattle.rules.specs.declared.Row.{Row}
 use Rattle.rules.specs.Report.{rowAt}
-use Rattle.sheet.specs.Sheet.{seenNumbers, numberOf, requestLine, entryLine, seenLine, requestLines, entryLines}
+use Rattle.sheet.specs.Sheet.{seenNumbers, numberOf, rowLine, seenLine, requestLines, entryLines}
 use Rattle.sheet.specs.Agree.{Numbers}
 use Rattle.sheet.proofs.Entries.{shownEntries}
 
@@ -30,14 +30,14 @@ use Rattle.sheet.proofs.Entries.{shownEntries}
 
 abbrev pub rowLines : ℕ → List Row → List ℕ
 rowLines n [] = []
-rowLines n (row ∷ rows) = requestLine n row ++ rowLines (suc n) rows
+rowLines n (row ∷ rows) = rowLine n row ++ rowLines (suc n) rows
 
 rowLines-last : (n k : ℕ) (rows : List Row) (row : Row) → k ≡ n + length rows
-    → rowLines n (rows ++ (row ∷ [])) ≡ rowLines n rows ++ requestLine k row
-rowLines-last n k [] row at = let start : k ≡ n = omega arith in rw start (append-nil (requestLine n row))
+    → rowLines n (rows ++ (row ∷ [])) ≡ rowLines n rows ++ rowLine k row
+rowLines-last n k [] row at = let start : k ≡ n = omega arith in rw start (append-nil (rowLine n row))
 rowLines-last n k (r ∷ rows) row at =
-    ap {B = List ℕ} (λ t. requestLine n r ++ t) (rowLines-last (suc n) k rows row (omega arith))
-    ∙ sym (append-assoc (requestLine n r) (rowLines (suc n) rows) (requestLine k row))
+    ap {B = List ℕ} (λ t. rowLine n r ++ t) (rowLines-last (suc n) k rows row (omega arith))
+    ∙ sym (append-assoc (rowLine n r) (rowLines (suc n) rows) (rowLine k row))
 
 module _ (seen : ℕ → Bool) (report : List Row) where
   lines-rows : (m : ℕ) → each (seenLine seen report) m ≡ rowLines 0 (map (rowAt report) (seenNumbers seen m))
@@ -49,7 +49,7 @@ module _ (seen : ℕ → Bool) (report : List Row) where
       split (seen m)
       (λ s.
       rw (s, map-append)
-      (ap {B = List ℕ} (λ t. t ++ requestLine (numberOf seen m) (rowAt report m)) (lines-rows m)
+      (ap {B = List ℕ} (λ t. t ++ rowLine (numberOf seen m) (rowAt report m)) (lines-rows m)
       ∙ sym (rowLines-last 0 (numberOf seen m) rows (rowAt report m) more)))
       (λ s. rw s (append-nil _ ∙ lines-rows m))
 

@@ -6,28 +6,26 @@
 --   numberOf seen q             the number that the seen request q has on the sheet
 --   upTo n                      the numbers below n, rising
 --   pointIn entries q           the point of request q's entry; 0 where it has none
---   requestLine n row           the line of a request: its number on the sheet and its four report numbers
---   entryLine point n           the line of an entry
+--   rowLine n row               the line of a request: its number on the sheet and its four report numbers
 --   seenLine seen report q      the line of request q where it is seen, else nothing
 --   requestLines seen report    the lines of the seen requests
 --   entryLines seen entries     the lines of the seen requests' entries
 --   sheetText seen report entries   the text
-use mathlib.Core.Bool.{Bool, cond}
+use mathlib.Core.Bool.{Bool, true, cond}
 use mathlib.Core.List.{List, [], _∷_, _++_}
-use Prim.Native.Nat.{ℕ, zero, suc}
+use Prim.Native.Nat.{ℕ}
 use lib.Dec.{eqb}
 use lib.ListN.{length}
 use Rattle.basics.specs.Count.{count, passingBelow}
-use Rattle.text.specs.Text.{line, each}
-use Rattle.listing.specs.Listing.{requestName, lineName}
+use Rattle.text.specs.Text.{each}
+use Rattle.listing.specs.Listing.{requestLine, entryLine}
 use Rattle.linearization.specs.Entry.{Entry}
 use Rattle.rules.specs.declared.Row.{Row}
 use Rattle.rules.specs.Report.{rowAt}
 
 -- What a gapless numbering from 0 uses.
 abbrev pub upTo : ℕ → List ℕ
-upTo zero = []
-upTo (suc n) = upTo n ++ (n ∷ [])
+upTo = passingBelow (λ i. true)
 
 -- Points are grants, which count from 1: no entry has the point 0.
 abbrev pub pointIn : List Entry → ℕ → ℕ
@@ -35,12 +33,8 @@ pointIn [] q = 0
 pointIn (e ∷ es) q = cond (eqb (e .request) q) (e .point) (pointIn es q)
 
 -- "each with its four report numbers": answer, first grant, last grant, grants used.
-abbrev pub requestLine : ℕ → Row → List ℕ
-requestLine n row = line requestName (n ∷ row .answer ∷ row .first ∷ row .last ∷ row .used ∷ [])
-
--- An entry is its point and its request's number, as in the listing.
-abbrev pub entryLine : ℕ → ℕ → List ℕ
-entryLine point n = line lineName (point ∷ n ∷ [])
+abbrev pub rowLine : ℕ → Row → List ℕ
+rowLine n row = requestLine n (row .answer) (row .first) (row .last) (row .used)
 
 module _ (seen : ℕ → Bool) where
   -- The seen requests in file order.
@@ -53,7 +47,7 @@ module _ (seen : ℕ → Bool) where
 
   -- "lists the requests of the heads it may see", and no others.
   abbrev pub seenLine : List Row → ℕ → List ℕ
-  seenLine report q = cond (seen q) (requestLine (numberOf q) (rowAt report q)) []
+  seenLine report q = cond (seen q) (rowLine (numberOf q) (rowAt report q)) []
 
   -- "in file order"
   abbrev pub requestLines : List Row → List ℕ
