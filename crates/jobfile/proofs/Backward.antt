@@ -14,8 +14,8 @@ use lib.Seq.{drop-drop}
 use Rattle.jobfile.specs.declared.Run.{Run}
 use Rattle.jobfile.specs.Format.{jobMark, requestMark, waitMark, runMark, closeMark, jobSize, requestSize, waitSize, runSize}
 use Rattle.jobfile.specs.Format.{closeSize, word, wordBytes, wordSum, noPair}
-use Rattle.jobfile.specs.Meaning.{nodesIn, headsIn, requestAt, requestRefusal, waitAt, runAt, runRefusal, fullRun, requestRecords, waitsStart}
-use Rattle.jobfile.specs.Meaning.{waitRecords, runsStart, runRecords, closeStart, runsIn, jobIn}
+use Rattle.jobfile.specs.Meaning.{nodesIn, headsIn, requestAt, requestRefusal, waitAt, runAt, runRefusal, fullRun}
+use Rattle.jobfile.specs.Meaning.{requestRecords, waitsStart, waitRecords, runsStart, runRecords, closeStart, runsIn, jobIn}
 use Rattle.jobfile.specs.Written.{fileWith, balance, written}
 use Rattle.jobfile.specs.Admitted.{Admitted, Bytes}
 use Rattle.jobfile.proofs.Refusals.{Paired}

@@ -105,7 +105,7 @@ pub fn check(file: &[u8]) -> Checked
     check_records(file)
 }
 
-// Request q of a file that is played.
+// Request q of a file that is played. Where a record stands is told by the counts; requests come first, so that theirs needs none.
 pub fn request_at(file: &[u8], counts: Checked, q: u32) -> Request
     requires { ⌜ Playing (now file) counts ⌝ }
     requires { ⌜ q < counts .requests ⌝ }

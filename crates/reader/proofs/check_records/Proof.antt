@@ -99,6 +99,7 @@ returns-5 c =
 pub check-records-spec : {M : Type 1} → statement M
 check-records-spec =
     tie.close (tie.spec (λ c κs. search needs) (λ c. search needs) (λ c κs. search needs) (λ c. search needs)
-    (λ c κs. search needs) read-requests-requires (λ c κs. search needs) returns (λ c κs. search needs) read-waits-requires (λ c κs. search needs)
-    returns-2 (λ c κs. search needs) read-runs-requires (λ c κs. search needs) returns-3 (λ c κs. search needs)
-    close-refusal-requires (λ c κs. search needs) returns-4 returns-5)
+    (λ c κs. search needs) read-requests-requires (λ c κs. search needs) returns
+    (λ c κs. search needs) read-waits-requires (λ c κs. search needs) returns-2
+    (λ c κs. search needs) read-runs-requires (λ c κs. search needs) returns-3
+    (λ c κs. search needs) close-refusal-requires (λ c κs. search needs) returns-4 returns-5)
