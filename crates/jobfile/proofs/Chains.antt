@@ -5,8 +5,7 @@
 --   chained-each        what the rule says of one alone holds of each
 --   chained-next        the rule holds of each and the next
 --   chained             from the rule of the first, and of each and the next
---   counted-at          the rule holds of each with its number
---   counted-all         and from that of each
+--   counted-all         from the rule of each with its number
 --   counted-few         where the rule bounds the number, there are few
 --   chain-passes        written records that keep the rule are not refused
 --   section-chain       records that are not refused keep it
@@ -58,12 +57,6 @@ module _ {A : Type 0} (R : ℕ → A → Type 0) where
   -- one number more
   shift : (number i : ℕ) → number + 1 + i ≡ number + suc i
   shift number i = omega arith
-
-  pub counted-at : (number : ℕ) (l : List A) → Chained R counted number l
-      → (i : ℕ) (none : A) → i < length l → R (number + i) (getD l i none)
-  counted-at number [] c i none l = absurd (omega arith)
-  counted-at number (a ∷ rest) c zero none l = rw add-zero (c .0)
-  counted-at number (a ∷ rest) c (suc i) none l = rw (← shift number i) (counted-at (number + 1) rest (c .1) i none (omega arith))
 
   pub counted-all : (number : ℕ) (l : List A) → ((i : ℕ) (none : A) → i < length l → R (number + i) (getD l i none))
       → Chained R counted number l

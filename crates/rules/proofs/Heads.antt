@@ -1,5 +1,8 @@
 -- Document 02, A4: heads that have no request and no grant change nothing in a run, however many they are.
 --
+--   withHeads S heads   the state S with those heads in place of its own
+--   beside S more       the state S with more heads behind its own
+--
 -- Main laws: run-beside, a run leaves the heads behind its own alone; heads-open, a run with more heads is the same run.
 use mathlib.Core.Path.{_≡_, refl, sym, ap, _∙_, subst}
 use mathlib.Core.Bool.{cond}
@@ -18,9 +21,25 @@ use Rattle.rules.specs.State.{State, requestAt, seek, resting, headsFrom
 use Rattle.rules.specs.Step.{Turn, turnOf, advanced, settled, turn, stepBy, step}
 use Rattle.rules.specs.Step.Turn.{idled, serves}
 use Rattle.rules.specs.Run.{Happening, happenedBy, happened, run, history}
-use Rattle.rules.specs.Heads.{withHeads, beside, SameRun, HeadsOpen}
+use Rattle.rules.specs.Heads.{SameRun, HeadsOpen}
 use Rattle.rules.proofs.Requests.{seek-absent}
 use Rattle.rules.proofs.Theorem.{length-heads, step-heads}
+
+abbrev withHeads : State → List Head → State
+withHeads S heads =
+    record {
+      table = S .table;
+      heads = heads;
+      report = S .report;
+      entries = S .entries;
+      idle = S .idle;
+      failed = S .failed;
+      links = S .links;
+      now = S .now;
+    }
+
+abbrev beside : State → List Head → State
+beside S more = withHeads S (S .heads ++ more)
 
 -- ---- one grant to one of the heads
 
@@ -49,14 +68,14 @@ module _ (qs : List Request) (ws : List Wait) (S : State) (more : List Head) (h 
 -- ---- every run
 
 module _ (qs : List Request) (ws : List Wait) (more : List Head) where
-  pub run-beside : (S : State) (gs : List ℕ) → ((h : ℕ) → List·Memᴰ h gs → h < length (S .heads))
+  run-beside : (S : State) (gs : List ℕ) → ((h : ℕ) → List·Memᴰ h gs → h < length (S .heads))
       → run qs ws (beside S more) gs ≡ beside (run qs ws S gs) more
   run-beside S [] granted = refl
   run-beside S (h ∷ gs) granted =
       ap (λ s. run qs ws s gs) (step-beside qs ws S more h (granted h (List·Memᴰ·head refl)))
       ∙ run-beside (step qs ws S h) gs (λ k m. rw (step-heads qs ws S h) (granted k (List·Memᴰ·tail m)))
 
-  pub history-beside : (S : State) (past : List Happening) (gs : List ℕ) → ((h : ℕ) → List·Memᴰ h gs → h < length (S .heads))
+  history-beside : (S : State) (past : List Happening) (gs : List ℕ) → ((h : ℕ) → List·Memᴰ h gs → h < length (S .heads))
       → history qs ws (beside S more) past gs ≡ history qs ws S past gs
   history-beside S past [] granted = refl
   history-beside S past (h ∷ gs) granted =

@@ -1,36 +1,17 @@
 -- Document 02, A4: "What holds of heads should be shown for a head count left open". A run with more heads is the same run.
 --
---   withHeads S heads   the state S with those heads in place of its own
---   beside S more       the state S with more heads behind its own
 --   SameRun qs S S′     the two states differ in their heads at most, and not in their tally
 --   SameAfter           from that table, m heads and m′ heads have the same run and history after the grants gs
 --   HeadsOpen           so have any two numbers of heads, if all requests and all grants are those of the lower number's heads
 use mathlib.Core.Path.{_≡_}
-use mathlib.Core.List.{List, [], _++_, List·Memᴰ}
+use mathlib.Core.List.{List, [], List·Memᴰ}
 use Prim.Native.Nat.{ℕ, _≤_, _<_}
 use lib.ListN.{length}
 use Rattle.job.specs.declared.Request.{Request}
 use Rattle.job.specs.declared.Wait.{Wait}
 use Rattle.word.specs.declared.Node.{Node}
-use Rattle.process.specs.declared.Head.{Head}
 use Rattle.rules.specs.State.{State, requestAt, start, tallyOf}
 use Rattle.rules.specs.Run.{run, history}
-
-abbrev pub withHeads : State → List Head → State
-withHeads S heads =
-    record {
-      table = S .table;
-      heads = heads;
-      report = S .report;
-      entries = S .entries;
-      idle = S .idle;
-      failed = S .failed;
-      links = S .links;
-      now = S .now;
-    }
-
-abbrev pub beside : State → List Head → State
-beside S more = withHeads S (S .heads ++ more)
 
 -- "keeps its table, report, line-up and tally"
 pub record SameRun (qs : List Request) (S S′ : State) : Type 0 where
