@@ -8,7 +8,7 @@ use crate::buffers::charge_row;
 use crate::buffers::enter;
 use crate::heads::ready_head;
 use crate::heads::settled_head;
-use crate::waits::does_free;
+use crate::waits::first_due;
 use crate::waits::renewed_head;
 use job::MOST_HEADS;
 use process::Event;
@@ -142,13 +142,13 @@ fn serve(
     charge_row(report, task.request, number, answer);
     let listed = enter(linearization, entries, event.point, task.request as u32);
     let work = work_left(mask, h, next.task.request, counts.requests);
-    if !does_free(counts, answer) {
+    let mut k = first_due(counts, answer);
+    if k == MOST_HEADS {
         if at < HALF {
             return used(half_moved(before, heads, 0), listed, work, event);
         }
         return used(half_moved(before, heads, HALF), listed, work, event);
     }
-    let mut k: usize = 0;
     while k < MOST_HEADS {
         heads[k] = renewed_head(file, counts, report, heads[k], k as u32, h, task.request);
         k += 1;

@@ -1,5 +1,6 @@
 // What a head waits for (02, A3): the pairs of an accepted file, searched where they stand, and the heads' records.
 use job::Answer;
+use job::MOST_HEADS;
 use process::Head;
 use process::NO_WAIT;
 use reader::Checked;
@@ -7,6 +8,7 @@ ghost use mathlib.Core.Path.{_≡_};
 ghost use mathlib.Core.Bool.{cond};
 ghost use Prim.Native.Nat.{_+_, _*_, _≤_, _<_};
 ghost use lib.ListN.{length};
+ghost use Rattle.job.specs.Job.{mostHeads};
 ghost use Rattle.reader.specs.Reader.{Playing};
 ghost use Rattle.rules.specs.Report.{unfinished};
 ghost use Rattle.rules.specs.State.{lowestWait, waitOf};
@@ -108,12 +110,15 @@ pub fn renewed_head(
     head
 }
 
-// Whether an answer may free a head that waits: only one that finishes a request does, and only where the file has pairs.
-pub fn does_free(counts: Checked, answer: Answer) -> bool
-    ensures { λ r. ⌜ r ≡ frees (counts .waits) answer ⌝ }
+// Where to begin to look at the heads' records again after a grant that gave that answer: at the first, or past the last.
+pub fn first_due(counts: Checked, answer: Answer) -> usize
+    ensures { λ r. ⌜ r ≡ cond (frees (counts .waits) answer) 0 mostHeads ⌝ }
 {
     if counts.waits == 0 {
-        return false;
+        return MOST_HEADS;
     }
-    rules::is_final(answer)
+    if rules::is_final(answer) {
+        return 0;
+    }
+    MOST_HEADS
 }

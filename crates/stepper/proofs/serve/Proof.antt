@@ -3,20 +3,18 @@
 use Rattle.stepper.proofs.Needs.{Service, waiting-stepped, ready-next, ready-mask, ready-small, ready-raisable, ready-touchable}
 use Rattle.stepper.proofs.Needs.{ready-room, ready-used, ready-insertable, ready-moved, ready-own, ready-records, ready-rows}
 use Rattle.stepper.proofs.Needs.{ready-number, serve-stepped, serve-renewable}
-use Rattle.stepper.proofs.Renewed.{renewed-on, renewed-end, frees-final, renewed-noted}
+use Rattle.stepper.proofs.Renewed.{Renewed, renewed-start, renewed-some, renewed-here, renewed-on, renewed-end}
+use Rattle.stepper.proofs.Renewed.{frees-final, renewed-noted}
 use Rattle.stepper.proofs.Halves.{alike-set}
-use mathlib.Core.Path.{_≡_, refl, sym, ap, _∙_}
-use mathlib.Core.Bool.{Bool, true, false, cond}
+use mathlib.Core.Path.{_≡_, refl, sym, _∙_}
+use mathlib.Core.Bool.{Bool, cond}
 use mathlib.Core.List.{List, map}
 use native.Mathlib.Omega.{arith}
 use borrow.Author.Needs.{needs}
-use borrow.Author.Tests.{not-true, not-false}
 use Prim.Native.Nat.{_-_}
 use lib.ListN.{length, set}
-use Rattle.basics.proofs.Taken.{Taken, taken-none}
 use Rattle.job.specs.Job.{mostHeads}
 use Rattle.process.specs.declared.Head.{Head}
-use Rattle.rules.specs.State.{resting}
 use Rattle.stepper.specs.declared.Granted.{Granted}
 use Rattle.stepper.specs.Buffers.{rowsOf}
 use Rattle.stepper.specs.Shown.{Buffers, buffers, waitsIn, noted, usedDone, Grants}
@@ -27,7 +25,7 @@ use Rattle.stepper.proofs.serve.Tie as tie
 
 abbrev Inv-loop : tie.InvT-loop
 Inv-loop file successors counts h number table report linearization entries mask heads₀ at event next task listed k₀ heads k =
-    Taken (resting 0) heads₀ (map (noted (waitsIn file) (rowsOf report)) heads₀) k heads
+    Renewed (frees (counts .waits) (event .answer)) (noted (waitsIn file) (rowsOf report)) heads₀ k heads
 
 abbrev μ-loop : tie.MeasureT-loop
 μ-loop file successors counts h number table report linearization entries mask heads₀ at event next task listed k₀ heads k =
@@ -89,7 +87,7 @@ module _ (k : tie.After-ready-head Inv-loop μ-loop) where
       }
 
 -- the grant frees nobody or some; heads₀ are the heads with the one that was granted
-module _ (d : tie.After-does-free Inv-loop μ-loop) where
+module _ (d : tie.After-first-due Inv-loop μ-loop) where
   abbrev listed : tie.After-enter Inv-loop μ-loop
   listed = entered (d .before)
 
@@ -135,9 +133,9 @@ module _ (d : tie.After-does-free Inv-loop μ-loop) where
       (moved .ensures .1) (paid .charge-row .ensures) (listed .enter .ensures .1) (listed .enter .ensures .0)
       (settled (paid .before) .settled-head .ensures) (d .before .work-left .ensures) heads renewed r is
 
-  -- as they are, where it frees nobody, or as they are renewed
-  chosen : (b : Bool) → d .does-free .result ≡ b → cond b (map renew heads₀) heads₀ ≡ cond freeing (map renew heads₀) heads₀
-  chosen b is = ap (λ c. cond c (map renew heads₀) heads₀) (sym is ∙ d .does-free .ensures)
+  -- where it frees nobody, the heads are as they are
+  unchanged : d .first-due .result ≡ mostHeads → heads₀ ≡ cond freeing (map renew heads₀) heads₀
+  unchanged past = renewed-end (renewed-start freeing renew heads₀ _ (d .first-due .ensures)) records (omega arith)
 
 -- ---- the needs
 
@@ -199,7 +197,7 @@ same-length c = search (needs, made (c .before .before .before .before) .stepped
 returns-2 : tie.Need-returns-2 Inv-loop μ-loop
 returns-2 c =
     let d = c .before .before .before .before in
-    let is = c .before .half-moved .ensures ∙ chosen d false (not-true _ (c .before .before .before .if2 .taken)) in
+    let is = c .before .half-moved .ensures ∙ unchanged d (c .before .before .before .if2 .taken) in
     leaves d (c .before .half-moved .result) is (c .used .result) (c .used .ensures)
 
 half-moved-requires-2 : tie.Need-half-moved-requires-2 Inv-loop μ-loop
@@ -213,11 +211,11 @@ same-length-4 c = search (needs, made (c .before .before .before .before) .stepp
 returns-3 : tie.Need-returns-3 Inv-loop μ-loop
 returns-3 c =
     let d = c .before .before .before .before in
-    let is = c .before .half-moved2 .ensures ∙ chosen d false (not-true _ (c .before .before .before .if2 .taken)) in
+    let is = c .before .half-moved2 .ensures ∙ unchanged d (c .before .before .before .if2 .taken) in
     leaves d (c .before .half-moved2 .result) is (c .used2 .result) (c .used2 .ensures)
 
 loop-holds : tie.Need-loop-holds Inv-loop μ-loop
-loop-holds c = taken-none
+loop-holds c = renewed-start _ _ _ _ (c .before .first-due .ensures)
 
 renewed-head-requires : tie.Need-renewed-head-requires Inv-loop μ-loop
 renewed-head-requires c κs =
@@ -236,18 +234,17 @@ loop-again c =
     (moved .ensures .1) (paid d .charge-row .ensures) (listed d .enter .ensures .1) (listed d .enter .ensures .0)
     (settled (paid d .before) .settled-head .ensures) refl in
     let there = c .before .before .before .loop-test .taken in
-    let frees = sym (d .does-free .ensures) ∙ not-false _ (looped (c .before) .before .if2 .left) in
-    let final = frees-final (begun (known d) .args .counts .waits) (moved .result .event .answer) frees in
-    renewed-on (renew d) (l .inv) (records d) _ (omega (arith, there))
+    let some = renewed-some (l .inv) (records d) (omega (arith, there)) in
+    let final = frees-final (begun (known d) .args .counts .waits) (moved .result .event .answer) some in
+    renewed-on (l .inv) (records d) _ (omega (arith, there))
     (c .renewed-head .ensures
-    ∙ renewed-noted (renewable final) (l .k) (omega (arith, there)) _ (l .inv .kept (l .k) (omega arith)))
+    ∙ renewed-noted (renewable final) (l .k) (omega (arith, there)) _ (renewed-here (l .inv) (records d) (omega (arith, there))))
 
 returns-4 : tie.Need-returns-4 Inv-loop μ-loop
 returns-4 c =
     let at = c .before .before in
     let d = at .before .before in
-    let is = renewed-end (renew d) (at .loop .inv) (records d) (omega arith) ∙ chosen d true (not-false _ (at .before .if2 .left)) in
-    leaves d (at .loop .heads) is (c .used3 .result) (c .used3 .ensures)
+    leaves d (at .loop .heads) (renewed-end (at .loop .inv) (records d) (omega arith)) (c .used3 .result) (c .used3 .ensures)
 
 pub serve-spec : {M : Type 1} → statement M
 serve-spec =
