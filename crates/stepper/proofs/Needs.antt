@@ -1,7 +1,7 @@
 -- What a served grant asks of its parts, and what it leaves, from a state that the buffers show.
 --
 -- Main laws: what each part asks of a grant (ready-raisable, ready-touchable, ready-room, ready-insertable ..);
--- serve-stepped, what the parts leave together; idle-shown and idle-done, the grant that serves nobody.
+-- serve-stepped, what the parts leave together; idle-stepped and waiting-stepped, the grant that serves nobody.
 use mathlib.Core.Path.{_≡_, refl, sym, ap, _∙_, subst}
 use mathlib.Core.Logic.{_≢_}
 use mathlib.Core.Bool.{Bool, true, false, cond, not}
