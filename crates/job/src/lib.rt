@@ -1,6 +1,6 @@
-// What a job asks for and what playing it leaves: kinds, answers, requests, counters and the summary of a play.
+// What a job asks for and what playing it leaves: kinds, answers, requests, pairs, rights, counters and the summary of a play.
 ghost use mathlib.Core.Path.{_≡_};
-ghost use Rattle.job.specs.Job.{answerNumber};
+ghost use Rattle.job.specs.Job.{answerNumber, everyRight};
 
 // The most nodes of a job and of a table (document 01: places).
 pub const MOST_NODES: usize = 4096;
@@ -40,6 +40,13 @@ pub struct Wait {
     pub earlier: u32,
 }
 
+// What a head may ask (1 unions, 2 same-sets, 3 both), and the mask of the heads whose requests it may see (02, A5).
+pub struct Right {
+    pub head: u32,
+    pub rights: u32,
+    pub sight: u32,
+}
+
 // The counters of a play (document 01: tally): idle grants, failed swaps, links, and the heads with work left.
 #[repr(C)]
 pub struct Tally {
@@ -71,5 +78,16 @@ pub fn answer_number(answer: Answer) -> u32
         Answer::Together => 2,
         Answer::Yes => 3,
         Answer::No => 4,
+    }
+}
+
+// Every right, and sight of every head: what a head has in a job without such records (02, A5).
+pub fn every_right(head: u32) -> Right
+    ensures { λ r. ⌜ r ≡ everyRight head ⌝ }
+{
+    Right {
+        head,
+        rights: 3,
+        sight: u32::MAX,
     }
 }

@@ -5,17 +5,20 @@
 --   chained-each        what the rule says of one alone holds of each
 --   chained-next        the rule holds of each and the next
 --   chained             from the rule of the first, and of each and the next
+--   counted-each        the rule holds of each with its number
 --   counted-all         from the rule of each with its number
 --   counted-few         where the rule bounds the number, there are few
+--   chained-map         a rule that follows from it holds of the same lists
+--   checked-chain, chain-checked   a list in which none is refused keeps the rule, and the other way round
 --   chain-passes        written records that keep the rule are not refused
 --   section-chain       records that are not refused keep it
-use mathlib.Core.Path.{_≡_}
+use mathlib.Core.Path.{_≡_, refl}
 use mathlib.Core.List.{List, [], _∷_, _++_, map}
 use Prim.Native.Nat.{ℕ, zero, suc, _+_, _≤_, _<_}
 use native.Mathlib.Omega.{arith}
 use native.Mathlib.Nat.{add-zero}
 use lib.ListN.{length, getD}
-use Rattle.jobfile.specs.Meaning.{sectionRefusal}
+use Rattle.jobfile.specs.Format.{firstRefusal}
 use Rattle.jobfile.specs.Written.{recordsBytes}
 use Rattle.jobfile.specs.Admitted.{Bytes}
 use Rattle.jobfile.proofs.Refusals.{through}
@@ -58,6 +61,12 @@ module _ {A : Type 0} (R : ℕ → A → Type 0) where
   shift : (number i : ℕ) → number + 1 + i ≡ number + suc i
   shift number i = omega arith
 
+  pub counted-each : (number : ℕ) (l : List A) → Chained R counted number l
+      → (i : ℕ) (none : A) → i < length l → R (number + i) (getD l i none)
+  counted-each number [] c i none l = absurd (omega arith)
+  counted-each number (a ∷ rest) c zero none l = rw add-zero (c .0)
+  counted-each number (a ∷ rest) c (suc i) none l = rw (← shift number i) (counted-each (number + 1) rest (c .1) i none (omega arith))
+
   pub counted-all : (number : ℕ) (l : List A) → ((i : ℕ) (none : A) → i < length l → R (number + i) (getD l i none))
       → Chained R counted number l
   counted-all number [] each = tt
@@ -72,6 +81,26 @@ module _ {A : Type 0} (R : ℕ → A → Type 0) where
   counted-few most bounds number (a ∷ l) few c =
       omega (arith, counted-few most bounds (number + 1) l (omega (arith, bounds number a (c .0))) (c .1))
 
+module _ {S A : Type 0} {R Q : S → A → Type 0} (next : S → A → S) (follows : (before : S) (a : A) → R before a → Q before a) where
+  pub chained-map : (before : S) (l : List A) → Chained R next before l → Chained Q next before l
+  chained-map before [] c = tt
+  chained-map before (a ∷ l) c = (follows before a (c .0), chained-map (next before a) l (c .1))
+
+module _ {S A : Type 0} (check : S → A → ℕ) (R : S → A → Type 0) (next : S → A → S) where
+  pub checked-chain : ((before : S) (a : A) → check before a ≡ 0 → R before a)
+      → (before : S) (l : List A) → firstRefusal check next before l ≡ 0 → Chained R next before l
+  unfolding firstRefusal
+  checked-chain rule before [] e = tt
+  checked-chain rule before (a ∷ l) e =
+      let p = through (check before a) _ e in
+      (rule before a (p .first), checked-chain rule (next before a) l (p .second))
+
+  pub chain-checked : ((before : S) (a : A) → R before a → check before a ≡ 0)
+      → (before : S) (l : List A) → Chained R next before l → firstRefusal check next before l ≡ 0
+  unfolding firstRefusal
+  chain-checked passes before [] c = refl
+  chain-checked passes before (a ∷ l) c = rw (passes before a (c .0)) (chain-checked passes (next before a) l (c .1))
+
 -- What the records before one leave is told by what they are read as.
 module _ {S A : Type 0} (k : Layout A S) (R : S → A → Type 0) (next : S → A → S)
     (kept : (before : S) (t : List ℕ) → k .next before t ≡ next before (k .at t)) where
@@ -85,7 +114,7 @@ module _ {S A : Type 0} (k : Layout A S) (R : S → A → Type 0) (next : S → 
   pub section-chain : ((before : S) (t : List ℕ) → Bytes t → k .check before t ≡ 0 → R before (k .at t))
       → {t rest : List ℕ} {ts : List (List ℕ)} (before : S) → Section (k .size) (k .mark) t ts rest → Bytes t
       → refusal k before ts ≡ 0 → Chained R next before (map (k .at) ts)
-  unfolding sectionRefusal
+  unfolding firstRefusal
   section-chain rule before over b e = tt
   section-chain rule {t} before (more m s) b e =
       let p = through (k .check before t) _ e in

@@ -6,18 +6,22 @@
 use mathlib.Core.Path.{subst}
 use mathlib.Core.Bool.{Bool, true, false, cond}
 use mathlib.Core.List.{List, [], _∷_, _++_}
-use Prim.Native.Nat.{ℕ, zero, suc, _≤_, _<_}
+use Prim.Native.Nat.{ℕ, zero, suc, _+_, _/_, _%_, _≤_, _<_}
 use native.Mathlib.Omega.{arith}
 use lib.ListN.{length, getD, take, drop, take-append-drop}
+use lib.Pow.{pow-mono}
 use Rattle.job.specs.declared.Kind.{Kind}
 use Rattle.job.specs.declared.Kind.the-variants.{Union, SameSet}
 use Rattle.job.specs.declared.Request.{Request}
 use Rattle.job.specs.declared.Wait.{Wait}
+use Rattle.job.specs.declared.Right.{Right}
 use Rattle.job.specs.Job.{Job, kindNumber, mostNodes, mostHeads, mostRequests}
 use Rattle.jobfile.specs.declared.Run.{Run}
 use Rattle.jobfile.specs.Format.{closeMark, wordBytes, extends}
-use Rattle.jobfile.specs.Written.{requestsBytes, waitsBytes, runsBytes, nextRun, runsFrom, longestRuns, fileWith, balance, written}
+use Rattle.jobfile.specs.Written.{rightsBytes, requestsBytes, waitsBytes, runsBytes, nextRun, runsFrom, longestRuns, fileWith}
+use Rattle.jobfile.specs.Written.{balance, written}
 use Rattle.jobfile.specs.Admitted.{Serves, Pairs, Admitted, Bytes}
+use Rattle.jobfile.proofs.Rights.{Holding, holding-all}
 use Rattle.jobfile.proofs.Runs.{Follows, longest-follow}
 
 -- ---- the runs of the first grants
@@ -65,13 +69,27 @@ kind-byte : (k : Kind) → kindNumber k < 256
 kind-byte Union = omega arith
 kind-byte SameSet = omega arith
 
+-- a right's numbers are bytes: there are at most 32 heads, and its mask has no bit for no head
+rights-each : (heads number : ℕ) (rs : List Right) (t : List ℕ) → heads ≤ mostHeads → Holding heads number rs → Each t
+    → Each (rightsBytes rs ++ t)
+rights-each heads number [] t few holding rest = rest
+rights-each heads number (r ∷ rs) t few holding rest =
+    let more = rights-each heads (number + 1) rs t few (holding .1) rest in
+    let held = holding .0 .holds in
+    let within : r .sight < 4294967296 = omega (arith, held .sight, pow-mono few) in
+    let low : Each (wordBytes (r .sight % 65536)) = (omega arith, (omega arith, tt)) in
+    let high : Each (wordBytes (r .sight / 65536)) = (omega arith, (omega arith, tt)) in
+    let head : r .head < 256 = omega (arith, held .head, holding .0 .among) in
+    let rights : r .rights < 256 = omega (arith, held .few) in
+    (omega arith, (omega arith, (head, (rights, (low .0, (low .1 .0, (high .0, (high .1 .0, more))))))))
+
 -- a request's numbers are bytes: there are at most 4,096 nodes and 32 heads
-requests-each : (nodes heads : ℕ) (qs : List Request) (t : List ℕ) → nodes ≤ mostNodes → heads ≤ mostHeads
-    → ((q : ℕ) (none : Request) → q < length qs → Serves nodes heads (getD qs q none)) → Each t → Each (requestsBytes qs ++ t)
-requests-each nodes heads [] t few-nodes few-heads serves rest = rest
-requests-each nodes heads (q ∷ qs) t few-nodes few-heads serves rest =
+requests-each : (nodes heads : ℕ) (rights : List Right) (qs : List Request) (t : List ℕ) → nodes ≤ mostNodes → heads ≤ mostHeads
+    → ((q : ℕ) (none : Request) → q < length qs → Serves nodes heads rights (getD qs q none)) → Each t → Each (requestsBytes qs ++ t)
+requests-each nodes heads rights [] t few-nodes few-heads serves rest = rest
+requests-each nodes heads rights (q ∷ qs) t few-nodes few-heads serves rest =
     let s = serves 0 q (omega arith) in
-    let more = requests-each nodes heads qs t few-nodes few-heads (λ i none l. serves (suc i) none (omega arith)) rest in
+    let more = requests-each nodes heads rights qs t few-nodes few-heads (λ i none l. serves (suc i) none (omega arith)) rest in
     let x : Each (wordBytes (q .x)) = (omega arith, (omega (arith, s .x), tt)) in
     let y : Each (wordBytes (q .y)) = (omega arith, (omega (arith, s .y), tt)) in
     (omega arith, (omega arith, (omega (arith, s .head), (kind-byte (q .kind), (x .0, (x .1 .0, (y .0, (y .1 .0, more))))))))
@@ -105,6 +123,9 @@ written-bytes j a =
     let runs = runs-each (j .heads) _ (longestRuns (j .schedule)) close (a .few-heads) follow last in
     let waits = waits-each (length (j .requests)) (j .waits) (runsBytes (longestRuns (j .schedule)) ++ close)
     (a .few-requests) (a .each-wait) runs in
-    let body = requests-each (j .nodes) (j .heads) (j .requests) (waitsBytes (j .waits) ++ (runsBytes (longestRuns (j .schedule)) ++ close))
-    (a .few-nodes) (a .few-heads) (a .each-request) waits in
+    let requests = requests-each (j .nodes) (j .heads) (j .rights) (j .requests)
+    (waitsBytes (j .waits) ++ (runsBytes (longestRuns (j .schedule)) ++ close)) (a .few-nodes) (a .few-heads) (a .each-request) waits in
+    let body = rights-each (j .heads) 0 (j .rights)
+    (requestsBytes (j .requests) ++ (waitsBytes (j .waits) ++ (runsBytes (longestRuns (j .schedule)) ++ close))) (a .few-heads)
+    (holding-all (j .heads) (j .rights) (a .complete) (a .each-right)) requests in
     each-bytes (written j) (omega arith, (omega arith, (nodes .0, (nodes .1 .0, (heads .0, (heads .1 .0, body))))))

@@ -11,19 +11,23 @@ use native.Mathlib.Omega.{arith}
 use lib.ListN.{length, drop, length-append}
 use borrow.Author.Tests.{le-ltb}
 use Rattle.job.specs.Job.{Job}
-use Rattle.jobfile.specs.Format.{jobMark, requestMark, waitMark, closeMark, jobSize, mostBytes, word, wordBytes, wordSum}
-use Rattle.jobfile.specs.Format.{noPair, lengthRefusal}
-use Rattle.jobfile.specs.Meaning.{nodesIn, headsIn, headerRefusal, requestAt, requestsRefusal, waitAt, waitsRefusal, runsRefusal}
-use Rattle.jobfile.specs.Meaning.{fullRun, granted, closeRefusal, balanceRefusal, requestRecords, waitsStart, waitRecords}
-use Rattle.jobfile.specs.Meaning.{runsStart, runRecords, closeStart, fileRefusal, runsIn, jobIn, accepted, meaning}
-use Rattle.jobfile.specs.Written.{requestsBytes, waitsBytes, runsBytes, longestRuns, fileWith, balance, written}
+use Rattle.jobfile.specs.Format.{jobMark, rightMark, requestMark, waitMark, closeMark, jobSize, mostBytes, word, wordBytes}
+use Rattle.jobfile.specs.Format.{wordSum, noPair, lengthRefusal}
+use Rattle.jobfile.specs.Meaning.{nodesIn, headsIn, headerRefusal, rightsRefusal, missingRefusal, requestAt, requestsRefusal}
+use Rattle.jobfile.specs.Meaning.{waitAt, waitsRefusal, runsRefusal, fullRun, granted, closeRefusal, balanceRefusal}
+use Rattle.jobfile.specs.Meaning.{rightRecords, rightsIn, requestsStart, requestRecords, waitsStart, waitRecords, runsStart}
+use Rattle.jobfile.specs.Meaning.{runRecords, closeStart, fileRefusal, runsIn, jobIn, accepted, meaning}
+use Rattle.jobfile.specs.Written.{rightsBytes, requestsBytes, waitsBytes, runsBytes, longestRuns, fileWith, balance, written}
 use Rattle.jobfile.specs.Admitted.{Admitted}
 use Rattle.jobfile.proofs.Refusals.{sized-passes}
+use Rattle.jobfile.proofs.Passed.{complete-passes}
+use Rattle.jobfile.proofs.Rights.{holding-all}
 use Rattle.jobfile.proofs.Requests.{asking-all}
 use Rattle.jobfile.proofs.Pairs.{rising-all}
 use Rattle.jobfile.proofs.Runs.{granted-longest, longest-follow}
 use Rattle.jobfile.proofs.Records.{length-records, section-other, written-read, written-count, written-behind, written-passes}
-use Rattle.jobfile.proofs.Layouts.{word-back, requestLayout, waitLayout, runLayout, asking-pass, rising-pass, following-pass}
+use Rattle.jobfile.proofs.Layouts.{word-back, rightLayout, requestLayout, waitLayout, runLayout}
+use Rattle.jobfile.proofs.Layouts.{holding-pass, asking-pass, rising-pass, following-pass}
 
 -- The close with the balance w.
 abbrev close : ℕ → List ℕ
@@ -33,7 +37,7 @@ close w = wordBytes closeMark ++ wordBytes w
 abbrev pub body : Job → List ℕ
 body j =
     wordBytes jobMark ++ wordBytes (j .nodes) ++ wordBytes (j .heads)
-    ++ requestsBytes (j .requests) ++ waitsBytes (j .waits) ++ runsBytes (longestRuns (j .schedule))
+    ++ rightsBytes (j .rights) ++ requestsBytes (j .requests) ++ waitsBytes (j .waits) ++ runsBytes (longestRuns (j .schedule))
 
 pub file-parts : (j : Job) (w : ℕ) → fileWith j w ≡ (body j ++ wordBytes closeMark) ++ wordBytes w
 unfolding fileWith
@@ -48,7 +52,14 @@ sum-last (low ∷ high ∷ t) w even = omega (arith, sum-last t w (omega arith))
 pub sum-parts : (j : Job) (w : ℕ) → wordSum (fileWith j w) ≡ wordSum (body j ++ wordBytes closeMark) + w
 sum-parts j w =
     let even : length (body j ++ wordBytes closeMark) % 2 ≡ 0 =
-    simp (length-append, length-records (requestLayout 0 0), length-records (waitLayout 0), length-records (runLayout 0)) (omega arith) in
+    simp (
+      length-append,
+      length-records (rightLayout 0),
+      length-records (requestLayout 0 0 []),
+      length-records (waitLayout 0),
+      length-records (runLayout 0),
+    )
+    (omega arith) in
     ap wordSum (file-parts j w) ∙ sum-last (body j ++ wordBytes closeMark) w even
 
 -- What stands where in the file of an admitted job.
@@ -56,12 +67,15 @@ module _ (j : Job) (w : ℕ) (a : Admitted j) where
   abbrev file : List ℕ
   file = fileWith j w
 
-  -- what stands behind the pairs, and behind the requests
+  -- what stands behind the pairs, behind the requests, and behind the rights
   abbrev behind-waits : List ℕ
   behind-waits = runsBytes (longestRuns (j .schedule)) ++ close w
 
   abbrev behind-requests : List ℕ
   behind-requests = waitsBytes (j .waits) ++ behind-waits
+
+  abbrev behind-rights : List ℕ
+  behind-rights = requestsBytes (j .requests) ++ behind-requests
 
   nodes-here : nodesIn file ≡ j .nodes
   unfolding fileWith
@@ -71,7 +85,7 @@ module _ (j : Job) (w : ℕ) (a : Admitted j) where
   unfolding fileWith
   heads-here = word-back (j .heads)
 
-  -- neither a pair nor a run nor the close is taken for a request, and neither a run nor the close for a pair
+  -- no record is taken for one of a section before its own
   no-wait : word behind-waits ≡ waitMark → ⊥
   no-wait = section-other (runLayout 0) waitMark (longestRuns (j .schedule)) (close w) (λ e. omega arith) (λ e. omega arith)
 
@@ -80,13 +94,23 @@ module _ (j : Job) (w : ℕ) (a : Admitted j) where
       section-other (waitLayout 0) requestMark (j .waits) behind-waits (λ e. omega arith)
       (section-other (runLayout 0) requestMark (longestRuns (j .schedule)) (close w) (λ e. omega arith) (λ e. omega arith))
 
+  no-right : word behind-rights ≡ rightMark → ⊥
+  no-right =
+      section-other (requestLayout 0 0 []) rightMark (j .requests) behind-requests (λ e. omega arith)
+      (section-other (waitLayout 0) rightMark (j .waits) behind-waits (λ e. omega arith)
+      (section-other (runLayout 0) rightMark (longestRuns (j .schedule)) (close w) (λ e. omega arith) (λ e. omega arith)))
+
   -- each section stands behind the one before it
-  requests-here : drop jobSize file ≡ requestsBytes (j .requests) ++ behind-requests
+  rights-here : drop jobSize file ≡ rightsBytes (j .rights) ++ behind-rights
   unfolding fileWith
-  requests-here = refl
+  rights-here = refl
+
+  requests-here : drop (requestsStart file) file ≡ behind-rights
+  requests-here = written-behind (rightLayout 0) file jobSize (j .rights) behind-rights rights-here no-right
 
   waits-here : drop (waitsStart file) file ≡ behind-requests
-  waits-here = written-behind (requestLayout 0 0) file jobSize (j .requests) behind-requests requests-here no-request
+  waits-here =
+      written-behind (requestLayout 0 0 []) file (requestsStart file) (j .requests) behind-requests requests-here no-request
 
   runs-here : drop (runsStart file) file ≡ behind-waits
   runs-here = written-behind (waitLayout 0) file (waitsStart file) (j .waits) behind-waits waits-here no-wait
@@ -95,8 +119,12 @@ module _ (j : Job) (w : ℕ) (a : Admitted j) where
   close-here = written-behind (runLayout 0) file (runsStart file) (longestRuns (j .schedule)) (close w) runs-here (λ e. omega arith)
 
   -- and is read back
+  rights-read : rightsIn file ≡ j .rights
+  rights-read = written-read (rightLayout 0) file jobSize (j .rights) behind-rights rights-here no-right
+
   requests-read : map requestAt (requestRecords file) ≡ j .requests
-  requests-read = written-read (requestLayout 0 0) file jobSize (j .requests) behind-requests requests-here no-request
+  requests-read =
+      written-read (requestLayout 0 0 []) file (requestsStart file) (j .requests) behind-requests requests-here no-request
 
   waits-read : map waitAt (waitRecords file) ≡ j .waits
   waits-read = written-read (waitLayout 0) file (waitsStart file) (j .waits) behind-waits waits-here no-wait
@@ -104,14 +132,19 @@ module _ (j : Job) (w : ℕ) (a : Admitted j) where
   runs-read : runsIn file ≡ longestRuns (j .schedule)
   runs-read = written-read (runLayout 0) file (runsStart file) (longestRuns (j .schedule)) (close w) runs-here (λ e. omega arith)
 
+  right-count : length (rightRecords file) ≡ length (j .rights)
+  right-count = written-count (rightLayout 0) file jobSize (j .rights) behind-rights rights-here no-right
+
   request-count : length (requestRecords file) ≡ length (j .requests)
-  request-count = written-count (requestLayout 0 0) file jobSize (j .requests) behind-requests requests-here no-request
+  request-count =
+      written-count (requestLayout 0 0 []) file (requestsStart file) (j .requests) behind-requests requests-here no-request
 
   job-here : jobIn file ≡ j
   unfolding jobIn
   job-here = λ i. record {
     nodes = nodes-here i;
     heads = heads-here i;
+    rights = rights-read i;
     requests = requests-read i;
     waits = waits-read i;
     schedule = (ap granted runs-read ∙ granted-longest (j .schedule)) i;
@@ -125,12 +158,22 @@ module _ (j : Job) (w : ℕ) (a : Admitted j) where
       (sized-passes (j .nodes) (j .heads)
       (record { some-nodes = a .some-nodes; few-nodes = a .few-nodes; some-heads = a .some-heads; few-heads = a .few-heads }))
 
-  requests-pass : requestsRefusal (nodesIn file) (headsIn file) 0 (requestRecords file) ≡ 0
+  rights-pass : rightsRefusal (headsIn file) 0 (rightRecords file) ≡ 0
+  rights-pass =
+      rw heads-here
+      (written-passes (rightLayout (j .heads)) file jobSize (j .rights) behind-rights rights-here no-right 0
+      (holding-pass (j .heads) 0 (j .rights) behind-rights (holding-all (j .heads) (j .rights) (a .complete) (a .each-right))))
+
+  none-missing : missingRefusal (headsIn file) (length (rightRecords file)) (drop (requestsStart file) file) ≡ 0
+  none-missing = rw (heads-here, right-count) (complete-passes (j .heads) (length (j .rights)) _ (a .complete))
+
+  requests-pass : requestsRefusal (nodesIn file) (headsIn file) (rightsIn file) 0 (requestRecords file) ≡ 0
   requests-pass =
-      rw (nodes-here, heads-here)
-      (written-passes (requestLayout (j .nodes) (j .heads)) file jobSize (j .requests) behind-requests requests-here no-request 0
-      (asking-pass (j .nodes) (j .heads) 0 (j .requests) behind-requests
-      (asking-all (j .nodes) (j .heads) (j .requests) (a .few-requests) (a .each-request))))
+      rw (nodes-here, heads-here, rights-read)
+      (written-passes (requestLayout (j .nodes) (j .heads) (j .rights)) file (requestsStart file) (j .requests) behind-requests
+      requests-here no-request 0
+      (asking-pass (j .nodes) (j .heads) (j .rights) 0 (j .requests) behind-requests
+      (asking-all (j .nodes) (j .heads) (j .rights) (j .requests) (a .few-requests) (a .each-request))))
 
   waits-pass : waitsRefusal (length (requestRecords file)) noPair (waitRecords file) ≡ 0
   waits-pass =
@@ -153,7 +196,18 @@ module _ (j : Job) (w : ℕ) (a : Admitted j) where
 
   file-passes : length file ≤ mostBytes → wordSum file % 65536 ≡ 0 → fileRefusal file ≡ 0
   unfolding fileRefusal lengthRefusal balanceRefusal
-  file-passes l b = simp (le-ltb mostBytes (length file) l, header-passes, requests-pass, waits-pass, runs-pass, close-passes, b)
+  file-passes l b =
+      simp (
+        le-ltb mostBytes (length file) l,
+        header-passes,
+        rights-pass,
+        none-missing,
+        requests-pass,
+        waits-pass,
+        runs-pass,
+        close-passes,
+        b,
+      )
 
 -- The balance brings the sum of the words to zero.
 balanced : (j : Job) → wordSum (written j) % 65536 ≡ 0

@@ -6,6 +6,7 @@ pub mod KindNumbers
 mod Sums
 pub mod Records
 pub mod Chains
+pub mod Rights
 pub mod Requests
 pub mod Pairs
 pub mod Runs

@@ -7,9 +7,9 @@
 --   rising-all          and from these two they rise, where nothing stands before the first
 --   rising-checked      pairs that the writer does not refuse rise
 --   checked-rising      and it refuses none that rise
-use mathlib.Core.Path.{_≡_, refl}
+use mathlib.Core.Path.{_≡_}
 use mathlib.Core.Bool.{true}
-use mathlib.Core.List.{List, [], _∷_}
+use mathlib.Core.List.{List}
 use Prim.Native.Nat.{ℕ, suc, _<_}
 use native.Mathlib.Omega.{arith}
 use lib.Dec.{ltb}
@@ -19,8 +19,8 @@ use Rattle.job.specs.declared.Wait.{Wait}
 use Rattle.jobfile.specs.Format.{risesTo, pairRefusal, noPair}
 use Rattle.jobfile.specs.Draft.{pairsRefusal}
 use Rattle.jobfile.specs.Admitted.{Pairs}
-use Rattle.jobfile.proofs.Refusals.{through, Paired, paired, paired-passes}
-use Rattle.jobfile.proofs.Chains.{Chained, latest, chained-each, chained-next, chained}
+use Rattle.jobfile.proofs.Refusals.{Paired, paired, paired-passes}
+use Rattle.jobfile.proofs.Chains.{Chained, latest, chained-each, chained-next, chained, checked-chain, chain-checked}
 
 pub rises-equal : (before w : Wait) → before .later ≡ w .later → risesTo before w ≡ ltb (before .earlier) (w .earlier)
 rises-equal before w same = rw (le-ltb (before .later) (w .later) (omega arith), eq-eqb (before .later) (w .later) same)
@@ -49,13 +49,7 @@ module _ (count : ℕ) where
       (λ i none l. let p = each (suc i) none l in record { later = p .later; earlier = p .earlier; rises = next i none l })
 
   pub rising-checked : (before : Wait) (ws : List Wait) → pairsRefusal count before ws ≡ 0 → Rising count before ws
-  unfolding pairsRefusal
-  rising-checked before [] e = tt
-  rising-checked before (w ∷ ws) e =
-      let p = through (pairRefusal count before w) _ e in
-      (paired count before w (p .first), rising-checked w ws (p .second))
+  rising-checked = checked-chain (pairRefusal count) (Paired count) latest (paired count)
 
   pub checked-rising : (before : Wait) (ws : List Wait) → Rising count before ws → pairsRefusal count before ws ≡ 0
-  unfolding pairsRefusal
-  checked-rising before [] r = refl
-  checked-rising before (w ∷ ws) r = rw (paired-passes count before w (r .0)) (checked-rising w ws (r .1))
+  checked-rising = chain-checked (pairRefusal count) (Paired count) latest (paired-passes count)

@@ -1,38 +1,78 @@
 -- What it says that a record, or a whole file, is not refused: one record of facts for each check.
 --
---   RequestPassed, WaitPassed, RunPassed, ClosePassed, HeaderPassed, FilePassed   the facts, by what is checked
-use mathlib.Core.Path.{_≡_}
-use mathlib.Core.Bool.{false, not}
+--   RightPassed, RequestPassed, WaitPassed, RunPassed, ClosePassed, HeaderPassed, FilePassed   the facts, by what is checked
+--   complete-passed, complete-passes   where none is missing, rights are none or one a head, and the other way round
+use mathlib.Core.Path.{_≡_, refl}
+use mathlib.Core.Bool.{true, false, not}
 use mathlib.Core.List.{List}
-use Prim.Native.Nat.{ℕ, _%_, _≤_, _<_}
+use Prim.Native.Nat.{ℕ, zero, suc, _%_, _≤_, _<_}
 use native.Mathlib.Omega.{arith}
 use lib.Dec.{eqb, ltb, leb}
 use lib.ListN.{length, getD, drop}
-use borrow.Author.Tests.{eqb-true, eqb-false, ltb-false, leb-false, not-false}
+use borrow.Author.Tests.{eqb-true, eqb-false, ltb-false, leb-true, leb-false, not-false, ne-eqb, le-leb}
+use Rattle.basics.proofs.Conditions.{split}
 use Rattle.job.specs.declared.Wait.{Wait}
+use Rattle.job.specs.declared.Right.{Right}
 use Rattle.jobfile.specs.declared.Run.{Run}
-use Rattle.jobfile.specs.Format.{jobMark, closeMark, jobSize, requestSize, waitSize, runSize, closeSize, mostBytes, word, wordSum}
-use Rattle.job.specs.Job.{mostRequests}
-use Rattle.jobfile.specs.Format.{noPair, extends, lengthRefusal}
-use Rattle.jobfile.specs.Meaning.{nodesIn, headsIn, headerRefusal, fieldsAt, requestRefusal}
+use Rattle.job.specs.Job.{mostRequests, mayAsk, kindOf, rightOf}
+use Rattle.jobfile.specs.Format.{jobMark, closeMark, jobSize, rightSize, requestSize, waitSize, runSize, closeSize, mostBytes, word}
+use Rattle.jobfile.specs.Format.{wordSum, fieldsRefusal, noPair, extends, lengthRefusal}
+use Rattle.jobfile.specs.Meaning.{nodesIn, headsIn, headerRefusal, rightAt, rightRecordRefusal, rightsRefusal, missingRefusal}
+use Rattle.jobfile.specs.Meaning.{rightRecords, rightsIn, requestsStart, fieldsAt, requestRefusal}
 use Rattle.jobfile.specs.Meaning.{requestsRefusal, waitAt, waitRefusal, waitsRefusal, runRefusal, runsRefusal, fullRun, closeRefusal}
 use Rattle.jobfile.specs.Meaning.{balanceRefusal, requestRecords, waitRecords, runRecords, closeStart, fileRefusal}
-use Rattle.jobfile.proofs.Refusals.{passed, through, Sized, sized, Fit, fit, Paired, paired}
+use Rattle.jobfile.specs.Admitted.{Holds}
+use Rattle.jobfile.proofs.Refusals.{passed, through, Sized, sized, held, Fit, fit, may, Paired, paired}
 
-pub record RequestPassed (nodes heads number : ℕ) (t : List ℕ) : Type 0 where
+pub record RightPassed (heads number : ℕ) (t : List ℕ) : Type 0 where
+  pub among : number < heads
+  pub whole : rightSize ≤ length t
+  pub holds : Holds heads number (rightAt t)
+
+pub right-passed : (heads number : ℕ) (t : List ℕ) → rightRecordRefusal heads number t ≡ 0 → RightPassed heads number t
+unfolding rightRecordRefusal
+right-passed heads number t e =
+    let a = passed (leb heads number) 2 _ e in
+    let b = passed (ltb (length t) rightSize) 1 _ (a .rest) in
+    record {
+      among = leb-false heads number (a .test);
+      whole = ltb-false (length t) rightSize (b .test);
+      holds = held heads number (rightAt t) (b .rest);
+    }
+
+pub complete-passed : (heads count : ℕ) (t : List ℕ) → count ≤ heads → missingRefusal heads count t ≡ 0 → 0 < count → count ≡ heads
+unfolding missingRefusal
+complete-passed heads count t few e some =
+    split (leb heads count)
+    (λ all. omega (arith, leb-true heads count all))
+    (λ short.
+    let begun = passed (ltb (length t) 2) 1 3 (rw (ne-eqb count 0 (λ z. omega arith), short) at e) in
+    absurd (omega (arith, begun .rest)))
+
+pub complete-passes : (heads count : ℕ) (t : List ℕ) → (0 < count → count ≡ heads) → missingRefusal heads count t ≡ 0
+unfolding missingRefusal
+complete-passes heads zero t complete = refl
+complete-passes heads (suc count) t complete =
+    rw (ne-eqb (suc count) 0 (λ z. omega arith), le-leb heads (suc count) (omega (arith, complete (omega arith))))
+
+pub record RequestPassed (nodes heads : ℕ) (rights : List Right) (number : ℕ) (t : List ℕ) : Type 0 where
   pub whole : requestSize ≤ length t
   pub counted : number < mostRequests
   pub fields : Fit nodes heads (fieldsAt t)
+  pub asks : mayAsk (rightOf rights (getD t 2 0) .rights) (kindOf (getD t 3 0)) ≡ true
 
-pub request-passed : (nodes heads number : ℕ) (t : List ℕ) → requestRefusal nodes heads number t ≡ 0 → RequestPassed nodes heads number t
+pub request-passed : (nodes heads : ℕ) (rights : List Right) (number : ℕ) (t : List ℕ) → requestRefusal nodes heads rights number t ≡ 0
+    → RequestPassed nodes heads rights number t
 unfolding requestRefusal
-request-passed nodes heads number t e =
+request-passed nodes heads rights number t e =
     let a = passed (ltb (length t) requestSize) 1 _ e in
     let b = passed (leb mostRequests number) 8 _ (a .rest) in
+    let c = through (fieldsRefusal nodes heads (fieldsAt t)) _ (b .rest) in
     record {
       whole = ltb-false (length t) requestSize (a .test);
       counted = leb-false mostRequests number (b .test);
-      fields = fit nodes heads (fieldsAt t) (b .rest);
+      fields = fit nodes heads (fieldsAt t) (c .first);
+      asks = may _ _ (c .second);
     }
 
 pub record WaitPassed (count : ℕ) (before : Wait) (t : List ℕ) : Type 0 where
@@ -103,7 +143,9 @@ header-passed s e =
 pub record FilePassed (s : List ℕ) : Type 0 where
   pub short : length s ≤ mostBytes
   pub header : HeaderPassed s
-  pub requests : requestsRefusal (nodesIn s) (headsIn s) 0 (requestRecords s) ≡ 0
+  pub rights : rightsRefusal (headsIn s) 0 (rightRecords s) ≡ 0
+  pub complete : missingRefusal (headsIn s) (length (rightRecords s)) (drop (requestsStart s) s) ≡ 0
+  pub requests : requestsRefusal (nodesIn s) (headsIn s) (rightsIn s) 0 (requestRecords s) ≡ 0
   pub waits : waitsRefusal (length (requestRecords s)) noPair (waitRecords s) ≡ 0
   pub runs : runsRefusal (headsIn s) fullRun (runRecords s) ≡ 0
   pub close : ClosePassed (drop (closeStart s) s)
@@ -114,13 +156,17 @@ unfolding fileRefusal lengthRefusal balanceRefusal
 file-passed s e =
     let a = through _ _ e in
     let h = through _ _ (a .second) in
-    let q = through _ _ (h .second) in
+    let g = through _ _ (h .second) in
+    let m = through _ _ (g .second) in
+    let q = through _ _ (m .second) in
     let w = through _ _ (q .second) in
     let r = through _ _ (w .second) in
     let c = through _ _ (r .second) in
     record {
       short = ltb-false mostBytes (length s) (passed (ltb mostBytes (length s)) 0 _ (a .first) .test);
       header = header-passed s (h .first);
+      rights = g .first;
+      complete = m .first;
       requests = q .first;
       waits = w .first;
       runs = r .first;

@@ -28,8 +28,8 @@ use lib.ListN.{length, getD, drop, length-append, length-drop, length-map}
 use lib.Seq.{drop-drop, drop-at, getD-drop}
 use borrow.Author.Tests.{eqb-true, eqb-false, eq-eqb, ne-eqb}
 use Rattle.basics.proofs.Conditions.{split}
-use Rattle.jobfile.specs.Format.{word}
-use Rattle.jobfile.specs.Meaning.{recordsWithin, records, sectionRefusal}
+use Rattle.jobfile.specs.Format.{word, firstRefusal}
+use Rattle.jobfile.specs.Meaning.{recordsWithin, records}
 use Rattle.jobfile.specs.Written.{recordsBytes}
 use Rattle.jobfile.specs.Admitted.{Bytes}
 use Rattle.jobfile.proofs.Refusals.{through}
@@ -117,7 +117,7 @@ module _ {A S : Type 0} (k : Layout A S) where
   places t = records (k .size) (k .mark) t
 
   abbrev pub refusal : S → List (List ℕ) → ℕ
-  refusal before ts = sectionRefusal (k .check) (k .next) before ts
+  refusal before ts = firstRefusal (k .check) (k .next) before ts
 
   pub length-records : (l : List A) → length (recordsBytes (k .bytes) l) ≡ k .size * length l
   length-records [] = sym (mul-zero (k .size))
@@ -147,7 +147,7 @@ module _ {A S : Type 0} (k : Layout A S) where
     section-back (a ∷ l) = rw (places-next a l t) (λ i. k .back a (recordsBytes (k .bytes) l ++ t) i ∷ section-back l i)
 
     section-passes : (before : S) (l : List A) → Passes t before l → refusal before (places (recordsBytes (k .bytes) l ++ t)) ≡ 0
-    unfolding sectionRefusal
+    unfolding firstRefusal
     section-passes before [] p = rw (records-end (k .size) (k .mark) (k .some) (k .marked) t other)
     section-passes before (a ∷ l) p = rw (places-next a l t, p .0) (section-passes _ l (p .1))
 
@@ -173,7 +173,7 @@ module _ {A S : Type 0} (k : Layout A S) where
 
   pub section-fits : {t rest : List ℕ} {ts : List (List ℕ)} (before : S) → Section (k .size) (k .mark) t ts rest
       → refusal before ts ≡ 0 → k .size * length ts ≤ length t
-  unfolding sectionRefusal
+  unfolding firstRefusal
   section-fits before over e = rw mul-zero (omega arith)
   section-fits {t} before (more m s) e =
       let p = through (k .check before t) _ e in
@@ -181,7 +181,7 @@ module _ {A S : Type 0} (k : Layout A S) where
 
   pub section-front : {t rest : List ℕ} {ts : List (List ℕ)} (before : S) → Section (k .size) (k .mark) t ts rest
       → refusal before ts ≡ 0 → Bytes t → recordsBytes (k .bytes) (map (k .at) ts) ++ rest ≡ t
-  unfolding sectionRefusal
+  unfolding firstRefusal
   section-front before over e b = refl
   section-front {t} before (more m s) e b =
       let p = through (k .check before t) _ e in

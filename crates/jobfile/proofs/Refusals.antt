@@ -3,20 +3,25 @@
 --   Passed b n          the test b did not refuse, and neither does the rest n
 --   Both a b            neither a nor b is a refusal
 --   passed, through     a chain that refuses nothing has passed its first test, and the rest refuses nothing
+--   then-behind         two checks and what is behind them are the first and what is behind it
 --   Sized n h           n nodes and h heads are admitted
+--   held, holds-passes  a right that is not refused is its head's, and the other way round
 --   Fit n h q           the numbers q are those of a request in a job of n nodes and h heads
+--   may, may-passes     a kind that is not refused is among the rights, and the other way round
 --   Paired n b w        the pair w is one of a job with n requests, and rises from the pair b
 use mathlib.Core.Path.{_≡_, refl}
 use mathlib.Core.Bool.{Bool, true, false, cond, not}
-use Prim.Native.Nat.{ℕ, suc, _≤_, _<_}
+use Prim.Native.Nat.{ℕ, suc, _^_, _≤_, _<_}
 use native.Mathlib.Omega.{arith}
 use lib.Dec.{eqb, ltb, leb}
-use borrow.Author.Tests.{eqb-true, eqb-false, ltb-false, leb-false, not-false, ne-eqb, le-ltb, lt-leb}
+use borrow.Author.Tests.{eqb-true, eqb-false, ltb-false, leb-false, not-false, eq-eqb, ne-eqb, le-ltb, lt-leb}
 use Rattle.basics.proofs.Conditions.{split}
 use Rattle.job.specs.declared.Wait.{Wait}
-use Rattle.job.specs.Job.{mostNodes, mostHeads}
+use Rattle.job.specs.declared.Right.{Right}
+use Rattle.job.specs.Job.{mostNodes, mostHeads, kindOf, mayAsk}
 use Rattle.jobfile.specs.declared.Fields.{Fields}
-use Rattle.jobfile.specs.Format.{_then_, sizesRefusal, fieldsRefusal, risesTo, pairRefusal}
+use Rattle.jobfile.specs.Format.{_then_, sizesRefusal, rightRefusal, fieldsRefusal, kindRefusal, risesTo, pairRefusal}
+use Rattle.jobfile.specs.Admitted.{Holds}
 
 pub record Passed (b : Bool) (n : ℕ) : Type 0 where
   pub test : b ≡ false
@@ -35,6 +40,9 @@ through a b e =
     split (eqb a 0)
     (λ t. record { first = eqb-true a 0 t; second = rw t at e })
     (λ f. let z : a ≡ 0 = rw f at e in absurd (eqb-false a 0 f z))
+
+pub then-behind : (a b rest : ℕ) → ((a then b) then rest) ≡ (a then b then rest)
+then-behind a b rest = split (eqb a 0) (λ t. rw t) (λ f. rw (f, f))
 
 pub record Sized (nodes heads : ℕ) : Type 0 where
   pub some-nodes : 0 < nodes
@@ -65,6 +73,38 @@ sized-passes nodes heads s =
       ne-eqb heads 0 (λ e. omega arith),
       le-ltb mostHeads heads (s .few-heads),
     )
+
+pub held : (heads number : ℕ) (r : Right) → rightRefusal heads number r ≡ 0 → Holds heads number r
+unfolding rightRefusal
+held heads number r e =
+    let a = passed (not (eqb (r .head) number)) 18 _ e in
+    let b = passed (eqb (r .rights) 0) 18 _ (a .rest) in
+    let c = passed (ltb 3 (r .rights)) 18 _ (b .rest) in
+    let d = passed (leb (2 ^ heads) (r .sight)) 18 _ (c .rest) in
+    record {
+      head = eqb-true (r .head) number (not-false _ (a .test));
+      some = omega (arith, eqb-false (r .rights) 0 (b .test));
+      few = ltb-false 3 (r .rights) (c .test);
+      sight = leb-false (2 ^ heads) (r .sight) (d .test);
+    }
+
+pub holds-passes : (heads number : ℕ) (r : Right) → Holds heads number r → rightRefusal heads number r ≡ 0
+unfolding rightRefusal
+holds-passes heads number r h =
+    simp (
+      eq-eqb (r .head) number (h .head),
+      ne-eqb (r .rights) 0 (λ e. omega arith),
+      le-ltb 3 (r .rights) (h .few),
+      lt-leb (2 ^ heads) (r .sight) (h .sight),
+    )
+
+pub may : (rights kind : ℕ) → kindRefusal rights kind ≡ 0 → mayAsk rights (kindOf kind) ≡ true
+unfolding kindRefusal
+may rights kind e = not-false _ (passed (not (mayAsk rights (kindOf kind))) 19 0 e .test)
+
+pub may-passes : (rights kind : ℕ) → mayAsk rights (kindOf kind) ≡ true → kindRefusal rights kind ≡ 0
+unfolding kindRefusal
+may-passes rights kind asks = rw asks
 
 pub record Fit (nodes heads : ℕ) (q : Fields) : Type 0 where
   pub head : q .head < heads

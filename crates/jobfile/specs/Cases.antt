@@ -1,36 +1,46 @@
--- Document 01, "Job file" and "Played cases", and 02, A3 and A4: files, jobs and drafts at the format's edges, as one table.
+-- Document 01, "Job file" and "Played cases", and 02, A3, A4 and A5: files, jobs and drafts at the format's edges, as one table.
 --
 --   Case                a file that is accepted or refused, a job that is written, a draft that is checked, and what is expected
 --   Outcome             a meaning, a file, or a number
 --   outcome c           what the definitions give
 --   wanted c            what is expected
---   header, request, wait, run, close   the five records, by their numbers
+--   header, right, request, wait, run, close   the six records, by their numbers
 --   times n l           the list l, n times
---   job, draft          a job and a draft, by their parts
+--   jobWith, draftWith  a job and a draft, by their parts
+--   job, draft          the same without rights
 --   emptyJob n h        the job of n places and h heads with nothing to do
 --   alternating n       a schedule of n grants, no two in a row for one head
 --   sampleJob, sampleFile         document 01's job, and its bytes
 --   wideJob, wideFile   a job of 32 heads, and its bytes
 --   pair later earlier  a pair, by its numbers
 --   unions n ws, front n          a job of n unions and the pairs ws, and what stands before the pairs in its file
---   files, pairs, drafts          the parts of the table: document 01's files, those with pairs, and drafts
+--   head h r m          a head's right: what it may ask, and the mask of the heads that it may see
+--   carriers rs, carriersFile rs w   document 01's job with more grants and the rights rs, and its bytes with the balance w
+--   claimed ts          a job of two heads up to its rights, with the records ts
+--   everySight m k n    the rights of n heads from head k on that all have the mask m
+--   files, pairs, rights, drafts   the parts of the table: document 01's files, those with pairs, those with rights, and drafts
 --   cases               the table
 use mathlib.Core.List.{List, [], _∷_, _++_}
-use Prim.Native.Nat.{ℕ, zero, suc, _%_}
+use Prim.Native.Nat.{ℕ, zero, suc, _+_, _%_}
 use lib.ListN.{take, replicate}
 use Rattle.job.specs.declared.Kind.the-variants.{Union, SameSet}
 use Rattle.job.specs.declared.Request.{Request}
 use Rattle.job.specs.declared.Wait.{Wait}
+use Rattle.job.specs.declared.Right.{Right}
 use Rattle.job.specs.Job.{Job}
-use Rattle.jobfile.specs.Format.{jobMark, requestMark, waitMark, runMark, closeMark, wordBytes}
+use Rattle.jobfile.specs.Format.{jobMark, rightMark, requestMark, waitMark, runMark, closeMark, wordBytes, maskBytes}
 use Rattle.jobfile.specs.Meaning.{Meaning, meaning}
-use Rattle.jobfile.specs.Written.{written}
+use Rattle.jobfile.specs.Written.{rightsBytes, written}
 use Rattle.jobfile.specs.Draft.{Draft, draftRefusal}
 
--- Places, heads, requests, pairs and one head number a grant.
+-- Places, heads, rights, requests, pairs and one head number a grant;
+abbrev pub jobWith : ℕ → ℕ → List Right → List Request → List Wait → List ℕ → Job
+jobWith places heads rights requests waits schedule =
+    record { nodes = places; heads = heads; rights = rights; requests = requests; waits = waits; schedule = schedule }
+
+-- without rights.
 abbrev pub job : ℕ → ℕ → List Request → List Wait → List ℕ → Job
-job places heads requests waits schedule =
-    record { nodes = places; heads = heads; requests = requests; waits = waits; schedule = schedule }
+job places heads = jobWith places heads []
 
 -- No requests, no pairs and no grants.
 abbrev pub emptyJob : ℕ → ℕ → Job
@@ -71,6 +81,10 @@ wanted (check d n) = number n
 abbrev pub header : ℕ → ℕ → List ℕ
 header places heads = wordBytes jobMark ++ wordBytes places ++ wordBytes heads
 
+-- Head, rights and mask.
+abbrev pub right : ℕ → ℕ → ℕ → List ℕ
+right head rights sight = wordBytes rightMark ++ (head ∷ rights ∷ []) ++ maskBytes sight
+
 -- Head, kind and two places.
 abbrev pub request : ℕ → ℕ → ℕ → ℕ → List ℕ
 request head kind x y = wordBytes requestMark ++ (head ∷ kind ∷ []) ++ wordBytes x ++ wordBytes y
@@ -92,10 +106,14 @@ abbrev pub times : ℕ → List ℕ → List ℕ
 times zero l = []
 times (suc n) l = l ++ times n l
 
--- What the writer is given, four numbers a request and two a pair.
+-- What the writer is given, three numbers a right, four a request and two a pair;
+abbrev pub draftWith : ℕ → ℕ → List ℕ → List ℕ → List ℕ → List ℕ → Draft
+draftWith places heads rights requests waits schedule =
+    record { nodes = places; heads = heads; rights = rights; requests = requests; waits = waits; schedule = schedule }
+
+-- without rights.
 abbrev pub draft : ℕ → ℕ → List ℕ → List ℕ → List ℕ → Draft
-draft places heads requests waits schedule =
-    record { nodes = places; heads = heads; requests = requests; waits = waits; schedule = schedule }
+draft places heads = draftWith places heads []
 
 -- Heads 0 and 1 in turn, so that every grant is a run.
 abbrev pub alternating : ℕ → List ℕ
@@ -144,6 +162,28 @@ unions n waits = job 4 2 (replicate n (record { head = 0; kind = Union; x = 0; y
 -- and their records in front of the pairs.
 abbrev pub front : ℕ → List ℕ
 front n = header 4 2 ++ times n (request 0 1 0 1)
+
+-- What a head may ask, and the mask of the heads that it may see (02, A5).
+abbrev pub head : ℕ → ℕ → ℕ → Right
+head own rights sight = record { head = own; rights = rights; sight = sight }
+
+-- Document 01's requests, with grants that finish both, by two heads with rights;
+abbrev pub carriers : List Right → Job
+carriers rights = jobWith 4 2 rights (sampleJob .requests) [] (1 ∷ 1 ∷ replicate 13 0 ++ (1 ∷ []))
+
+-- and their bytes.
+abbrev pub carriersFile : List ℕ → ℕ → List ℕ
+carriersFile rights balance =
+    header 4 2 ++ rights ++ request 0 1 2 3 ++ request 1 2 0 1 ++ run 1 2 ++ run 0 13 ++ run 1 1 ++ close balance
+
+-- Four places and two heads, up to their rights.
+abbrev pub claimed : List ℕ → List ℕ
+claimed rights = header 4 2 ++ rights
+
+-- So many heads from the first one on, all with both kinds and one mask.
+abbrev pub everySight : ℕ → ℕ → ℕ → List Right
+everySight sight first zero = []
+everySight sight first (suc n) = head first 3 sight ∷ everySight sight (first + 1) n
 
 -- ---- the table
 
@@ -239,6 +279,52 @@ pairs =
     ∷ refuse (front 2 ++ wait 1 0 ++ close 0) 13
     ∷ []
 
+-- 02, A5: jobs and files with rights.
+abbrev pub rights : List Case
+rights =
+    -- one may join and sees itself, the other may enquire and sees both, read and written; a mask may be empty
+    accept (carriersFile (right 0 1 1 ++ right 1 2 3) 0x1048) (carriers (head 0 1 1 ∷ head 1 2 3 ∷ []))
+    ∷ write (carriers (head 0 1 1 ∷ head 1 2 3 ∷ [])) (carriersFile (right 0 1 1 ++ right 1 2 3) 0x1048)
+    ∷ accept (carriersFile (right 0 3 0 ++ right 1 3 2) 0x0D4A) (carriers (head 0 3 0 ∷ head 1 3 2 ∷ []))
+    -- 32 heads and a mask of all bits; bit 31 stands for a head of 32, and for none of 31
+    ∷ accept (header 2 32 ++ rightsBytes (everySight 0xFFFFFFFF 0 32) ++ request 31 1 0 1 ++ run 31 13 ++ close 0xCA8F)
+    (jobWith 2 32 (everySight 0xFFFFFFFF 0 32) (record { head = 31; kind = Union; x = 0; y = 1 } ∷ []) [] (replicate 13 31))
+    ∷ accept (header 2 32 ++ rightsBytes (everySight 0x80000000 0 32) ++ close 0x7C27) (jobWith 2 32 (everySight 0x80000000 0 32) [] [] [])
+    ∷ refuse (header 2 31 ++ right 0 3 0x80000000) 19
+    -- once begun, one a head: another mark, or the file's end before a mark
+    ∷ refuse (claimed (right 0 3 3) ++ request 0 1 2 3) 3
+    ∷ refuse (claimed (right 0 3 3) ++ close 0) 3
+    ∷ refuse (claimed (right 0 3 3)) 2
+    ∷ refuse (claimed (right 0 3 3) ++ (0x52 ∷ [])) 2
+    -- a third of two, whole or not; a first one behind a request
+    ∷ refuse (claimed (right 0 3 3 ++ right 1 3 3) ++ right 2 3 3 ++ close 0) 3
+    ∷ refuse (claimed (right 0 3 3 ++ right 1 3 3) ++ wordBytes rightMark) 3
+    ∷ refuse (claimed [] ++ request 0 1 2 3 ++ right 0 3 3) 3
+    -- a right that is cut short; then the head, the rights and the mask
+    ∷ refuse (claimed (take 7 (right 0 3 3))) 2
+    ∷ refuse (claimed (take 7 (right 1 4 4))) 2
+    ∷ refuse (claimed (right 1 3 3)) 19
+    ∷ refuse (claimed (right 0 0 3)) 19
+    ∷ refuse (claimed (right 0 4 3)) 19
+    ∷ refuse (claimed (right 0 3 4)) 19
+    ∷ refuse (claimed (right 0 3 0x80000000)) 19
+    ∷ refuse (claimed (right 0 3 3 ++ right 0 3 3)) 19
+    -- a kind that its head may not ask; head, kind and places are checked before
+    ∷ refuse (claimed (right 0 2 3 ++ right 1 3 3) ++ request 0 1 2 3) 20
+    ∷ refuse (claimed (right 0 1 3 ++ right 1 3 3) ++ request 0 2 2 3) 20
+    ∷ refuse (claimed (right 0 2 3 ++ right 1 3 3) ++ request 0 1 4 3) 8
+    ∷ refuse (claimed (right 0 2 3 ++ right 1 3 3) ++ request 0 3 2 3) 7
+    ∷ refuse (claimed (right 0 2 3 ++ right 1 3 3) ++ request 2 1 2 3) 6
+    -- balance is last
+    ∷ refuse (carriersFile (right 0 1 1 ++ right 1 2 3) 0) 13
+    -- pairs and grants follow as without rights
+    ∷ accept (claimed (right 0 3 3 ++ right 1 3 2) ++ request 0 1 0 1 ++ request 1 2 0 1 ++ wait 1 0 ++ run 1 3 ++ run 0 13 ++ run 1 6
+    ++ close 0xC109)
+    (jobWith 4 2 (head 0 3 3 ∷ head 1 3 2 ∷ [])
+    (record { head = 0; kind = Union; x = 0; y = 1 } ∷ record { head = 1; kind = SameSet; x = 0; y = 1 } ∷ [])
+    (pair 1 0 ∷ []) (1 ∷ 1 ∷ 1 ∷ replicate 13 0 ++ replicate 6 1))
+    ∷ []
+
 abbrev pub drafts : List Case
 drafts =
     -- the last head of 16, 17 and 32 (02, A4), a same-set of the last two places of 4,096, and a grant for that head
@@ -270,6 +356,18 @@ drafts =
     ∷ check (draft 4 2 (0 ∷ 1 ∷ 0 ∷ 4 ∷ 0 ∷ 1 ∷ 0 ∷ 1 ∷ []) (1 ∷ 1 ∷ []) []) 8
     ∷ check (draft 4 2 (times 2 (0 ∷ 1 ∷ 0 ∷ 1 ∷ [])) (1 ∷ 1 ∷ []) (2 ∷ [])) 18
     ∷ check (draft 4 2 (times 3 (0 ∷ 1 ∷ 0 ∷ 1 ∷ [])) (2 ∷ 0 ∷ 1 ∷ 0 ∷ []) []) 18
+    -- rights are none or one a head (02, A5), behind the heads and before the count of the requests
+    ∷ check (draftWith 4 2 (0 ∷ 1 ∷ 1 ∷ 1 ∷ 2 ∷ 3 ∷ []) (0 ∷ 1 ∷ 0 ∷ 1 ∷ []) [] []) 0
+    ∷ check (draftWith 4 2 (0 ∷ 3 ∷ 3 ∷ []) [] [] []) 19
+    ∷ check (draftWith 4 2 (0 ∷ 3 ∷ 3 ∷ 1 ∷ 3 ∷ 3 ∷ 2 ∷ 3 ∷ 3 ∷ []) [] [] []) 19
+    ∷ check (draftWith 4 33 (0 ∷ 3 ∷ 3 ∷ 1 ∷ 3 ∷ 3 ∷ 2 ∷ 3 ∷ 3 ∷ []) [] [] []) 5
+    ∷ check (draftWith 4 2 (0 ∷ 4 ∷ 3 ∷ 1 ∷ 4 ∷ 3 ∷ []) (times 513 (1 ∷ 2 ∷ 0 ∷ 1 ∷ [])) [] []) 19
+    -- a rest of one or two numbers is no right
+    ∷ check (draftWith 4 2 (5 ∷ 5 ∷ []) [] [] []) 0
+    ∷ check (draftWith 4 1 (0 ∷ 3 ∷ 1 ∷ 5 ∷ []) [] [] []) 0
+    -- a kind that its head may not ask, before a wrong grant
+    ∷ check (draftWith 4 2 (0 ∷ 2 ∷ 3 ∷ 1 ∷ 3 ∷ 3 ∷ []) (0 ∷ 1 ∷ 0 ∷ 1 ∷ []) [] (9 ∷ [])) 20
+    ∷ check (draftWith 4 2 (0 ∷ 2 ∷ 3 ∷ 1 ∷ 3 ∷ 3 ∷ []) (0 ∷ 1 ∷ 4 ∷ 1 ∷ []) [] []) 8
     -- 8,190 runs make a file of 32,770 bytes; a wrong place and a wrong grant come before its length
     ∷ check (draft 2 2 [] [] (alternating 8190)) 1
     ∷ check (draft 2 2 (1 ∷ 2 ∷ 0 ∷ 2 ∷ []) [] (alternating 8190)) 8
@@ -277,4 +375,4 @@ drafts =
     ∷ []
 
 abbrev pub cases : List Case
-cases = files ++ pairs ++ drafts
+cases = files ++ pairs ++ rights ++ drafts

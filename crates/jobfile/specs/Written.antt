@@ -1,8 +1,8 @@
--- Document 01, "Job file", and 02, A3: the file that is written for a job.
+-- Document 01, "Job file", and 02, A3 and A5: the file that is written for a job.
 --
 --   recordsBytes bytes l             the bytes of records, one behind the other
---   requestBytes q, waitBytes w, runBytes r        the bytes of a request, of a pair and of a run
---   requestsBytes qs, waitsBytes ws, runsBytes rs   the bytes of requests, of pairs and of runs
+--   rightBytes a, requestBytes q, waitBytes w, runBytes r           the bytes of a right, of a request, of a pair and of a run
+--   rightsBytes as, requestsBytes qs, waitsBytes ws, runsBytes rs   the bytes of rights, of requests, of pairs and of runs
 --   nextRun r g         the run under way after a grant for head g
 --   longestRuns gs      the longest runs, at most 255, that make the schedule gs
 --   runsFrom r gs       the same with the run r under way
@@ -14,14 +14,24 @@ use mathlib.Core.List.{List, [], _∷_, _++_}
 use Prim.Native.Nat.{ℕ, _+_, _-_, _%_}
 use Rattle.job.specs.declared.Request.{Request}
 use Rattle.job.specs.declared.Wait.{Wait}
+use Rattle.job.specs.declared.Right.{Right}
 use Rattle.job.specs.Job.{Job, kindNumber}
 use Rattle.jobfile.specs.declared.Run.{Run}
-use Rattle.jobfile.specs.Format.{jobMark, requestMark, waitMark, runMark, closeMark, wordBytes, wordSum, extends}
+use Rattle.jobfile.specs.Format.{jobMark, rightMark, requestMark, waitMark, runMark, closeMark, wordBytes, maskBytes, wordSum}
+use Rattle.jobfile.specs.Format.{extends}
 
 -- Records, in order.
 abbrev pub recordsBytes : {A : Type 0} → (A → List ℕ) → List A → List ℕ
 recordsBytes bytes [] = []
 recordsBytes bytes (a ∷ l) = bytes a ++ recordsBytes bytes l
+
+-- 52 54, head (8), rights (8), a 32-bit mask, low byte first (02, A5).
+abbrev pub rightBytes : Right → List ℕ
+rightBytes r = wordBytes rightMark ++ (r .head ∷ r .rights ∷ []) ++ maskBytes (r .sight)
+
+-- The rights in the heads' order.
+abbrev pub rightsBytes : List Right → List ℕ
+rightsBytes = recordsBytes rightBytes
 
 -- 52 51, head (8), kind (8; 1 union, 2 same-set), place x (16), place y (16).
 abbrev pub requestBytes : Request → List ℕ
@@ -61,14 +71,15 @@ abbrev pub longestRuns : List ℕ → List Run
 longestRuns [] = []
 longestRuns (g ∷ gs) = runsFrom (record { head = g; count = 1 }) gs
 
--- The records in order: the job's, the requests, the pairs, the runs, the close.
+-- The records in order: the job's, the rights, the requests, the pairs, the runs, the close.
 unfoldable pub fileWith : Job → ℕ → List ℕ
 fileWith j w =
     (wordBytes jobMark ++ wordBytes (j .nodes) ++ wordBytes (j .heads))
+    ++ (rightsBytes (j .rights)
     ++ (requestsBytes (j .requests)
     ++ (waitsBytes (j .waits)
     ++ (runsBytes (longestRuns (j .schedule))
-    ++ (wordBytes closeMark ++ wordBytes w))))
+    ++ (wordBytes closeMark ++ wordBytes w)))))
 
 -- The difference from zero, in 16 bits, of all words but the balance.
 abbrev pub balance : Job → ℕ

@@ -1,16 +1,22 @@
 // What the reader and the writer of job files share: bytes and words, places, the numbers of a request, a run, and the checks
-// on them and on a pair.
+// on them, on a right and on a pair.
 pub mod bytes;
 
 use job::MOST_HEADS;
 use job::MOST_NODES;
+use job::Right;
 use job::Wait;
 ghost use mathlib.Core.Path.{_≡_};
-ghost use Rattle.jobfile.specs.Format.{requestPlace, waitPlace, runPlace, sizesRefusal, fieldsRefusal};
-ghost use Rattle.jobfile.specs.Format.{risesTo, pairRefusal, extends};
+ghost use Prim.Native.Nat.{_^_};
+ghost use lib.Dec.{leb};
+ghost use Rattle.job.specs.Job.{kindOf, mayAsk};
+ghost use Rattle.jobfile.specs.Format.{rightPlace, requestPlace, waitPlace, runPlace, sizesRefusal, rightRefusal, fieldsRefusal};
+ghost use Rattle.jobfile.specs.Format.{kindRefusal, risesTo, pairRefusal, extends};
 
-// The marks of the five records, as 16-bit words, low byte first; a pair's is of 02, A3.
+// The marks of the six records, as 16-bit words, low byte first; a pair's is of 02, A3, a right's of 02, A5.
 pub const JOB_MARK: u16 = 0x4B44;
+
+pub const RIGHT_MARK: u16 = 0x5452;
 
 pub const REQUEST_MARK: u16 = 0x5152;
 
@@ -20,8 +26,10 @@ pub const RUN_MARK: u16 = 0x5247;
 
 pub const CLOSE_MARK: u16 = 0x4C43;
 
-// The bytes of the five records, and of the longest file.
+// The bytes of the six records, and of the longest file.
 pub const JOB_SIZE: usize = 6;
+
+pub const RIGHT_SIZE: usize = 8;
 
 pub const REQUEST_SIZE: usize = 8;
 
@@ -47,25 +55,32 @@ pub struct Run {
     pub count: u8,
 }
 
-// Where request q stands; behind the last request stand the pairs.
-pub fn request_place(q: u32) -> usize
-    ensures { λ r. ⌜ r ≡ requestPlace q ⌝ }
+// Where right number `index` stands; behind the last right stand the requests.
+pub fn right_place(index: u32) -> usize
+    ensures { λ r. ⌜ r ≡ rightPlace index ⌝ }
 {
-    JOB_SIZE + REQUEST_SIZE * (q as usize)
+    JOB_SIZE + RIGHT_SIZE * (index as usize)
 }
 
-// Where pair number `index` stands behind that many requests; behind the last pair stand the runs.
-pub fn wait_place(requests: u32, index: u32) -> usize
-    ensures { λ r. ⌜ r ≡ waitPlace requests index ⌝ }
+// Where request q stands behind that many rights; behind the last request stand the pairs.
+pub fn request_place(rights: u32, q: u32) -> usize
+    ensures { λ r. ⌜ r ≡ requestPlace rights q ⌝ }
 {
-    request_place(requests) + WAIT_SIZE * (index as usize)
+    right_place(rights) + REQUEST_SIZE * (q as usize)
 }
 
-// Where run number `index` stands behind that many requests and pairs; behind the last run stands the close.
-pub fn run_place(requests: u32, waits: u32, index: u32) -> usize
-    ensures { λ r. ⌜ r ≡ runPlace requests waits index ⌝ }
+// Where pair number `index` stands behind that many rights and requests; behind the last pair stand the runs.
+pub fn wait_place(rights: u32, requests: u32, index: u32) -> usize
+    ensures { λ r. ⌜ r ≡ waitPlace rights requests index ⌝ }
 {
-    wait_place(requests, waits) + RUN_SIZE * (index as usize)
+    request_place(rights, requests) + WAIT_SIZE * (index as usize)
+}
+
+// Where run number `index` stands behind that many rights, requests and pairs; behind the last run stands the close.
+pub fn run_place(rights: u32, requests: u32, waits: u32, index: u32) -> usize
+    ensures { λ r. ⌜ r ≡ runPlace rights requests waits index ⌝ }
+{
+    wait_place(rights, requests, waits) + RUN_SIZE * (index as usize)
 }
 
 // The refusal of the number of nodes or of heads, 0 for none.
@@ -83,6 +98,35 @@ pub fn sizes_refusal(nodes: u32, heads: u32) -> u32
     }
     if MOST_HEADS < heads as usize {
         return 5;
+    }
+    0
+}
+
+// Whether a mask has a bit that stands for no head, in a job of that many heads.
+fn has_stray_bit(heads: u32, sight: u32) -> bool
+    ensures { λ r. ⌜ r ≡ leb (2 ^ heads) sight ⌝ }
+{
+    if 32 <= heads {
+        return false;
+    }
+    (1u32 << heads) <= sight
+}
+
+// The refusal of right number `number` in a job of that many heads (02, A5), 0 for none.
+pub fn right_refusal(heads: u32, number: u32, right: Right) -> u32
+    ensures { λ r. ⌜ r ≡ rightRefusal heads number right ⌝ }
+{
+    if right.head != number {
+        return 19;
+    }
+    if right.rights == 0 {
+        return 19;
+    }
+    if 3 < right.rights {
+        return 19;
+    }
+    if has_stray_bit(heads, right.sight) {
+        return 19;
     }
     0
 }
@@ -105,6 +149,32 @@ pub fn fields_refusal(nodes: u32, heads: u32, fields: Fields) -> u32
     }
     if nodes <= fields.y {
         return 8;
+    }
+    0
+}
+
+// Whether rights have the kind of a request among them.
+fn may_ask(rights: u32, kind: u32) -> bool
+    ensures { λ r. ⌜ r ≡ mayAsk rights (kindOf kind) ⌝ }
+{
+    if kind == 1 {
+        if rights == 1 {
+            return true;
+        }
+        return rights == 3;
+    }
+    if rights == 2 {
+        return true;
+    }
+    rights == 3
+}
+
+// The refusal of a request's kind where its head has these rights (02, A5), 0 for none.
+pub fn kind_refusal(rights: u32, kind: u32) -> u32
+    ensures { λ r. ⌜ r ≡ kindRefusal rights kind ⌝ }
+{
+    if !may_ask(rights, kind) {
+        return 20;
     }
     0
 }

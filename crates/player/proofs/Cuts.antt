@@ -64,6 +64,8 @@ module _ (j : Job) (admitted : Admitted j) (k : ℕ) where
         some-heads = admitted .some-heads;
         few-heads = admitted .few-heads;
         few-requests = admitted .few-requests;
+        complete = admitted .complete;
+        each-right = admitted .each-right;
         each-request = admitted .each-request;
         each-wait = admitted .each-wait;
         rising = admitted .rising;
@@ -92,7 +94,14 @@ module _ (file : List ℕ) (bytes : Bytes file) (accepts : meaning file .number 
 
   whole-cut : (k : ℕ) → length (j .schedule) ≤ k → cut k j ≡ j
   whole-cut k all =
-      ap (λ gs. record { nodes = j .nodes; heads = j .heads; requests = j .requests; waits = j .waits; schedule = gs })
+      ap (λ gs. record {
+        nodes = j .nodes;
+        heads = j .heads;
+        rights = j .rights;
+        requests = j .requests;
+        waits = j .waits;
+        schedule = gs;
+      })
       (take-all k (j .schedule) all)
 
   module _ (table report linearization : List ℕ) (room : LongEnough j table report linearization) where

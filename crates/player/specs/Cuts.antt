@@ -20,9 +20,17 @@ use Rattle.rules.specs.Laws.{Follows}
 use Rattle.stepper.specs.Shown.{stateAfter}
 use Rattle.player.specs.Player.{lentRefusal, originIn, leftAt, playedOf}
 
--- The same places, heads, requests and pairs, and the first k grants.
+-- The same places, heads, rights, requests and pairs, and the first k grants.
 abbrev pub cut : ℕ → Job → Job
-cut k j = record { nodes = j .nodes; heads = j .heads; requests = j .requests; waits = j .waits; schedule = take k (j .schedule) }
+cut k j =
+    record {
+      nodes = j .nodes;
+      heads = j .heads;
+      rights = j .rights;
+      requests = j .requests;
+      waits = j .waits;
+      schedule = take k (j .schedule);
+    }
 
 abbrev pub fileCut : ℕ → List ℕ → List ℕ
 fileCut k file = written (cut k (meaning file .job))

@@ -5,6 +5,7 @@
 --   runsBetween start at                    how many runs there are from the first to a place
 --   RunsTo s h start at before grants       so many of them are read, and these are their grants
 --   X-start, X-next, X-refused, X-end       the invariant holds at first, after a record, and what it gives at each way out
+--   records-told, rights-missing, rights-told   and what it gives where the section ends
 --   record-whole, record-marked             a whole record is within the file, and has its mark
 --   record-short, wait-short, run-short     what has the mark but is no whole record is cut short, and so refused
 use mathlib.Core.Path.{_≡_, refl, sym, ap, _∙_}
@@ -20,12 +21,14 @@ use borrow.Author.Tests.{eq-eqb, ne-eqb, eqb-true, ltb-false}
 use Rattle.basics.proofs.Conditions.{split}
 use Rattle.job.specs.declared.Wait.{Wait}
 use Rattle.jobfile.specs.declared.Run.{Run}
-use Rattle.jobfile.specs.Format.{requestMark, waitMark, runMark, requestSize, waitSize, runSize, mostGrants, word, _then_, noPair}
-use Rattle.jobfile.specs.Meaning.{records, sectionRefusal, requestRefusal, waitAt, waitRefusal, runAt, runRefusal}
-use Rattle.jobfile.specs.Meaning.{fullRun, granted}
+use Rattle.jobfile.specs.Format.{rightMark, waitMark, runMark, jobSize, waitSize, runSize, mostGrants, word, _then_, firstRefusal}
+use Rattle.jobfile.specs.Format.{noPair}
+use Rattle.jobfile.specs.Meaning.{records, rightRecordRefusal, rightsRefusal, missingRefusal, rightRecords}
+use Rattle.jobfile.specs.Meaning.{requestsStart, waitAt, waitRefusal, runAt, runRefusal, fullRun, granted}
 use Rattle.jobfile.proofs.Records.{records-here, records-end, Layout, places, refusal}
-use Rattle.jobfile.proofs.Layouts.{requestLayout, waitLayout, runLayout}
-use Rattle.reader.specs.Reader.{requestSectionOf, waitSectionOf, runSectionOf, isRecord}
+use Rattle.jobfile.proofs.Layouts.{rightLayout, waitLayout, runLayout}
+use Rattle.reader.specs.declared.sections.Records.{Records}
+use Rattle.reader.specs.Reader.{recordsOf, rightSectionOf, runSectionOf, isRecord}
 
 module _ {A S : Type 0} (k : Layout A S) (s : List ℕ) (start : ℕ) (none : S) where
   pub record ReadTo (at : ℕ) (before : S) (count : ℕ) : Type 0 where
@@ -46,7 +49,7 @@ module _ {A S : Type 0} {k : Layout A S} {s : List ℕ} {start : ℕ} {none : S}
     -- at a record, the section's refusal is its own, or else that of the records behind it
     refusal-here : (k .check before (drop at s) then refusal k (k .next before (drop at s)) (places k (drop (at + k .size) s)))
         ≡ refusal k none (places k (drop start s))
-    unfolding sectionRefusal
+    unfolding firstRefusal
     refusal-here = rw record-here at (h .number)
 
     pub read-next : k .check before (drop at s) ≡ 0 → ReadTo k s start none (at + k .size) (k .next before (drop at s)) (count + 1)
@@ -66,22 +69,47 @@ module _ {A S : Type 0} {k : Layout A S} {s : List ℕ} {start : ℕ} {none : S}
     none-left = records-end (k .size) (k .mark) (k .some) (k .marked) (drop at s) m
 
     pub read-passes : refusal k none (places k (drop start s)) ≡ 0
-    unfolding sectionRefusal
+    unfolding firstRefusal
     read-passes = sym (rw none-left at (h .number))
 
     pub read-count : length (places k (drop start s)) ≡ count
     read-count = omega (arith, rw none-left at (h .counted))
 
-module _ (nodes heads : ℕ) {s : List ℕ} {start at count : ℕ} (h : ReadTo (requestLayout nodes heads) s start 0 at count count) where
-  pub requests-refused : (n : ℕ) → word (drop at s) ≡ requestMark → n ≡ requestRefusal nodes heads count (drop at s) → (n ≡ 0 → ⊥)
-      → record { number = n; count = 0 } ≡ requestSectionOf nodes heads (records requestSize requestMark (drop start s))
-  unfolding requestSectionOf
-  requests-refused n m e z = rw (read-refused h m n e z, ne-eqb n 0 z)
+-- What the loop gives at each way out, of the records' count and refusal.
+module _ {A S : Type 0} {k : Layout A S} {s : List ℕ} {start : ℕ} {none : S} {at : ℕ} {before : S} {count : ℕ}
+    (h : ReadTo k s start none at before count) where
+  pub records-refused : (n : ℕ) → word (drop at s) ≡ k .mark → n ≡ k .check before (drop at s) → (n ≡ 0 → ⊥)
+      → record { number = n; count = 0 } ≡ recordsOf (refusal k none (places k (drop start s))) (places k (drop start s))
+  unfolding recordsOf
+  records-refused n m e z = rw (read-refused h m n e z, ne-eqb n 0 z)
 
-  pub requests-end : (word (drop at s) ≡ requestMark → ⊥)
-      → record { number = 0; count = count } ≡ requestSectionOf nodes heads (records requestSize requestMark (drop start s))
-  unfolding requestSectionOf
-  requests-end m = rw (read-passes h m, read-count h m)
+  pub records-told : (word (drop at s) ≡ k .mark → ⊥)
+      → record { number = 0; count = count } ≡ recordsOf (refusal k none (places k (drop start s))) (places k (drop start s))
+  unfolding recordsOf
+  records-told m = rw (read-passes h m, read-count h m)
+
+-- The rights are followed by one more check: none is missing.
+module _ (heads : ℕ) {s : List ℕ} {at count : ℕ} (h : ReadTo (rightLayout heads) s jobSize 0 at count count) where
+  abbrev rightsTold : Records
+  rightsTold = rightSectionOf heads (rightRecords s) (drop (requestsStart s) s)
+
+  pub rights-refused : (n : ℕ) → word (drop at s) ≡ rightMark → n ≡ rightRecordRefusal heads count (drop at s) → (n ≡ 0 → ⊥)
+      → record { number = n; count = 0 } ≡ rightsTold
+  unfolding recordsOf
+  rights-refused n m e z = simp (read-refused h m n e z, ne-eqb n 0 z)
+
+  module _ (m : word (drop at s) ≡ rightMark → ⊥) (n : ℕ) (e : n ≡ missingRefusal heads count (drop at s)) where
+    -- what is left to check stands where the loop ended
+    rights-left : (rightsRefusal heads 0 (rightRecords s) then missingRefusal heads (length (rightRecords s)) (drop (requestsStart s) s)) ≡ n
+    rights-left = rw (read-passes h m, read-count h m, ← h .place) (sym e)
+
+    pub rights-missing : (n ≡ 0 → ⊥) → record { number = n; count = 0 } ≡ rightsTold
+    unfolding recordsOf
+    rights-missing z = rw (rights-left, ne-eqb n 0 z)
+
+    pub rights-told : n ≡ 0 → record { number = 0; count = count } ≡ rightsTold
+    unfolding recordsOf
+    rights-told z = rw (rights-left, z, read-count h m)
 
 module _ (size m : ℕ) where
   -- a whole record is within the file
@@ -114,16 +142,6 @@ module _ (requests : ℕ) {s : List ℕ} {start at : ℕ} {before : Wait} {count
   pub waits-next : (next : Wait) → word (drop at s) ≡ waitMark → waitRefusal requests before (drop at s) ≡ 0
       → next ≡ waitAt (drop at s) → ReadTo (waitLayout requests) s start noPair (at + waitSize) next (count + 1)
   waits-next next m e r = rw r (read-next h m e)
-
-  pub waits-refused : (n : ℕ) → word (drop at s) ≡ waitMark → n ≡ waitRefusal requests before (drop at s) → (n ≡ 0 → ⊥)
-      → record { number = n; count = 0 } ≡ waitSectionOf requests (records waitSize waitMark (drop start s))
-  unfolding waitSectionOf
-  waits-refused n m e z = rw (read-refused h m n e z, ne-eqb n 0 z)
-
-  pub waits-end : (word (drop at s) ≡ waitMark → ⊥)
-      → record { number = 0; count = count } ≡ waitSectionOf requests (records waitSize waitMark (drop start s))
-  unfolding waitSectionOf
-  waits-end m = rw (read-passes h m, read-count h m)
 
 -- how many runs there are from the first to a place
 abbrev pub runsBetween : ℕ → ℕ → ℕ

@@ -2,31 +2,37 @@
 --
 --   countsOf m                  the number of a meaning and the counts of its job
 --   Playing file c              an accepted file, with its counts: what is asked where its records are read
---   requestSectionOf n h ts     the refusal or the count of the requests at the places ts
+--   Righted file r              r rights stand behind the first record of the file
+--   recordsOf n ts              the refusal n, or how many records stand at the places ts
+--   rightSectionOf h ts t       the refusal or the count of the rights at the places ts, in front of t
+--   requestSectionOf n h rs ts  the refusal or the count of the requests at the places ts, behind the rights rs
 --   waitSectionOf q ts          the refusal or the count of the pairs at the places ts, behind q requests
 --   runSectionOf h ts           the refusal, or the count and the grants, of the runs at the places ts
 --   isRecord size m t           a whole record of that size, with the mark m, stands at the place t
 use mathlib.Core.Path.{_≡_}
 use mathlib.Core.Bool.{Bool, false, cond}
 use mathlib.Core.List.{List, map}
-use Prim.Native.Nat.{ℕ}
+use Prim.Native.Nat.{ℕ, _≤_}
 use lib.Dec.{eqb, ltb}
 use lib.ListN.{length}
-use Rattle.jobfile.specs.Format.{word, noPair}
-use Rattle.jobfile.specs.Meaning.{Meaning, meaning, requestsRefusal, waitsRefusal, runsRefusal, runAt, fullRun, granted}
+use Rattle.job.specs.declared.Right.{Right}
+use Rattle.jobfile.specs.Format.{rightPlace, word, _then_, noPair}
+use Rattle.jobfile.specs.Meaning.{Meaning, meaning, rightsRefusal, missingRefusal, rightRecords, requestsRefusal, waitsRefusal}
+use Rattle.jobfile.specs.Meaning.{runsRefusal, runAt, fullRun, granted}
 use Rattle.jobfile.specs.Admitted.{Bytes}
 use Rattle.jobfile.specs.Written.{longestRuns}
 use Rattle.reader.specs.declared.Checked.{Checked}
 use Rattle.reader.specs.declared.sections.Records.{Records}
 use Rattle.reader.specs.declared.sections.RunSection.{RunSection}
 
--- The counts: places, heads, requests, pairs (02, A3), grants, and the runs.
+-- The counts: places, heads, rights (02, A5), requests, pairs (02, A3), grants, and the runs.
 abbrev pub countsOf : Meaning → Checked
 countsOf m =
     record {
       number = m .number;
       nodes = m .job .nodes;
       heads = m .job .heads;
+      rights = length (m .job .rights);
       requests = length (m .job .requests);
       waits = length (m .job .waits);
       grants = length (m .job .schedule);
@@ -39,17 +45,26 @@ pub record Playing (file : List ℕ) (counts : Checked) : Type 0 where
   pub bytes : Bytes file
   pub checked : counts ≡ countsOf (meaning file)
 
--- The requests of the file: the first refusal, or how many there are.
-unfoldable pub requestSectionOf : ℕ → ℕ → List (List ℕ) → Records
-requestSectionOf nodes heads ts =
-    let number = requestsRefusal nodes heads 0 ts in
-    record { number = number; count = cond (eqb number 0) (length ts) 0 }
+-- The rights of a file (02, A5), counted and whole.
+pub record Righted (file : List ℕ) (rights : ℕ) : Type 0 where
+  pub counted : rights ≡ length (rightRecords file)
+  pub within : rightPlace rights ≤ length file
 
--- The pairs of the file (02, A3), behind so many requests: the first refusal, or how many there are.
-unfoldable pub waitSectionOf : ℕ → List (List ℕ) → Records
-waitSectionOf requests ts =
-    let number = waitsRefusal requests noPair ts in
-    record { number = number; count = cond (eqb number 0) (length ts) 0 }
+-- The records of a section: its refusal, or how many there are.
+unfoldable pub recordsOf : ℕ → List (List ℕ) → Records
+recordsOf number ts = record { number = number; count = cond (eqb number 0) (length ts) 0 }
+
+-- The rights of the file (02, A5), each and then whether one is missing,
+abbrev pub rightSectionOf : ℕ → List (List ℕ) → List ℕ → Records
+rightSectionOf heads ts t = recordsOf (rightsRefusal heads 0 ts then missingRefusal heads (length ts) t) ts
+
+-- the requests, behind these rights,
+abbrev pub requestSectionOf : ℕ → ℕ → List Right → List (List ℕ) → Records
+requestSectionOf nodes heads rights ts = recordsOf (requestsRefusal nodes heads rights 0 ts) ts
+
+-- and the pairs (02, A3), behind so many requests.
+abbrev pub waitSectionOf : ℕ → List (List ℕ) → Records
+waitSectionOf requests ts = recordsOf (waitsRefusal requests noPair ts) ts
 
 -- The runs of the file: the first refusal, or how many there are and the grants that they give.
 unfoldable pub runSectionOf : ℕ → List (List ℕ) → RunSection

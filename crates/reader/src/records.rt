@@ -1,10 +1,13 @@
-// One record: the request, the pair or the run at a place of the file, and its refusal, 0 for none.
+// One record: the right, the request, the pair or the run at a place of the file, and its refusal, 0 for none.
 use job::Kind;
 use job::MOST_REQUESTS;
 use job::Request;
+use job::Right;
 use job::Wait;
+use job::every_right;
 use jobfile::Fields;
 use jobfile::REQUEST_SIZE;
+use jobfile::RIGHT_SIZE;
 use jobfile::RUN_SIZE;
 use jobfile::Run;
 use jobfile::WAIT_SIZE;
@@ -12,14 +15,18 @@ use jobfile::bytes::whole_word;
 use jobfile::bytes::word_at;
 use jobfile::does_extend;
 use jobfile::fields_refusal;
+use jobfile::kind_refusal;
 use jobfile::pair_refusal;
+use jobfile::right_place;
+use jobfile::right_refusal;
 ghost use mathlib.Core.Path.{_≡_};
 ghost use Prim.Native.Nat.{_+_, _≤_};
 ghost use lib.ListN.{length, drop};
-ghost use Rattle.job.specs.Job.{kindOf};
-ghost use Rattle.jobfile.specs.Format.{requestSize, waitSize, runSize, mostBytes};
-ghost use Rattle.jobfile.specs.Meaning.{fieldsAt, requestAt, waitAt, runAt, requestRefusal, waitRefusal, runRefusal};
-ghost use Rattle.reader.specs.Reader.{isRecord};
+ghost use Rattle.job.specs.Job.{kindOf, rightOf};
+ghost use Rattle.jobfile.specs.Format.{rightSize, requestSize, waitSize, runSize, mostBytes};
+ghost use Rattle.jobfile.specs.Meaning.{rightAt, fieldsAt, requestAt, waitAt, runAt, rightRecordRefusal, rightsIn};
+ghost use Rattle.jobfile.specs.Meaning.{requestRefusal, waitRefusal, runRefusal};
+ghost use Rattle.reader.specs.Reader.{Righted, isRecord};
 
 // Whether a whole record of that size and mark stands at a place: a loop over such records then needs one test of the length
 // for each.
@@ -31,6 +38,47 @@ pub fn is_record(file: &[u8], at: usize, size: usize, mark: u16) -> bool
         return false;
     }
     word_at(file, at) == mark
+}
+
+// The right at a place (02, A5), whose record is whole.
+fn right_here(file: &[u8], at: usize) -> Right
+    requires { ⌜ at + rightSize ≤ length (now file) ⌝ }
+    ensures { λ r. ⌜ r ≡ rightAt (drop at (now (file .entry))) ⌝ }
+{
+    let head = file[at + 2];
+    let rights = file[at + 3];
+    let low = whole_word(file, at + 4);
+    let high = whole_word(file, at + 6);
+    Right {
+        head: head as u32,
+        rights: rights as u32,
+        sight: low as u32 + 65536 * (high as u32),
+    }
+}
+
+// The refusal of right number `number` at a place: one more than the heads, the whole record, the fields.
+pub fn right_record_refusal(file: &[u8], at: usize, heads: u32, number: u32) -> u32
+    requires { ⌜ at ≤ length (now file) ⌝ }
+    ensures { λ r. ⌜ r ≡ rightRecordRefusal heads number (drop at (now (file .entry))) ⌝ }
+{
+    if heads <= number {
+        return 3;
+    }
+    if file.len() - at < RIGHT_SIZE {
+        return 2;
+    }
+    right_refusal(heads, number, right_here(file, at))
+}
+
+// The right of a head in a file of so many rights, which are none or one a head.
+pub fn right_of(file: &[u8], rights: u32, head: u32) -> Right
+    requires { ⌜ Righted (now file) rights ⌝ }
+    ensures { λ r. ⌜ r ≡ rightOf (rightsIn (now (file .entry))) head ⌝ }
+{
+    if rights <= head {
+        return every_right(head);
+    }
+    right_here(file, right_place(head))
 }
 
 // The kind of an admitted number.
@@ -76,11 +124,20 @@ pub fn request_here(file: &[u8], at: usize) -> Request
     }
 }
 
-// The refusal of request number `number` at a place: the whole record, the count, the fields.
-pub fn request_refusal(file: &[u8], at: usize, nodes: u32, heads: u32, number: u32) -> u32
+// The refusal of request number `number` at a place, behind so many rights: the whole record, the count, the fields, and what
+// its head may ask.
+pub fn request_refusal(
+    file: &[u8],
+    at: usize,
+    nodes: u32,
+    heads: u32,
+    rights: u32,
+    number: u32,
+) -> u32
     requires { ⌜ at ≤ length (now file) ⌝ }
     requires { ⌜ length (now file) ≤ mostBytes ⌝ }
-    ensures { λ r. ⌜ r ≡ requestRefusal nodes heads number (drop at (now (file .entry))) ⌝ }
+    requires { ⌜ Righted (now file) rights ⌝ }
+    ensures { λ r. ⌜ r ≡ requestRefusal nodes heads (rightsIn (now (file .entry))) number (drop at (now (file .entry))) ⌝ }
 {
     if file.len() - at < REQUEST_SIZE {
         return 2;
@@ -88,7 +145,13 @@ pub fn request_refusal(file: &[u8], at: usize, nodes: u32, heads: u32, number: u
     if MOST_REQUESTS <= number as usize {
         return 9;
     }
-    fields_refusal(nodes, heads, fields_here(file, at))
+    let fields = fields_here(file, at);
+    let wrong = fields_refusal(nodes, heads, fields);
+    if wrong != 0 {
+        return wrong;
+    }
+    let right = right_of(file, rights, fields.head);
+    kind_refusal(right.rights, fields.kind)
 }
 
 // The pair at a place (02, A3), whose record is whole.

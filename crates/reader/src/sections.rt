@@ -1,7 +1,8 @@
-// The sections of a file in order: the header, the requests, the pairs (02, A3), the runs, the close. A number of 0 is no
-// refusal.
+// The sections of a file in order: the header, the rights (02, A5), the requests, the pairs (02, A3), the runs, the close. A
+// number of 0 is no refusal.
 use crate::records::is_record;
 use crate::records::request_refusal;
+use crate::records::right_record_refusal;
 use crate::records::run_here;
 use crate::records::run_refusal;
 use crate::records::wait_here;
@@ -13,6 +14,8 @@ use jobfile::JOB_MARK;
 use jobfile::JOB_SIZE;
 use jobfile::REQUEST_MARK;
 use jobfile::REQUEST_SIZE;
+use jobfile::RIGHT_MARK;
+use jobfile::RIGHT_SIZE;
 use jobfile::RUN_MARK;
 use jobfile::RUN_SIZE;
 use jobfile::Run;
@@ -20,15 +23,17 @@ use jobfile::WAIT_MARK;
 use jobfile::WAIT_SIZE;
 use jobfile::bytes::sum_words;
 use jobfile::bytes::word_at;
+use jobfile::right_place;
 use jobfile::sizes_refusal;
 ghost use mathlib.Core.Path.{_≡_};
 ghost use Prim.Native.Nat.{_≤_};
 ghost use lib.ListN.{length, drop};
-ghost use Rattle.jobfile.specs.Format.{requestMark, waitMark, runMark, requestSize, waitSize, runSize, mostBytes, _then_};
-ghost use Rattle.jobfile.specs.Meaning.{records, headerRefusal, closeRefusal, balanceRefusal};
-ghost use Rattle.reader.specs.Reader.{requestSectionOf, waitSectionOf, runSectionOf};
+ghost use Rattle.jobfile.specs.Format.{waitMark, runMark, jobSize, waitSize, runSize, mostBytes, _then_};
+ghost use Rattle.jobfile.specs.Meaning.{records, headerRefusal, missingRefusal, rightRecords, rightsIn, requestsStart, requestRecords};
+ghost use Rattle.jobfile.specs.Meaning.{closeRefusal, balanceRefusal};
+ghost use Rattle.reader.specs.Reader.{Righted, rightSectionOf, requestSectionOf, waitSectionOf, runSectionOf};
 
-// The requests of a file, or its pairs: how many there are, or their refusal.
+// The rights, the requests or the pairs of a file: how many there are, or their refusal.
 pub struct Records {
     pub number: u32,
     pub count: u32,
@@ -57,16 +62,66 @@ pub fn header_refusal(file: &[u8]) -> u32
     sizes_refusal(word_at(file, 2) as u32, word_at(file, 4) as u32)
 }
 
-// Reads the requests from where they start.
-pub fn read_requests(file: &[u8], nodes: u32, heads: u32, start: usize) -> Records
-    requires { ⌜ start ≤ length (now file) ⌝ }
-    requires { ⌜ length (now file) ≤ mostBytes ⌝ }
-    ensures { λ r. ⌜ r ≡ requestSectionOf nodes heads (records requestSize requestMark (drop start (now (file .entry)))) ⌝ }
+// The refusal of a place behind so many rights where another one is missing: once begun, there is one a head.
+fn missing_refusal(file: &[u8], at: usize, heads: u32, count: u32) -> u32
+    requires { ⌜ at ≤ length (now file) ⌝ }
+    ensures { λ r. ⌜ r ≡ missingRefusal heads count (drop at (now (file .entry))) ⌝ }
 {
-    let mut at = start;
+    if count == 0 {
+        return 0;
+    }
+    if heads <= count {
+        return 0;
+    }
+    if file.len() - at < 2 {
+        return 2;
+    }
+    3
+}
+
+// Reads the rights behind the first record.
+pub fn read_rights(file: &[u8], heads: u32) -> Records
+    requires { ⌜ jobSize ≤ length (now file) ⌝ }
+    requires { ⌜ length (now file) ≤ mostBytes ⌝ }
+    ensures { λ r. ⌜ r ≡ rightSectionOf heads (rightRecords (now (file .entry)))
+        (drop (requestsStart (now (file .entry))) (now (file .entry))) ⌝ }
+{
+    let mut at = JOB_SIZE;
+    let mut count: u32 = 0;
+    while word_at(file, at) == RIGHT_MARK {
+        let number = right_record_refusal(file, at, heads, count);
+        if number != 0 {
+            return Records {
+                number: number,
+                count: 0,
+            };
+        }
+        at += RIGHT_SIZE;
+        count += 1;
+    }
+    let number = missing_refusal(file, at, heads, count);
+    if number != 0 {
+        return Records {
+            number: number,
+            count: 0,
+        };
+    }
+    Records {
+        number: 0,
+        count: count,
+    }
+}
+
+// Reads the requests behind so many rights.
+pub fn read_requests(file: &[u8], nodes: u32, heads: u32, rights: u32) -> Records
+    requires { ⌜ Righted (now file) rights ⌝ }
+    requires { ⌜ length (now file) ≤ mostBytes ⌝ }
+    ensures { λ r. ⌜ r ≡ requestSectionOf nodes heads (rightsIn (now (file .entry))) (requestRecords (now (file .entry))) ⌝ }
+{
+    let mut at = right_place(rights);
     let mut count: u32 = 0;
     while word_at(file, at) == REQUEST_MARK {
-        let number = request_refusal(file, at, nodes, heads, count);
+        let number = request_refusal(file, at, nodes, heads, rights, count);
         if number != 0 {
             return Records {
                 number: number,

@@ -2,11 +2,11 @@
 --
 --   header j            the first record of a job's file
 --   body-closed         the body with its close is the file
---   file-stored         the five parts, stored behind one another, are the file
+--   file-stored         the six parts, stored behind one another, are the file
 --   left-refused, left-written   what the writer leaves
 --   left-means          what it leaves means what it was given
 use mathlib.Core.Path.{_≡_, refl, _∙_, sym, ap}
-use mathlib.Core.List.{List, _++_, map, append-assoc}
+use mathlib.Core.List.{List, [], _++_, map, append-assoc}
 use Prim.Native.Nat.{ℕ, _+_, _*_, _-_, _%_, _≤_}
 use native.Mathlib.Omega.{arith}
 use lib.Dec.{eqb}
@@ -15,16 +15,17 @@ use lib.Seq.{sets, take-at}
 use borrow.Author.Tests.{eqb-true, ne-eqb}
 use Rattle.basics.proofs.Conditions.{split}
 use Rattle.job.specs.Job.{Job}
-use Rattle.jobfile.specs.Format.{jobMark, closeMark, jobSize, requestSize, waitSize, runSize, wordBytes, wordSum, requestOf}
-use Rattle.jobfile.specs.Written.{requestsBytes, waitsBytes, runsBytes, longestRuns, fileWith, balance, written}
-use Rattle.jobfile.specs.Draft.{Draft, fieldsOf, pairsOf, jobOf, draftRefusal}
+use Rattle.jobfile.specs.Format.{jobMark, closeMark, jobSize, rightSize, requestSize, waitSize, runSize, wordBytes, wordSum, requestOf}
+use Rattle.jobfile.specs.Written.{rightsBytes, requestsBytes, waitsBytes, runsBytes, longestRuns, fileWith, balance, written}
+use Rattle.jobfile.specs.Draft.{Draft, rightsGiven, fieldsOf, pairsOf, jobOf, draftRefusal}
 use Rattle.jobfile.specs.Meaning.{accepted, meaning}
 use Rattle.jobfile.proofs.Refusals.{through}
-use Rattle.jobfile.proofs.Layouts.{requestLayout, waitLayout, runLayout}
+use Rattle.jobfile.proofs.Layouts.{rightLayout, requestLayout, waitLayout, runLayout}
 use Rattle.jobfile.proofs.Forward.{body, file-parts, sum-parts}
 use Rattle.jobfile.proofs.RoundTrip.{written-draft}
 use Rattle.writer.specs.declared.Written.{Written}
 use Rattle.writer.specs.Write.{closeBytes, writeRefusal, answer, writes}
+use Rattle.writer.proofs.Rights.{rights-count}
 use Rattle.writer.proofs.Requests.{fields-count}
 use Rattle.writer.proofs.Pairs.{pairs-count}
 use Rattle.writer.proofs.Stores.{stored-on, sets-front, Front, front-on}
@@ -40,12 +41,14 @@ body-closed j =
     sym (file-parts j (balance j) ∙ append-assoc (body j) (wordBytes closeMark) (wordBytes (balance j))
     ∙ ap (λ s. body j ++ (wordBytes closeMark ++ wordBytes ((65536 - s % 65536) % 65536))) sum)
 
--- What the buffer holds with the header, then the requests, then the pairs, then the runs, then the close.
-pub file-stored : (d : Draft) (out headed listed paired scheduled closed : List ℕ) (pairs runs close : ℕ)
+-- What the buffer holds with the header, then the rights, the requests, the pairs, the runs and the close.
+pub file-stored : (d : Draft) (out headed entitled listed paired scheduled closed : List ℕ) (asked pairs runs close : ℕ)
     → length (written (jobOf d)) ≤ length out
     → headed ≡ sets out 0 (wordBytes jobMark ++ wordBytes (d .nodes) ++ wordBytes (d .heads))
-    → pairs ≡ jobSize + requestSize * length (fieldsOf (d .requests))
-    → listed ≡ sets headed jobSize (requestsBytes (map requestOf (fieldsOf (d .requests))))
+    → asked ≡ jobSize + rightSize * length (rightsGiven (d .rights))
+    → entitled ≡ sets headed jobSize (rightsBytes (rightsGiven (d .rights)))
+    → pairs ≡ asked + requestSize * length (fieldsOf (d .requests))
+    → listed ≡ sets entitled asked (requestsBytes (map requestOf (fieldsOf (d .requests))))
     → runs ≡ pairs + waitSize * length (pairsOf (d .waits))
     → paired ≡ sets listed pairs (waitsBytes (pairsOf (d .waits)))
     → close ≡ runs + runSize * length (longestRuns (d .schedule))
@@ -53,15 +56,17 @@ pub file-stored : (d : Draft) (out headed listed paired scheduled closed : List 
     → closed ≡ sets scheduled close (closeBytes (take close scheduled))
     → closed ≡ sets out 0 (written (jobOf d))
 unfolding jobOf
-file-stored d out headed listed paired scheduled closed pairs runs close fits first q second w third r fourth last =
+file-stored d out headed entitled listed paired scheduled closed asked pairs runs close fits first a rights q second w third r fourth
+    last =
     let j = jobOf d in
     let one : Front out (header j) jobSize headed = record { place = refl; same = first } in
-    let two = front-on (requestLayout 0 0) (j .requests) one pairs listed (rw length-map q) second in
+    let held = front-on (rightLayout 0) (j .rights) one asked entitled a rights in
+    let two = front-on (requestLayout 0 0 []) (j .requests) held pairs listed (rw length-map q) second in
     let three = front-on (waitLayout 0) (j .waits) two runs paired w third in
     let four : Front out (body j) close scheduled =
     front-on (runLayout 0) (longestRuns (j .schedule)) three close scheduled r fourth in
     let room : length (body j) ≤ length out =
-    omega (arith, four .place, length-file d, fields-count (d .requests), pairs-count (d .waits)) in
+    omega (arith, four .place, length-file d, rights-count (d .rights), fields-count (d .requests), pairs-count (d .waits)) in
     let before : take close scheduled ≡ body j =
     ap (take close) (four .same ∙ sets-front out (body j) room)
     ∙ take-at (body j) (drop (length (body j)) out) close (sym (four .place)) in

@@ -1,11 +1,13 @@
--- The requests that the writer is given: how they stand in a list of numbers, four each, and what the loop over them keeps.
+-- The requests that the writer is given: how they stand in a list of numbers, four each.
 --
 --   fields-next, fields-end   the requests from a position on: one and those behind it, or none
+--   givenFields               requests in a list of numbers
 --   fields-count              how many requests there are
 --   count-refuses, count-passes   the test of their number
---   Passing n h l at          no request before the position at is refused
+--   asked-fields, asked-kind  the refusal of a request, by what is told of its numbers and of its head
 --   each-fits                 requests that are not refused fit the largest job
-use mathlib.Core.Path.{_≡_, refl, _∙_, sym, ap}
+use mathlib.Core.Path.{_≡_, refl, _∙_}
+use mathlib.Core.Bool.{true}
 use mathlib.Core.List.{List, [], _∷_}
 use Prim.Native.Nat.{ℕ, _+_, _/_, _≤_, _<_}
 use native.Mathlib.Omega.{arith}
@@ -13,12 +15,16 @@ use native.Mathlib.Nat.{add-zero}
 use lib.ListN.{length, drop, length-drop}
 use lib.Seq.{getD-drop, drop-drop}
 use borrow.Author.Tests.{ne-eqb, lt-ltb, le-ltb}
+use Rattle.job.specs.declared.Kind.{Kind}
+use Rattle.job.specs.declared.Kind.the-variants.{Union, SameSet}
+use Rattle.job.specs.declared.Right.{Right}
+use Rattle.job.specs.Job.{mostNodes, mostHeads, mostRequests, kindOf, mayAsk, rightOf}
 use Rattle.jobfile.specs.declared.Fields.{Fields}
-use Rattle.jobfile.specs.Format.{_then_, fieldsRefusal}
-use Rattle.job.specs.Job.{mostNodes, mostHeads, mostRequests}
+use Rattle.jobfile.specs.Format.{firstRefusal, fieldsRefusal, kindRefusal, askedRefusal}
 use Rattle.jobfile.specs.Draft.{fieldsOf, countRefusal, eachRefusal}
-use Rattle.jobfile.proofs.Refusals.{through, Sized, Fit, fit, fit-passes}
+use Rattle.jobfile.proofs.Refusals.{through, Sized, Fit, fit, fit-passes, may-passes}
 use Rattle.writer.specs.Write.{fieldsFrom}
+use Rattle.writer.proofs.Lists.{Given}
 
 fields-four : (t : List ℕ) → 4 ≤ length t → fieldsOf t ≡ fieldsFrom t 0 ∷ fieldsOf (drop 4 t)
 fields-four [] l = absurd (omega arith)
@@ -40,6 +46,9 @@ fields-next l at room = fields-four (drop at l) (rw length-drop (omega arith)) �
 pub fields-end : (l : List ℕ) (at : ℕ) → length l < at + 4 → fieldsOf (drop at l) ≡ []
 fields-end l at short = fields-few (drop at l) (rw length-drop (omega arith))
 
+abbrev pub givenFields : Given Fields
+givenFields = record { width = 4; all = fieldsOf; from = fieldsFrom; next = fields-next; end = fields-end }
+
 pub fields-count : (l : List ℕ) → length (fieldsOf l) ≡ length l / 4
 fields-count [] = refl
 fields-count (h ∷ []) = omega arith
@@ -56,37 +65,27 @@ pub count-passes : (l : List ℕ) → length l / 4 ≤ mostRequests → countRef
 unfolding countRefusal
 count-passes l some = rw (fields-count l, le-ltb mostRequests (length l / 4) some)
 
-pub record Passing (nodes heads : ℕ) (l : List ℕ) (at : ℕ) : Type 0 where
-  pub within : at ≤ length l
-  -- the requests passed do not count
-  pub same : eachRefusal nodes heads (fieldsOf (drop at l)) ≡ eachRefusal nodes heads (fieldsOf l)
+-- Both kinds are among all rights.
+every-kind : (k : Kind) → mayAsk 3 k ≡ true
+every-kind Union = refl
+every-kind SameSet = refl
 
-module _ (nodes heads : ℕ) (l : List ℕ) (at : ℕ) (passing : Passing nodes heads l at) where
-  next-refusal : at + 4 ≤ length l
-      → eachRefusal nodes heads (fieldsOf l) ≡ (fieldsRefusal nodes heads (fieldsFrom l at)
-      then eachRefusal nodes heads (fieldsOf (drop (at + 4) l)))
-  unfolding eachRefusal
-  next-refusal room = sym (passing .same) ∙ ap (eachRefusal nodes heads) (fields-next l at room)
+-- The refusal of a request: of its numbers, and where these fit, of what its head may ask.
+module _ (nodes heads : ℕ) (rights : List Right) (q : Fields) (n : ℕ) where
+  pub asked-fields : n ≡ fieldsRefusal nodes heads q → (n ≡ 0 → ⊥) → n ≡ askedRefusal nodes heads rights q
+  asked-fields told some = rw (← told, ne-eqb n 0 some)
 
-  pub passing-stops : (number : ℕ) → at + 4 ≤ length l → number ≡ fieldsRefusal nodes heads (fieldsFrom l at) → (number ≡ 0 → ⊥)
-      → number ≡ eachRefusal nodes heads (fieldsOf l)
-  passing-stops number room is refuses = rw (next-refusal room, ← is, ne-eqb number 0 refuses)
+  pub asked-kind : (r : Right) (m : ℕ) → n ≡ fieldsRefusal nodes heads q → n ≡ 0 → r ≡ rightOf rights (q .head)
+      → m ≡ kindRefusal (r .rights) (q .kind) → m ≡ askedRefusal nodes heads rights q
+  asked-kind r m told none held kind = rw (← told, none, ← held) kind
 
-  pub passing-on : (number : ℕ) → at + 4 ≤ length l → number ≡ fieldsRefusal nodes heads (fieldsFrom l at) → number ≡ 0
-      → Passing nodes heads l (at + 4)
-  passing-on number room is passes = record { within = room; same = rw (next-refusal room, ← is, passes) }
-
-  pub passing-all : length l < at + 4 → 0 ≡ eachRefusal nodes heads (fieldsOf l)
-  unfolding eachRefusal
-  passing-all short = sym (ap (eachRefusal nodes heads) (fields-end l at short)) ∙ passing .same
-
-pub each-fits : (nodes heads : ℕ) (qs : List Fields) → Sized nodes heads → eachRefusal nodes heads qs ≡ 0
-    → eachRefusal mostNodes mostHeads qs ≡ 0
-unfolding eachRefusal
-each-fits nodes heads [] sized e = refl
-each-fits nodes heads (q ∷ qs) sized e =
-    let both = through (fieldsRefusal nodes heads q) _ e in
-    let fits = fit nodes heads q (both .first) in
+pub each-fits : (nodes heads : ℕ) (rights : List Right) (qs : List Fields) → Sized nodes heads → eachRefusal nodes heads rights qs ≡ 0
+    → eachRefusal mostNodes mostHeads [] qs ≡ 0
+unfolding firstRefusal
+each-fits nodes heads rights [] sized e = refl
+each-fits nodes heads rights (q ∷ qs) sized e =
+    let both = through (askedRefusal nodes heads rights q) _ e in
+    let fits = fit nodes heads q (through (fieldsRefusal nodes heads q) _ (both .first) .first) in
     let larger : Fit mostNodes mostHeads q = record {
       head = omega arith;
       some-kind = fits .some-kind;
@@ -94,4 +93,5 @@ each-fits nodes heads (q ∷ qs) sized e =
       x = omega arith;
       y = omega arith;
     } in
-    rw (fit-passes mostNodes mostHeads q larger) (each-fits nodes heads qs sized (both .second))
+    rw (fit-passes mostNodes mostHeads q larger, may-passes 3 (q .kind) (every-kind (kindOf (q .kind))))
+    (each-fits nodes heads rights qs sized (both .second))

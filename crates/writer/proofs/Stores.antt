@@ -1,13 +1,14 @@
--- Bytes stored one after the other into a buffer, and what the loops over requests, pairs and runs keep.
+-- Bytes stored one after the other into a buffer, and what the loops over rights, requests, pairs and runs keep.
 --
 --   sets-after, stored-on   stores that follow on others are one row of stores
 --   sets-front          what stores from the front leave
---   request-stored      the four stores of a request make its record
+--   record-stored       four stores make a record of a mark, two bytes and two words
+--   request-written     which is a request's
 --   Storing k out₀ start all left at out   of the records `all` from the byte start on, those before `left` are stored
 --   Front out vs at after   the numbers vs, up to the byte at, stand in front of the buffer out, which is then after
 --   front-on            records that are stored behind them stand in front too
 --   RequestsStored out₀ start l i at out   the requests before the position i are stored, up to the byte at
---   WaitsStored out₀ start l i at out      the pairs before the position i are stored, up to the byte at
+--   ListStored k g Fits out₀ start l i at out   the rights or the pairs before the position i are stored, up to the byte at
 --   RunsStored out₀ start gs i at out      the runs of the grants before the i-th are stored, up to the byte at
 use mathlib.Core.Path.{_≡_, _∙_, sym, ap}
 use mathlib.Core.List.{List, [], _∷_, _++_, map}
@@ -17,20 +18,18 @@ use native.Mathlib.Nat.{add-zero, mul-zero, mul-suc}
 use lib.ListN.{length, getD, drop, set, drop-of-length-le, length-append, length-map}
 use lib.Seq.{sets, sets-eq, length-sets}
 use Rattle.job.specs.declared.Request.{Request}
-use Rattle.job.specs.declared.Wait.{Wait}
 use Rattle.jobfile.specs.declared.Fields.{Fields}
-use Rattle.jobfile.specs.Format.{requestMark, requestSize, waitSize, wordBytes, fieldsRefusal, requestOf}
-use Rattle.job.specs.Job.{mostNodes, mostHeads, mostRequests}
-use Rattle.jobfile.specs.Written.{recordsBytes, requestBytes, waitBytes, longestRuns}
-use Rattle.jobfile.specs.Draft.{fieldsOf, pairsOf, eachRefusal}
-use Rattle.jobfile.specs.Admitted.{Pairs}
+use Rattle.jobfile.specs.Format.{requestMark, requestSize, wordBytes, firstRefusal, fieldsRefusal, askedRefusal, requestOf}
+use Rattle.job.specs.Job.{mostNodes, mostHeads}
+use Rattle.jobfile.specs.Written.{recordsBytes, requestBytes, longestRuns}
+use Rattle.jobfile.specs.Draft.{fieldsOf, eachRefusal}
 use Rattle.jobfile.proofs.KindNumbers.{kind-written}
 use Rattle.jobfile.proofs.Refusals.{Both, through, fit}
 use Rattle.jobfile.proofs.Records.{Layout, length-records}
-use Rattle.jobfile.proofs.Layouts.{requestLayout, waitLayout, runLayout}
-use Rattle.writer.specs.Write.{fieldsFrom, pairFrom}
+use Rattle.jobfile.proofs.Layouts.{requestLayout, runLayout}
+use Rattle.writer.specs.Write.{fieldsFrom}
+use Rattle.writer.proofs.Lists.{Given}
 use Rattle.writer.proofs.Requests.{fields-next, fields-end}
-use Rattle.writer.proofs.Pairs.{pairs-next}
 
 pub sets-after : (l vs ws : List ℕ) (i k : ℕ) → k ≡ i + length vs → sets (sets l i vs) k ws ≡ sets l i (vs ++ ws)
 sets-after l [] ws i k e = let z : k ≡ i = omega arith in rw z
@@ -43,17 +42,21 @@ stored-on l before after vs ws i k seam first second = second ∙ ap (λ (t : Li
 pub sets-front : (l vs : List ℕ) → length vs ≤ length l → sets l 0 vs ≡ vs ++ drop (length vs) l
 sets-front l vs fits = let z : 0 + length vs ≡ length vs = omega arith in rw z at (sets-eq vs l 0 (omega arith))
 
-pub request-stored : (l a b c d : List ℕ) (at : ℕ) (q : Fields) → fieldsRefusal mostNodes mostHeads q ≡ 0
-    → a ≡ sets l at (wordBytes requestMark) → b ≡ sets a (at + 2) (q .head ∷ q .kind ∷ [])
-    → c ≡ sets b (at + 4) (wordBytes (q .x)) → d ≡ sets c (at + 6) (wordBytes (q .y))
-    → d ≡ sets l at (requestBytes (requestOf q))
-request-stored l a b c d at q fits first second third fourth =
+pub record-stored : (l a b c d : List ℕ) (at mark first second third fourth : ℕ)
+    → a ≡ sets l at (wordBytes mark) → b ≡ sets a (at + 2) (first ∷ second ∷ [])
+    → c ≡ sets b (at + 4) (wordBytes third) → d ≡ sets c (at + 6) (wordBytes fourth)
+    → d ≡ sets l at (wordBytes mark ++ (first ∷ second ∷ []) ++ wordBytes third ++ wordBytes fourth)
+record-stored l a b c d at mark first second third fourth one two three four =
+    let bytes = stored-on l a b (wordBytes mark) (first ∷ second ∷ []) at (at + 2) (omega arith) one two in
+    let word = stored-on l b c (wordBytes mark ++ first ∷ second ∷ []) (wordBytes third) at (at + 4) (omega arith) bytes three in
+    stored-on l c d (wordBytes mark ++ (first ∷ second ∷ []) ++ wordBytes third) (wordBytes fourth) at (at + 6) (omega arith) word four
+
+-- A request's numbers are those of its record, where its kind is admitted.
+pub request-written : (q : Fields) → fieldsRefusal mostNodes mostHeads q ≡ 0
+    → wordBytes requestMark ++ (q .head ∷ q .kind ∷ []) ++ wordBytes (q .x) ++ wordBytes (q .y) ≡ requestBytes (requestOf q)
+request-written q fits =
     let f = fit mostNodes mostHeads q fits in
-    let mark = wordBytes requestMark in
-    let two = stored-on l a b mark (q .head ∷ q .kind ∷ []) at (at + 2) (omega arith) first second in
-    let three = stored-on l b c (mark ++ q .head ∷ q .kind ∷ []) (wordBytes (q .x)) at (at + 4) (omega arith) two third in
     rw (kind-written (q .kind) (f .some-kind) (f .few-kinds))
-    (stored-on l c d (mark ++ (q .head ∷ q .kind ∷ []) ++ wordBytes (q .x)) (wordBytes (q .y)) at (at + 6) (omega arith) three fourth)
 
 -- The records `left` of `all` are to be stored from the byte `at` on, those before them are stored.
 pub record Storing {A S : Type 0} (k : Layout A S) (out₀ : List ℕ) (start : ℕ) (all left : List A) (at : ℕ) (out : List ℕ) : Type 0 where
@@ -111,21 +114,21 @@ requestsOf l = map requestOf (fieldsOf l)
 
 pub record RequestsStored (out₀ : List ℕ) (start : ℕ) (l : List ℕ) (i at : ℕ) (out : List ℕ) : Type 0 where
   pub within : i ≤ length l
-  pub storing : Storing (requestLayout 0 0) out₀ start (requestsOf l) (requestsOf (drop i l)) at out
+  pub storing : Storing (requestLayout 0 0 []) out₀ start (requestsOf l) (requestsOf (drop i l)) at out
   -- the requests that are left fit the largest job
-  pub fits : eachRefusal mostNodes mostHeads (fieldsOf (drop i l)) ≡ 0
+  pub fits : eachRefusal mostNodes mostHeads [] (fieldsOf (drop i l)) ≡ 0
 
 module _ {out₀ : List ℕ} {start : ℕ} {l : List ℕ} {i at : ℕ} {out : List ℕ} (h : RequestsStored out₀ start l i at out) where
   module _ (q : Fields) (is : q ≡ fieldsFrom l i) (more : i + 4 ≤ length l) where
     next : fieldsOf (drop i l) ≡ q ∷ fieldsOf (drop (i + 4) l)
     next = rw is (fields-next l i more)
 
-    next-fits : Both (fieldsRefusal mostNodes mostHeads q) (eachRefusal mostNodes mostHeads (fieldsOf (drop (i + 4) l)))
-    unfolding eachRefusal
-    next-fits = through (fieldsRefusal mostNodes mostHeads q) _ (sym (ap (eachRefusal mostNodes mostHeads) next) ∙ h .fits)
+    next-fits : Both (askedRefusal mostNodes mostHeads [] q) (eachRefusal mostNodes mostHeads [] (fieldsOf (drop (i + 4) l)))
+    unfolding firstRefusal
+    next-fits = through (askedRefusal mostNodes mostHeads [] q) _ (sym (ap (eachRefusal mostNodes mostHeads []) next) ∙ h .fits)
 
     pub request-fits : fieldsRefusal mostNodes mostHeads q ≡ 0
-    request-fits = next-fits .first
+    request-fits = through (fieldsRefusal mostNodes mostHeads q) _ (next-fits .first) .first
 
     pub request-room : start + requestSize * length (fieldsOf l) ≤ length out₀ → at + requestSize ≤ length out
     request-room room = record-room (h .storing) (requestOf q) (requestsOf (drop (i + 4) l)) (ap (map requestOf) next) (rw length-map room)
@@ -142,32 +145,35 @@ module _ {out₀ : List ℕ} {start : ℕ} {l : List ℕ} {i at : ℕ} {out : Li
 pub requests-over : (l : List ℕ) (i : ℕ) → length l < i + 4 → requestsOf (drop i l) ≡ []
 requests-over l i done = ap (map requestOf) (fields-end l i done)
 
-pub record WaitsStored (out₀ : List ℕ) (start : ℕ) (l : List ℕ) (i at : ℕ) (out : List ℕ) : Type 0 where
-  pub within : i ≤ length l
-  pub storing : Storing (waitLayout 0) out₀ start (pairsOf l) (pairsOf (drop i l)) at out
-  -- the pairs that are left fit the largest job
-  pub fits : (n : ℕ) (none : Wait) → n < length (pairsOf (drop i l)) → Pairs mostRequests (getD (pairsOf (drop i l)) n none)
+-- The records of a list of numbers: those before the position i are stored, up to the byte at, and those left are such that they
+-- fit their fields.
+module _ {A S : Type 0} (k : Layout A S) (g : Given A) (Fits : A → Type 0) (out₀ : List ℕ) (start : ℕ) (l : List ℕ) where
+  pub record ListStored (i at : ℕ) (out : List ℕ) : Type 0 where
+    pub within : i ≤ length l
+    pub storing : Storing k out₀ start (g .all l) (g .all (drop i l)) at out
+    pub fits : (n : ℕ) (none : A) → n < length (g .all (drop i l)) → Fits (getD (g .all (drop i l)) n none)
 
-module _ {out₀ : List ℕ} {start : ℕ} {l : List ℕ} {i at : ℕ} {out : List ℕ} (h : WaitsStored out₀ start l i at out)
-    (w : Wait) (is : w ≡ pairFrom l i) (more : i + 2 ≤ length l) where
-  next-pair : pairsOf (drop i l) ≡ w ∷ pairsOf (drop (i + 2) l)
-  next-pair = rw is (pairs-next l i more)
+module _ {A S : Type 0} {k : Layout A S} {g : Given A} {Fits : A → Type 0} {out₀ : List ℕ} {start : ℕ} {l : List ℕ} {i at : ℕ}
+    {out : List ℕ} (h : ListStored k g Fits out₀ start l i at out) (a : A) (is : a ≡ g .from l i) (more : i + g .width ≤ length l) where
+  next-given : g .all (drop i l) ≡ a ∷ g .all (drop (i + g .width) l)
+  next-given = rw is (g .next l i more)
 
-  fits-next : (n : ℕ) (none : Wait) → n < suc (length (pairsOf (drop (i + 2) l)))
-      → Pairs mostRequests (getD (w ∷ pairsOf (drop (i + 2) l)) n none)
-  fits-next = rw next-pair at (h .fits)
+  fits-next : (n : ℕ) (none : A) → n < suc (length (g .all (drop (i + g .width) l)))
+      → Fits (getD (a ∷ g .all (drop (i + g .width) l)) n none)
+  fits-next = rw next-given at (h .fits)
 
-  pub wait-fits : Pairs mostRequests w
-  wait-fits = fits-next 0 w (omega arith)
+  pub given-fits : Fits a
+  given-fits = fits-next 0 a (omega arith)
 
-  pub wait-room : start + waitSize * length (pairsOf l) ≤ length out₀ → at + waitSize ≤ length out
-  wait-room room = record-room (h .storing) w (pairsOf (drop (i + 2) l)) next-pair room
+  pub given-room : start + k .size * length (g .all l) ≤ length out₀ → at + k .size ≤ length out
+  given-room room = record-room (h .storing) a (g .all (drop (i + g .width) l)) next-given room
 
-  pub waits-stored-on : (after : List ℕ) → after ≡ sets out at (waitBytes w) → WaitsStored out₀ start l (i + 2) (at + waitSize) after
-  waits-stored-on after store =
+  pub given-stored-on : (after : List ℕ) → after ≡ sets out at (k .bytes a)
+      → ListStored k g Fits out₀ start l (i + g .width) (at + k .size) after
+  given-stored-on after store =
       record {
         within = more;
-        storing = storing-on (h .storing) w (pairsOf (drop (i + 2) l)) next-pair after store;
+        storing = storing-on (h .storing) a (g .all (drop (i + g .width) l)) next-given after store;
         fits = λ n none l. fits-next (suc n) none (omega arith);
       }
 

@@ -1,4 +1,4 @@
--- Document 01, "Job file", and 02, A3: writer and reader are inverses, in the writer's own terms.
+-- Document 01, "Job file", and 02, A3 and A5: writer and reader are inverses, in the writer's own terms.
 --
 --   Inverse             what is written means what was given, and what a file means is written as that file
 use mathlib.Core.Path.{_≡_}

@@ -1,12 +1,13 @@
--- Document 01, "Job file" and "Turned down", and 02, A3: what the writer answers and what it leaves in the lent buffer.
+-- Document 01, "Job file" and "Turned down", and 02, A3 and A5: what the writer answers and what it leaves in the lent buffer.
 --
---   given n h rs ws gs  the draft that the writer is given
+--   given n h as rs ws gs   the draft that the writer is given
 --   bufferRefusal s room   the refusal of a buffer of that length for the file s
 --   writeRefusal d room    the refusal of a draft and a buffer, 0 for none
 --   refused n           the answer of a refusal
 --   answer d room       the writer's answer
 --   Left                the answer and the lent buffer
 --   writes d out        what the writer leaves
+--   rightFrom l at      the three numbers of l from a position on, as a right
 --   fieldsFrom l at     the four numbers of l from a position on, as a request's
 --   pairFrom l at       the two numbers of l from a position on, as a pair
 --   closeBytes t        the close of a file whose other records are t
@@ -16,15 +17,18 @@ use Prim.Native.Nat.{ℕ, _+_, _-_, _%_}
 use lib.Dec.{eqb, ltb}
 use lib.ListN.{length, getD, drop}
 use Rattle.job.specs.declared.Wait.{Wait}
+use Rattle.job.specs.declared.Right.{Right}
 use Rattle.jobfile.specs.declared.Fields.{Fields}
 use Rattle.jobfile.specs.Format.{closeMark, wordBytes, wordSum, _then_}
 use Rattle.jobfile.specs.Written.{written}
 use Rattle.jobfile.specs.Draft.{Draft, jobOf, draftRefusal}
 use Rattle.writer.specs.declared.Written.{Written}
 
--- Places, heads, requests (four numbers each), pairs (02, A3; two numbers each) and a list of head numbers, one per grant.
-abbrev pub given : ℕ → ℕ → List ℕ → List ℕ → List ℕ → Draft
-given nodes heads requests waits grants = record { nodes = nodes; heads = heads; requests = requests; waits = waits; schedule = grants }
+-- Places, heads, rights (02, A5; three numbers each), requests (four numbers each), pairs (02, A3; two numbers each) and a list of
+-- head numbers, one per grant.
+abbrev pub given : ℕ → ℕ → List ℕ → List ℕ → List ℕ → List ℕ → Draft
+given nodes heads rights requests waits grants =
+    record { nodes = nodes; heads = heads; rights = rights; requests = requests; waits = waits; schedule = grants }
 
 -- 14: the writer's buffer too short.
 unfoldable pub bufferRefusal : List ℕ → ℕ → ℕ
@@ -59,7 +63,11 @@ writes d out =
       out = cond (eqb (writeRefusal d (length out)) 0) (file ++ drop (length file) out) out;
     }
 
--- What the functions below the entry point speak of: a request's numbers in place, a pair in place, and the close of a file.
+-- What the functions below the entry point speak of: a right, a request's numbers and a pair in place, and the close of a file.
+abbrev pub rightFrom : List ℕ → ℕ → Right
+rightFrom l at = record { head = getD l at 0; rights = getD l (at + 1) 0; sight = getD l (at + 2) 0 }
+
+-- A request's numbers in place.
 abbrev pub fieldsFrom : List ℕ → ℕ → Fields
 fieldsFrom l at = record { head = getD l at 0; kind = getD l (at + 1) 0; x = getD l (at + 2) 0; y = getD l (at + 3) 0 }
 

@@ -14,24 +14,27 @@ pub struct Written {
     pub bytes: u32,
 }
 
-// Writes the file of a job. `requests` has four numbers a request (head, kind, x, y), where a rest of fewer than four
-// is no request; `waits` (02, A3) has two numbers a pair (later, earlier), where a rest of one is no pair; `grants` has one
-// head number a grant. A refusal writes nothing, and bytes behind the file stay.
+// Writes the file of a job. `rights` (02, A5) has three numbers a right (head, rights, mask), where a rest of fewer than three is
+// no right; `requests` has four numbers a request (head, kind, x, y), where a rest of fewer than four is no request; `waits` (02,
+// A3) has two numbers a pair (later, earlier), where a rest of one is no pair; `grants` has one head number a grant. A refusal
+// writes nothing, and bytes behind the file stay.
 pub fn write(
     nodes: u32,
     heads: u32,
+    rights: &[u32],
     requests: &[u32],
     waits: &[u32],
     grants: &[u8],
     out: &mut [u8],
 ) -> Written
     ensures { λ r. ⌜ record { answer = r; out = now (out .exit) }
-        ≡ writes (given nodes heads (now (requests .entry)) (now (waits .entry)) (now (grants .entry))) (now (out .entry)) ⌝ }
+        ≡ writes (given nodes heads (now (rights .entry)) (now (requests .entry)) (now (waits .entry)) (now (grants .entry)))
+        (now (out .entry)) ⌝ }
 {
-    let answer = checked(nodes, heads, requests, waits, grants, out.len());
+    let answer = checked(nodes, heads, rights, requests, waits, grants, out.len());
     if answer.number != 0 {
         return answer;
     }
-    put_file(nodes, heads, requests, waits, grants, out);
+    put_file(nodes, heads, rights, requests, waits, grants, out);
     answer
 }

@@ -1,7 +1,9 @@
 // The records of a job file, written one after the other into a lent buffer.
 use crate::checks::fields_at;
 use crate::checks::pair_at;
+use crate::checks::right_at;
 use crate::checks::run_at;
+use job::Right;
 use job::Wait;
 use jobfile::CLOSE_MARK;
 use jobfile::Fields;
@@ -9,6 +11,8 @@ use jobfile::JOB_MARK;
 use jobfile::JOB_SIZE;
 use jobfile::REQUEST_MARK;
 use jobfile::REQUEST_SIZE;
+use jobfile::RIGHT_MARK;
+use jobfile::RIGHT_SIZE;
 use jobfile::RUN_MARK;
 use jobfile::RUN_SIZE;
 use jobfile::Run;
@@ -18,14 +22,15 @@ use jobfile::bytes::sum_words;
 use std::num::wrapping_sub_u16;
 ghost use mathlib.Core.Path.{_≡_};
 ghost use mathlib.Core.List.{[], _∷_, _++_, map};
-ghost use Prim.Native.Nat.{_+_, _*_, _≤_};
+ghost use Prim.Native.Nat.{_+_, _*_, _≤_, _<_};
 ghost use lib.ListN.{length, take};
 ghost use lib.Seq.{sets};
 ghost use Rattle.job.specs.Job.{mostNodes, mostHeads, mostRequests};
-ghost use Rattle.jobfile.specs.Format.{jobMark, jobSize, requestSize, waitSize, runSize, closeSize, wordBytes, fieldsRefusal};
+ghost use Rattle.jobfile.specs.Format.{jobMark, jobSize, rightSize, requestSize, waitSize, runSize, closeSize, wordBytes, fieldsRefusal};
 ghost use Rattle.jobfile.specs.Format.{requestOf, noPair};
-ghost use Rattle.jobfile.specs.Written.{requestBytes, requestsBytes, waitBytes, waitsBytes, runBytes, runsBytes, longestRuns, written};
-ghost use Rattle.jobfile.specs.Draft.{fieldsOf, pairsOf, eachRefusal, pairsRefusal, jobOf};
+ghost use Rattle.jobfile.specs.Written.{rightBytes, rightsBytes, requestBytes, requestsBytes, waitBytes, waitsBytes, runBytes, runsBytes};
+ghost use Rattle.jobfile.specs.Written.{longestRuns, written};
+ghost use Rattle.jobfile.specs.Draft.{rightsGiven, fieldsOf, pairsOf, eachRightRefusal, eachRefusal, pairsRefusal, jobOf};
 ghost use Rattle.jobfile.specs.Admitted.{Pairs};
 ghost use Rattle.writer.specs.Write.{given, writeRefusal, closeBytes};
 
@@ -56,6 +61,18 @@ fn put_words(out: &mut [u8], at: usize, mark: u16, first: u16, second: u16)
     put_word(out, at + 4, second);
 }
 
+// Stores a mark, two bytes behind it, and two words behind these.
+fn put_record(out: &mut [u8], at: usize, mark: u16, first: u8, second: u8, third: u16, fourth: u16)
+    requires { ⌜ at + 8 ≤ length (now out) ⌝ }
+    ensures { λ _. ⌜ now (out .exit)
+        ≡ sets (now (out .entry)) at (wordBytes mark ++ (first ∷ second ∷ []) ++ wordBytes third ++ wordBytes fourth) ⌝ }
+{
+    put_word(out, at, mark);
+    put_bytes(out, at + 2, first, second);
+    put_word(out, at + 4, third);
+    put_word(out, at + 6, fourth);
+}
+
 // Writes the job's record.
 fn put_header(out: &mut [u8], nodes: u16, heads: u16)
     requires { ⌜ jobSize ≤ length (now out) ⌝ }
@@ -64,22 +81,65 @@ fn put_header(out: &mut [u8], nodes: u16, heads: u16)
     put_words(out, 0, JOB_MARK, nodes, heads);
 }
 
+// Writes a right (02, A5) of a head of the largest job, so that its numbers fit their fields.
+fn put_right(out: &mut [u8], at: usize, right: Right)
+    requires { ⌜ at + rightSize ≤ length (now out) ⌝ }
+    requires { ⌜ right .head < mostHeads ⌝ }
+    requires { ⌜ right .rights ≤ 3 ⌝ }
+    ensures { λ _. ⌜ now (out .exit) ≡ sets (now (out .entry)) at (rightBytes right) ⌝ }
+{
+    let low = right.sight % 65536;
+    let high = right.sight / 65536;
+    put_record(
+        out,
+        at,
+        RIGHT_MARK,
+        right.head as u8,
+        right.rights as u8,
+        low as u16,
+        high as u16,
+    );
+}
+
+// Writes the rights, and gives the position behind them.
+fn put_rights(out: &mut [u8], start: usize, rights: &[u32]) -> usize
+    requires { ⌜ start + rightSize * length (rightsGiven (now rights)) ≤ length (now out) ⌝ }
+    requires { ⌜ length (rightsGiven (now rights)) ≤ mostHeads ⌝ }
+    requires { ⌜ eachRightRefusal mostHeads 0 (rightsGiven (now rights)) ≡ 0 ⌝ }
+    ensures { λ r. ⌜ r ≡ start + rightSize * length (rightsGiven (now (rights .entry))) ⌝ }
+    ensures { λ _. ⌜ now (out .exit) ≡ sets (now (out .entry)) start (rightsBytes (rightsGiven (now (rights .entry)))) ⌝ }
+{
+    let mut at = start;
+    let mut i = 0;
+    while 3 <= rights.len() - i {
+        put_right(out, at, right_at(rights, i));
+        i += 3;
+        at += RIGHT_SIZE;
+    }
+    at
+}
+
 // Writes a request whose numbers are admitted in the largest job, so that each fits its field.
 fn put_request(out: &mut [u8], at: usize, fields: Fields)
     requires { ⌜ at + requestSize ≤ length (now out) ⌝ }
     requires { ⌜ fieldsRefusal mostNodes mostHeads fields ≡ 0 ⌝ }
     ensures { λ _. ⌜ now (out .exit) ≡ sets (now (out .entry)) at (requestBytes (requestOf fields)) ⌝ }
 {
-    put_word(out, at, REQUEST_MARK);
-    put_bytes(out, at + 2, fields.head as u8, fields.kind as u8);
-    put_word(out, at + 4, fields.x as u16);
-    put_word(out, at + 6, fields.y as u16);
+    put_record(
+        out,
+        at,
+        REQUEST_MARK,
+        fields.head as u8,
+        fields.kind as u8,
+        fields.x as u16,
+        fields.y as u16,
+    );
 }
 
 // Writes the requests, and gives the position behind them.
 fn put_requests(out: &mut [u8], start: usize, requests: &[u32]) -> usize
     requires { ⌜ start + requestSize * length (fieldsOf (now requests)) ≤ length (now out) ⌝ }
-    requires { ⌜ eachRefusal mostNodes mostHeads (fieldsOf (now requests)) ≡ 0 ⌝ }
+    requires { ⌜ eachRefusal mostNodes mostHeads [] (fieldsOf (now requests)) ≡ 0 ⌝ }
     ensures { λ r. ⌜ r ≡ start + requestSize * length (fieldsOf (now (requests .entry))) ⌝ }
     ensures { λ _. ⌜ now (out .exit) ≡ sets (now (out .entry)) start (requestsBytes (map requestOf (fieldsOf (now (requests .entry))))) ⌝ }
 {
@@ -161,18 +221,20 @@ fn put_close(out: &mut [u8], at: usize)
 pub fn put_file(
     nodes: u32,
     heads: u32,
+    rights: &[u32],
     requests: &[u32],
     waits: &[u32],
     grants: &[u8],
     out: &mut [u8],
 )
-    requires { ⌜ writeRefusal (given nodes heads (now requests) (now waits) (now grants)) (length (now out)) ≡ 0 ⌝ }
+    requires { ⌜ writeRefusal (given nodes heads (now rights) (now requests) (now waits) (now grants)) (length (now out)) ≡ 0 ⌝ }
     ensures { λ _. ⌜ now (out .exit)
         ≡ sets (now (out .entry)) 0
-        (written (jobOf (given nodes heads (now (requests .entry)) (now (waits .entry)) (now (grants .entry))))) ⌝ }
+        (written (jobOf (given nodes heads (now (rights .entry)) (now (requests .entry)) (now (waits .entry)) (now (grants .entry))))) ⌝ }
 {
     put_header(out, nodes as u16, heads as u16);
-    let pairs = put_requests(out, JOB_SIZE, requests);
+    let asked = put_rights(out, JOB_SIZE, rights);
+    let pairs = put_requests(out, asked, requests);
     let runs = put_waits(out, pairs, waits);
     let close = put_runs(out, runs, grants);
     put_close(out, close);

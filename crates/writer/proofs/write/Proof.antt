@@ -9,10 +9,10 @@ use Rattle.writer.proofs.write.Tie as tie
 
 -- what the answers read of a place behind the check
 abbrev start : tie.After-checked → tie.Start
-start c = c .before .before .before .before .before
+start c = c .before .before .before .before .before .before
 
 abbrev draft : tie.After-checked → Draft
-draft c = let a = start c .args in given (a .nodes) (a .heads) (now (a .requests)) (now (a .waits)) (now (a .grants))
+draft c = let a = start c .args in given (a .nodes) (a .heads) (now (a .rights)) (now (a .requests)) (now (a .waits)) (now (a .grants))
 
 returns : tie.Need-returns
 returns c = left-refused _ _ _ (c .before .before .checked .ensures) (c .if1 .taken)

@@ -10,7 +10,8 @@ use borrow.Author.Needs.{needs}
 use Rattle.jobfile.specs.Format.{waitMark, waitSize, word, noPair}
 use Rattle.jobfile.proofs.Layouts.{waitLayout}
 use Rattle.reader.specs.Reader.{isRecord}
-use Rattle.reader.proofs.Loops.{ReadTo, read-start, record-whole, record-marked, wait-short, waits-next, waits-refused, waits-end}
+use Rattle.reader.proofs.Loops.{ReadTo, read-start, record-whole, record-marked, wait-short, waits-next}
+use Rattle.reader.proofs.Loops.{records-refused, records-told}
 use Rattle.reader.proofs.sections.read_waits.Statement.{statement}
 use Rattle.reader.proofs.sections.read_waits.Tie as tie
 
@@ -39,7 +40,7 @@ loop-holds c = read-start _ _ _ _ (c .before .pre .0)
 returns : tie.Need-returns Inv-loop μ-loop
 returns c =
     let refused = c .before in
-    waits-refused _ (here refused .before .before .loop .inv) _ (marked (here refused)) (refused .wait-refusal .ensures) (c .if2 .taken)
+    records-refused (here refused .before .before .loop .inv) _ (marked (here refused)) (refused .wait-refusal .ensures) (c .if2 .taken)
 
 wait-here-requires : tie.Need-wait-here-requires Inv-loop μ-loop
 wait-here-requires c κs =
@@ -66,10 +67,10 @@ returns-2 c =
     let ended = c .before .before in
     let mark = sym (c .before .word-at .ensures) ∙ c .if3 .taken in
     let none = sym (ended .before .is-record .ensures) ∙ ended .if1 .left in
-    waits-refused _ (ended .before .before .loop .inv) 2 mark (wait-short _ _ _ none mark) (λ z. omega arith)
+    records-refused (ended .before .before .loop .inv) 2 mark (wait-short _ _ _ none mark) (λ z. omega arith)
 
 returns-3 : tie.Need-returns-3 Inv-loop μ-loop
-returns-3 c = waits-end _ (c .before .before .before .before .loop .inv) (λ e. c .if3 .left (c .before .word-at .ensures ∙ e))
+returns-3 c = records-told (c .before .before .before .before .loop .inv) (λ e. c .if3 .left (c .before .word-at .ensures ∙ e))
 
 pub read-waits-spec : {M : Type 1} → statement M
 read-waits-spec =

@@ -14,7 +14,9 @@ returns c =
     let t = sym (c .before .before .before .is-resting .ensures) ∙ c .before .before .if1 .taken in
     c .begin .ensures ∙ simp (t, c .before .request-at .ensures noRequest)
 
+returns-2 : tie.Need-returns-2
+returns-2 c = simp (sym (c .before .is-resting .ensures) ∙ c .if1 .left)
+
 pub ready-head-spec : {M : Type 1} → statement M
 ready-head-spec =
-    tie.close (tie.spec (λ c κs. search needs) (λ c. search needs) request-at-requires (λ c κs. search needs) returns
-    (λ c. search needs))
+    tie.close (tie.spec (λ c κs. search needs) (λ c. search needs) request-at-requires (λ c κs. search needs) returns returns-2)

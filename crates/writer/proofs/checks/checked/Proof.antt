@@ -5,24 +5,28 @@ use Prim.Native.Nat.{_+_, _*_, _/_, _≤_}
 use denote.Ref.{now}
 use lib.ListN.{length}
 use borrow.Author.Needs.{needs}
-use Rattle.job.specs.Job.{mostRequests}
+use Rattle.job.specs.Job.{mostHeads, mostRequests}
 use Rattle.jobfile.specs.Format.{waitSize, runSize, closeSize, mostBytes}
 use Rattle.jobfile.specs.Written.{written}
 use Rattle.jobfile.specs.Draft.{Draft, jobOf}
 use Rattle.writer.specs.Write.{given}
-use Rattle.writer.proofs.Answers.{length-file, few-requests, answer-numbers, answer-length, answer-buffer, answer-written}
+use Rattle.writer.proofs.Answers.{length-file, few-rights, few-requests, answer-numbers, answer-length, answer-buffer}
+use Rattle.writer.proofs.Answers.{answer-written}
 use Rattle.writer.proofs.checks.checked.Statement.{statement}
 use Rattle.writer.proofs.checks.checked.Tie as tie
 
 -- the places that the answers read, and the draft that is checked
 abbrev start : tie.Else1 → tie.Start
-start c = c .before .before .before .before .before
+start c = c .before .before .before .before .before .before
 
 abbrev told : tie.After-request-place → tie.Else1
 told c = c .before .before
 
 abbrev draft : tie.Else1 → Draft
-draft c = let a = start c .args in given (a .nodes) (a .heads) (now (a .requests)) (now (a .waits)) (now (a .grants))
+draft c = let a = start c .args in given (a .nodes) (a .heads) (now (a .rights)) (now (a .requests)) (now (a .waits)) (now (a .grants))
+
+few-held : (c : tie.Else1) → length (now (start c .args .rights)) / 3 ≤ mostHeads
+few-held c = few-rights (draft c) _ (c .before .numbers-refusal .ensures) (c .if1 .left)
 
 few : (c : tie.Else1) → length (now (start c .args .requests)) / 4 ≤ mostRequests
 few c = few-requests (draft c) _ (c .before .numbers-refusal .ensures) (c .if1 .left)
@@ -34,16 +38,21 @@ size : (c : tie.After-request-place) → length (written (jobOf (draft (told c))
 size c = omega (arith, length-file (draft (told c)), c .request-place .ensures, c .before .run-count .ensures)
 
 short : (c : tie.Else3) → length (written (jobOf (draft (told (c .before .before))))) ≤ mostBytes
-short c = let placed = c .before .before in omega (arith, size placed, placed .request-place .ensures, few (told placed))
+short c =
+    let placed = c .before .before in
+    omega (arith, size placed, placed .request-place .ensures, few-held (told placed), few (told placed))
 
 returns : tie.Need-returns
 returns c = c .refusal .ensures ∙ answer-numbers _ _ _ (c .before .before .numbers-refusal .ensures) (c .before .if1 .taken)
 
 cast-request-place : tie.Need-cast-request-place
-cast-request-place c = omega (arith, few (c .before))
+cast-request-place c = omega (arith, few-held (c .before))
+
+cast-request-place-2 : tie.Need-cast-request-place-2
+cast-request-place-2 c = omega (arith, few (c .before))
 
 sub-if2 : tie.Need-sub-if2
-sub-if2 c = omega (arith, c .request-place .ensures, few (told c))
+sub-if2 c = omega (arith, c .request-place .ensures, few-held (told c), few (told c))
 
 returns-2 : tie.Need-returns-2
 returns-2 c =
@@ -51,10 +60,10 @@ returns-2 c =
     let t = told placed in
     c .refusal2 .ensures
     ∙ answer-length (draft t) _ (t .before .numbers-refusal .ensures) (t .if1 .left) _
-    (omega (arith, size placed, placed .request-place .ensures, few t))
+    (omega (arith, size placed, placed .request-place .ensures, few-held t, few t))
 
 sub-if3 : tie.Need-sub-if3
-sub-if3 c = omega (arith, c .before .request-place .ensures, few (told (c .before)))
+sub-if3 c = let placed = c .before in omega (arith, placed .request-place .ensures, few-held (told placed), few (told placed))
 
 returns-3 : tie.Need-returns-3
 returns-3 c =
@@ -71,8 +80,8 @@ returns-4 c =
     c .refusal4 .ensures
     ∙ answer-buffer (draft t) _ (t .before .numbers-refusal .ensures) (t .if1 .left) _ (short fits) (omega (arith, size placed))
 
-cast-t17 : tie.Need-cast-t17
-cast-t17 c = omega (arith, short (c .before), size (c .before .before .before))
+cast-t21 : tie.Need-cast-t21
+cast-t21 c = omega (arith, short (c .before), size (c .before .before .before))
 
 returns-5 : tie.Need-returns-5
 returns-5 c =
@@ -85,6 +94,6 @@ returns-5 c =
 pub checked-spec : {M : Type 1} → statement M
 checked-spec =
     tie.close (tie.spec (λ c κs. search needs) (λ c κs. search needs) returns (λ c κs. search needs) cast-request-place
-    (λ c κs. search needs) (λ c. search needs) sub-if2 (λ c κs. search needs) returns-2 (λ c. search needs)
+    cast-request-place-2 (λ c κs. search needs) (λ c. search needs) sub-if2 (λ c κs. search needs) returns-2 (λ c. search needs)
     (λ c. search needs) sub-if3 (λ c κs. search needs) returns-3 (λ c. search needs) (λ c. search needs)
-    (λ c κs. search needs) returns-4 cast-t17 returns-5)
+    (λ c κs. search needs) returns-4 cast-t21 returns-5)

@@ -1,15 +1,16 @@
 -- `checks::waits_refusal` passes the pairs that are not refused, and stops at the first that is.
-use mathlib.Core.Path.{refl}
 use Prim.Native.Nat.{_-_}
 use native.Mathlib.Omega.{arith}
 use lib.ListN.{length}
 use borrow.Author.Needs.{needs}
-use Rattle.writer.proofs.Pairs.{Climbing, climbing-stops, climbing-on, climbing-all}
+use Rattle.jobfile.specs.Format.{pairRefusal, noPair}
+use Rattle.writer.proofs.Lists.{Passing, passing-start, passing-stops, passing-on, passing-all}
+use Rattle.writer.proofs.Pairs.{givenPairs}
 use Rattle.writer.proofs.checks.waits_refusal.Statement.{statement}
 use Rattle.writer.proofs.checks.waits_refusal.Tie as tie
 
 abbrev Inv-loop : tie.InvT-loop
-Inv-loop count waits before₀ at₀ before at = Climbing count waits at before
+Inv-loop count waits before₀ at₀ before at = Passing givenPairs (pairRefusal count) (λ before w. w) noPair waits at before
 
 abbrev μ-loop : tie.MeasureT-loop
 μ-loop count waits before₀ at₀ before at = length waits - at
@@ -22,22 +23,22 @@ abbrev looped : tie.After-pair-at Inv-loop μ-loop → tie.At-loop Inv-loop μ-l
 looped c = c .before .before
 
 loop-holds : tie.Need-loop-holds Inv-loop μ-loop
-loop-holds c = record { within = omega arith; same = refl }
+loop-holds c = passing-start _ _ _ _ _
 
 returns : tie.Need-returns Inv-loop μ-loop
 returns c =
     let told = c .before in
-    climbing-stops _ _ _ _ (looped (read told) .loop .inv) _ (read told .pair-at .ensures) (omega arith) _
+    passing-stops (looped (read told) .loop .inv) _ (read told .pair-at .ensures) (omega arith) _
     (told .pair-refusal .ensures) (c .if1 .taken)
 
 loop-again : tie.Need-loop-again Inv-loop μ-loop
 loop-again c =
     let told = c .before in
-    climbing-on _ _ _ _ (looped (read told) .loop .inv) _ (read told .pair-at .ensures) (omega arith) _
+    passing-on (looped (read told) .loop .inv) _ (read told .pair-at .ensures) (omega arith) _
     (told .pair-refusal .ensures) (c .if1 .left)
 
 returns-2 : tie.Need-returns-2 Inv-loop μ-loop
-returns-2 c = climbing-all _ _ _ _ (c .before .loop .inv) (omega arith)
+returns-2 c = passing-all (c .before .loop .inv) (omega arith)
 
 pub waits-refusal-spec : {M : Type 1} → statement M
 waits-refusal-spec =

@@ -9,13 +9,15 @@ use Rattle.job.specs.Job.{mostRequests}
 use Rattle.jobfile.specs.Format.{waitSize, noPair}
 use Rattle.jobfile.specs.Draft.{pairsOf}
 use Rattle.jobfile.proofs.Pairs.{rising-each, rising-checked}
-use Rattle.writer.proofs.Pairs.{pairs-end}
-use Rattle.writer.proofs.Stores.{WaitsStored, wait-fits, wait-room, waits-stored-on, stored, stored-end}
+use Rattle.jobfile.specs.Admitted.{Pairs}
+use Rattle.jobfile.proofs.Layouts.{waitLayout}
+use Rattle.writer.proofs.Pairs.{givenPairs, pairs-end}
+use Rattle.writer.proofs.Stores.{ListStored, given-fits, given-room, given-stored-on, stored, stored-end}
 use Rattle.writer.proofs.records.put_waits.Statement.{statement}
 use Rattle.writer.proofs.records.put_waits.Tie as tie
 
 abbrev Inv-loop : tie.InvT-loop
-Inv-loop out₀ start waits at₀ i₀ out at i = WaitsStored out₀ start waits i at out
+Inv-loop out₀ start waits at₀ i₀ out at i = ListStored (waitLayout 0) givenPairs (Pairs mostRequests) out₀ start waits i at out
 
 abbrev μ-loop : tie.MeasureT-loop
 μ-loop out₀ start waits at₀ i₀ out at i = length waits - i
@@ -31,7 +33,7 @@ abbrev start : tie.At-loop Inv-loop μ-loop → tie.Start Inv-loop μ-loop
 start c = c .before .before .before
 
 room : (c : tie.After-pair-at Inv-loop μ-loop) → looped c .loop .at + waitSize ≤ length (looped c .loop .out)
-room c = wait-room (looped c .loop .inv) _ (c .pair-at .ensures) (omega arith) (start (looped c) .pre .0)
+room c = given-room (looped c .loop .inv) _ (c .pair-at .ensures) (omega arith) (start (looped c) .pre .0)
 
 loop-holds : tie.Need-loop-holds Inv-loop μ-loop
 loop-holds c =
@@ -43,7 +45,7 @@ loop-holds c =
     }
 
 put-wait-requires : tie.Need-put-wait-requires Inv-loop μ-loop
-put-wait-requires c κs = (room c, wait-fits (looped c .loop .inv) _ (c .pair-at .ensures) (omega arith))
+put-wait-requires c κs = (room c, given-fits (looped c .loop .inv) _ (c .pair-at .ensures) (omega arith))
 
 add-at : tie.Need-add-at Inv-loop μ-loop
 add-at c = omega (arith, room (after-pair-at c))
@@ -51,7 +53,7 @@ add-at c = omega (arith, room (after-pair-at c))
 loop-again : tie.Need-loop-again Inv-loop μ-loop
 loop-again c =
     let read = after-pair-at c in
-    waits-stored-on (looped read .loop .inv) _ (read .pair-at .ensures) (omega arith) _ (c .before .before .put-wait .ensures)
+    given-stored-on (looped read .loop .inv) _ (read .pair-at .ensures) (omega arith) _ (c .before .before .put-wait .ensures)
 
 same-length : tie.Need-same-length Inv-loop μ-loop
 same-length c = c .before .loop .inv .storing .size
