@@ -1,11 +1,12 @@
-/* The grouping core for C and C++: play a job file, write one, make a counter enquiry, print a played job, put a
- * table's groups on a page.
+/* The grouping core for C and C++: play a job file, write one, make a counter enquiry, print a played job or the sheet
+ * of one of its heads, put a table's groups on a page.
  *
  * Words. Heads take turns on one table of places, one grant at a time, and work through requests: a union joins the
  * groups of two places, a same-set asks whether two places are in one group. A request may wait for an earlier one:
- * until that is finished, its head takes its grants as idle. A place is a node of the paper's forest,
- * a group a set, the line-up the run's linearization, an enquiry's allowance its budget of grants; a call that is
- * turned down is refused. docs/GLOSSARY.md has all of them, docs/JOBFILE.md the job file byte by byte.
+ * until that is finished, its head takes its grants as idle. A job may say what each head may ask and whose requests it
+ * may see; its sheet has those. A place is a node of the paper's forest, a group a set, the line-up the run's
+ * linearization, an enquiry's allowance its budget of grants; a call that is turned down is refused. docs/GLOSSARY.md
+ * has all of them, docs/JOBFILE.md the job file byte by byte.
  *
  * Buffers. A buffer is a pointer and its length in elements. Every pointer is valid for that many elements, not null
  * and aligned, and a buffer that is written overlaps no other. Any bytes, numbers and lengths are admitted: what cannot
@@ -41,13 +42,15 @@ enum {
 };
 
 /* Enough of each buffer for every job: numbers of the table (one a place), of the report (four a request) and of the
- * line-up (two a request); bytes of the text that grouping_list prints of a played job (no text is that long); rows and
- * bytes of a page (each place alone: 4,096 rows and 205 headings of 33 bytes). */
+ * line-up (two a request); bytes of the text that grouping_list prints of a played job (no text is that long); bytes of
+ * a sheet (38 for a request's line and 17 for its entry's); rows and bytes of a page (each place alone: 4,096 rows and
+ * 205 headings of 33 bytes). */
 enum {
     GROUPING_MOST_TABLE = 4096,
     GROUPING_MOST_REPORT = 2048,
     GROUPING_MOST_LINEUP = 1024,
     GROUPING_MOST_LISTING = 327808,
+    GROUPING_MOST_SHEET = 28160,
     GROUPING_MOST_ROWS = 4096,
     GROUPING_MOST_PAGE = 141933
 };
@@ -55,7 +58,7 @@ enum {
 /* What a call is refused with: its result's number. */
 enum {
     GROUPING_ACCEPTED = 0,
-    /* by the sender of a job file, 1, 4 to 10 and 18 also by the caller of grouping_write */
+    /* by the sender of a job file, 1 and 4 to 10 also by the caller of grouping_write */
     GROUPING_REFUSED_FILE_TOO_LONG = 1,     /* over 32,768 bytes */
     GROUPING_REFUSED_FILE_ENDS_EARLY = 2,   /* before a record is whole or before the close */
     GROUPING_REFUSED_MARK = 3,              /* a mark not allowed at that position */
@@ -65,7 +68,8 @@ enum {
     GROUPING_REFUSED_REQUEST_KIND = 7,      /* neither 1 nor 2 */
     GROUPING_REFUSED_REQUEST_PLACE = 8,     /* not below the places */
     GROUPING_REFUSED_TOO_MANY_REQUESTS = 9, /* a 513th */
-    GROUPING_REFUSED_GRANT = 10,            /* its head is not below the heads, or a run is 0 */
+    GROUPING_REFUSED_GRANT = 10,            /* its head is not below the heads, or a run is 0; by the host program: a
+                                             * sheet's head is not below the heads */
     GROUPING_REFUSED_SPLIT_RUN = 11,        /* a run's head is that of the run before, which is under 255 */
     GROUPING_REFUSED_AFTER_CLOSE = 12,      /* bytes after the close */
     GROUPING_REFUSED_BALANCE = 13,          /* the file's words don't add up to zero */
@@ -75,14 +79,23 @@ enum {
     GROUPING_REFUSED_WORD = 16,             /* a word that no table has: docs/JOBFILE.md */
     GROUPING_REFUSED_PAGE = 17,             /* a row list shorter than the groups, or a page buffer than the page */
     /* by the sender of a job file, and by the caller of grouping_write */
-    GROUPING_REFUSED_WAIT = 18              /* a pair of requests: one doesn't exist, the earlier number isn't below the
+    GROUPING_REFUSED_WAIT = 18,             /* a pair of requests: one doesn't exist, the earlier number isn't below the
                                              * later, or the pairs don't rise strictly */
+    GROUPING_REFUSED_RIGHTS = 19,           /* not one a head, or none; their heads don't count up from 0, they aren't 1
+                                             * to 3, or they give sight of a head that doesn't exist */
+    GROUPING_REFUSED_REQUEST_RIGHTS = 20    /* a request's kind is not among its head's rights */
 };
 
-/* A request's kind, and its answer in the report. An enquiry has the same answers: yes, no or spent. */
+/* A request's kind, what a head may ask, and a request's answer in the report. An enquiry has the same answers: yes, no
+ * or spent. */
 enum {
     GROUPING_UNION = 1,
     GROUPING_SAME_SET = 2
+};
+enum {
+    GROUPING_MAY_JOIN = 1,    /* unions alone */
+    GROUPING_MAY_ENQUIRE = 2, /* same-sets alone */
+    GROUPING_MAY_BOTH = 3
 };
 enum {
     GROUPING_UNFINISHED = 0,
@@ -100,6 +113,7 @@ enum {
     GROUPING_STACK_WRITE = 512,
     GROUPING_STACK_QUERY = 17408,
     GROUPING_STACK_LIST = 1536,
+    GROUPING_STACK_SHEET = 36864,
     GROUPING_STACK_PAGE = 245760
 };
 
@@ -111,7 +125,7 @@ struct grouping_tally {
     uint32_t working;
 };
 
-/* number is 0, or the refusal's (1 to 14, 18). heads are 1 to 32; entries are those of the line-up. */
+/* number is 0, or the refusal's (1 to 14, 18 to 20). heads are 1 to 32; entries are those of the line-up. */
 struct grouping_played {
     uint32_t number;
     uint32_t places;
@@ -122,7 +136,7 @@ struct grouping_played {
     struct grouping_tally tally;
 };
 
-/* number is 0 and bytes the file's length, or the refusal's number (1, 4 to 10, 14, 18) and 0. */
+/* number is 0 and bytes the file's length, or the refusal's number (1, 4 to 10, 14, 18 to 20) and 0. */
 struct grouping_written {
     uint32_t number;
     uint32_t bytes;
@@ -135,7 +149,7 @@ struct grouping_queried {
     uint32_t used;
 };
 
-/* number is 0 and bytes the text's length, or 14 and 0 where a buffer is too short. */
+/* number is 0 and bytes the text's length, or the refusal's number (14; of a sheet 1 to 14, 18 to 20) and 0. */
 struct grouping_listed {
     uint32_t number;
     size_t bytes;
@@ -172,10 +186,13 @@ struct grouping_played grouping_play_lent(const uint8_t *file, size_t file_lengt
                                           uint32_t *lineup, size_t lineup_length,
                                           struct grouping_tally *tally);
 
-/* Writes a job file. requests has four numbers a request (head, kind, place x, place y), and a rest of fewer than four
- * is no request. waits has two numbers a pair, the later request and the earlier one that it waits for, rising by the
- * pair, and a rest of one is no pair; requests count from 0. grants has one head number a grant. */
+/* Writes a job file. rights has three numbers a head (head, what it may ask, the heads that it may see, a bit each),
+ * the heads counting up from 0, or none, which is every right and sight of every head; a rest of fewer than three is no
+ * record. requests has four numbers a request (head, kind, place x, place y), and a rest of fewer than four is no
+ * request. waits has two numbers a pair, the later request and the earlier one that it waits for, rising by the pair,
+ * and a rest of one is no pair; requests count from 0. grants has one head number a grant. */
 struct grouping_written grouping_write(uint32_t places, uint32_t heads,
+                                       const uint32_t *rights, size_t rights_length,
                                        const uint32_t *requests, size_t requests_length,
                                        const uint32_t *waits, size_t waits_length,
                                        const uint8_t *grants, size_t grants_length,
@@ -192,6 +209,13 @@ struct grouping_listed grouping_list(struct grouping_played played,
                                      const uint32_t *report, size_t report_length,
                                      const uint32_t *lineup, size_t lineup_length,
                                      uint8_t *out, size_t out_length);
+
+/* Plays a job file and writes the sheet of one of its heads: of the requests of the heads that it may see, in file
+ * order and numbered from 0 among themselves, the lines that grouping_list has of a request, then of their entries in
+ * the line-up; no zero byte is added. Two runs that agree on those requests, their report numbers and their points give
+ * the same sheet. A head not below the heads is refused with 10, a buffer shorter than the sheet with 14. */
+struct grouping_listed grouping_sheet(const uint8_t *file, size_t file_length, uint32_t head,
+                                      uint8_t *out, size_t out_length);
 
 /* Puts the groups of a table on a page. The table's length is its number of places; it is checked as an enquiry's is,
  * and only read. rows gets a row a group, rising by lowest place; the sizes add up to the place count. page gets a line

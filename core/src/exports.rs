@@ -29,6 +29,8 @@ extern "C" {
     pub fn grouping_write(
         places: u32,
         heads: u32,
+        rights: *const u32,
+        rights_length: usize,
         requests: *const u32,
         requests_length: usize,
         waits: *const u32,
@@ -55,6 +57,14 @@ extern "C" {
         report_length: usize,
         lineup: *const u32,
         lineup_length: usize,
+        out: *mut u8,
+        out_length: usize,
+    ) -> Listed;
+
+    pub fn grouping_sheet(
+        file: *const u8,
+        file_length: usize,
+        head: u32,
         out: *mut u8,
         out_length: usize,
     ) -> Listed;

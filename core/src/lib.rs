@@ -1,12 +1,14 @@
 //! Safe Rust over the proved grouping core: play a job file, with a tally of its own or on one that
-//! is lent, write one, make a counter enquiry, print a played job, put a table's groups on a page.
+//! is lent, write one, make a counter enquiry, print a played job or the sheet of one of its heads,
+//! put a table's groups on a page.
 //!
 //! Heads take turns on one table of places, one grant at a time, and work through requests: a union
 //! joins the groups of two places, a same-set asks whether two places are in one group. A request may
-//! wait for an earlier one: until that is finished, its head takes its grants as idle. A place is a
-//! node of the paper's forest, a group a set, the line-up the run's linearization, an enquiry's
-//! allowance its budget of grants; a call that is turned down is refused. `docs/GLOSSARY.md` has all
-//! of them, `docs/JOBFILE.md` the job file byte by byte.
+//! wait for an earlier one: until that is finished, its head takes its grants as idle. A job may say
+//! what each head may ask and whose requests it may see; its sheet has those. A place is a node of the
+//! paper's forest, a group a set, the line-up the run's linearization, an enquiry's allowance its
+//! budget of grants; a call that is turned down is refused. `docs/GLOSSARY.md` has all of them,
+//! `docs/JOBFILE.md` the job file byte by byte.
 //!
 //! Any bytes, numbers and lengths are admitted: what cannot be served is refused by number, with
 //! zero for every count and nothing written. What a call does not write stays as it was. The
@@ -21,7 +23,7 @@
 //! let requests = [0, UNION, 2, 3, /**/ 1, SAME_SET, 0, 1];
 //! let grants = [1, 1, 0, 0, 0, 0, 0, 0, 1];
 //! let mut file = vec![0; MOST_FILE];
-//! let written = write(4, 2, &requests, &[], &grants, &mut file).result()?;
+//! let written = write(4, 2, &[], &requests, &[], &grants, &mut file).result()?;
 //!
 //! let (mut table, mut report, mut lineup) =
 //!     (vec![0; MOST_TABLE], vec![0; MOST_REPORT], vec![0; MOST_LINEUP]);
@@ -55,7 +57,7 @@ pub use results::{Listed, Paged, Played, Queried, Row, Tally, Written};
 
 /// Plays a job file. `table` gets a word a place (rank × 65,536 + parent), `report` four numbers a
 /// request (answer, first grant, last grant, grants used), `lineup` two numbers an entry (point,
-/// request). Refused with 1 to 14 and 18.
+/// request). Refused with 1 to 14 and 18 to 20.
 ///
 /// ```
 /// use grouping_core::{play, Answer, Refusal};
@@ -131,31 +133,45 @@ pub fn play_lent(
     }
 }
 
-/// Writes a job file. `requests` has four numbers a request (head, kind, place x, place y), and a
-/// rest of fewer than four is no request. `waits` has two numbers a pair, the later request and the
-/// earlier one that it waits for, rising by the pair, and a rest of one is no pair; requests count
-/// from 0. `grants` has one head number a grant. Refused with 1, 4 to 10, 14 and 18.
+/// Writes a job file. `rights` has three numbers a head (head, what it may ask, the heads that it may
+/// see, a bit each), the heads counting up from 0, or none, which is every right and sight of every
+/// head; a rest of fewer than three is no record. `requests` has four numbers a request (head, kind,
+/// place x, place y), and a rest of fewer than four is no request. `waits` has two numbers a pair, the
+/// later request and the earlier one that it waits for, rising by the pair, and a rest of one is no
+/// pair; requests count from 0. `grants` has one head number a grant. Refused with 1, 4 to 10, 14 and
+/// 18 to 20.
 ///
 /// ```
-/// use grouping_core::{write, Refusal, SAME_SET, UNION};
+/// use grouping_core::{write, Refusal, MAY_BOTH, MAY_ENQUIRE, SAME_SET, UNION};
 ///
 /// let mut out = [0xEE; 24];
-/// let written = write(2, 1, &[0, UNION, 0, 1], &[], &[0; 6], &mut out);
+/// let written = write(2, 1, &[], &[0, UNION, 0, 1], &[], &[0; 6], &mut out);
 /// assert_eq!((written.number, written.bytes), (0, 22));
 /// assert_eq!(&out[..22], b"DK\x02\0\x01\0RQ\0\x01\0\0\x01\0GR\0\x06CL\xDC\xBD");
 /// assert_eq!(out[22..], [0xEE; 2]);
 ///
-/// let refused = write(2, 1, &[0, UNION, 0, 2], &[], &[0; 6], &mut out);
+/// let refused = write(2, 1, &[], &[0, UNION, 0, 2], &[], &[0; 6], &mut out);
 /// assert_eq!(refused.result(), Err(Refusal::RequestPlace));
 ///
 /// // Request 1 waits for request 0, and no request for itself.
 /// let requests = [0, UNION, 0, 1, /**/ 1, SAME_SET, 0, 1];
-/// assert_eq!(write(2, 2, &requests, &[1, 0], &[], &mut [0; 32]).bytes, 32);
-/// assert_eq!(write(2, 2, &requests, &[1, 1], &[], &mut [0; 32]).result(), Err(Refusal::Wait));
+/// assert_eq!(write(2, 2, &[], &requests, &[1, 0], &[], &mut [0; 32]).bytes, 32);
+/// let refused = write(2, 2, &[], &requests, &[1, 1], &[], &mut [0; 32]);
+/// assert_eq!(refused.result(), Err(Refusal::Wait));
+///
+/// // Head 0 may ask for both and sees itself; head 1 may only enquire, and sees both.
+/// let rights = [0, MAY_BOTH, 0b01, /**/ 1, MAY_ENQUIRE, 0b11];
+/// assert_eq!(write(2, 2, &rights, &requests, &[], &[], &mut [0; 42]).bytes, 42);
+/// // One head's rights are missing; head 1 may not join.
+/// let refused = write(2, 2, &rights[..3], &requests, &[], &[], &mut [0; 42]);
+/// assert_eq!(refused.result(), Err(Refusal::Rights));
+/// let refused = write(2, 2, &rights, &[1, UNION, 0, 1], &[], &[], &mut [0; 42]);
+/// assert_eq!(refused.result(), Err(Refusal::RequestRights));
 /// ```
 pub fn write(
     places: u32,
     heads: u32,
+    rights: &[u32],
     requests: &[u32],
     waits: &[u32],
     grants: &[u8],
@@ -166,6 +182,8 @@ pub fn write(
         exports::grouping_write(
             places,
             heads,
+            rights.as_ptr(),
+            rights.len(),
             requests.as_ptr(),
             requests.len(),
             waits.as_ptr(),
@@ -238,6 +256,40 @@ pub fn list(
             out.len(),
         )
     }
+}
+
+/// Plays a job file and writes the sheet of one of its heads: of the requests of the heads that it may
+/// see, in file order and numbered from 0 among themselves, the lines that [`list`] has of a request,
+/// then of their entries in the line-up. Two runs that agree on those requests, their report numbers
+/// and their points give the same sheet. Refused with 1 to 14 and 18 to 20; 10 is also for a head that
+/// is not below the heads, and 14 for a buffer that is shorter than the sheet.
+///
+/// ```
+/// use grouping_core::{sheet, write, Refusal, MAY_ENQUIRE, MAY_JOIN, MOST_FILE, MOST_SHEET, SAME_SET, UNION};
+///
+/// // Four places, two heads: head 0 joins 2 and 3, and sees itself; head 1 asks about 0 and 1, and
+/// // sees both.
+/// let rights = [0, MAY_JOIN, 0b01, /**/ 1, MAY_ENQUIRE, 0b11];
+/// let requests = [0, UNION, 2, 3, /**/ 1, SAME_SET, 0, 1];
+/// let grants = [1, 1, 0, 0, 0, 0, 0, 0, 0, 0, 0, 0, 0, 0, 0, 1];
+/// let mut file = vec![0; MOST_FILE];
+/// let written = write(4, 2, &rights, &requests, &[], &grants, &mut file).result()?;
+/// let file = &file[..written.bytes as usize];
+///
+/// let mut out = vec![0; MOST_SHEET];
+/// let listed = sheet(file, 0, &mut out).result()?;
+/// assert_eq!(&out[..listed.bytes], b"request 0 1 3 15 13\nline 7 0\n");
+/// let listed = sheet(file, 1, &mut out).result()?;
+/// let text = b"request 0 1 3 15 13\nrequest 1 4 1 16 3\nline 2 1\nline 7 0\n";
+/// assert_eq!(&out[..listed.bytes], text);
+///
+/// assert_eq!(sheet(file, 2, &mut out).result(), Err(Refusal::Grant));
+/// assert_eq!(sheet(file, 0, &mut [0; 28]).result(), Err(Refusal::Buffer));
+/// # Ok::<(), Refusal>(())
+/// ```
+pub fn sheet(file: &[u8], head: u32, out: &mut [u8]) -> Listed {
+    // SAFETY: pointers and lengths of slices, as said above.
+    unsafe { exports::grouping_sheet(file.as_ptr(), file.len(), head, out.as_mut_ptr(), out.len()) }
 }
 
 /// Puts the groups of a table on a page. The table's length is its number of places; it is checked as

@@ -23,6 +23,8 @@ pub const MOST_REPORT: usize = 2_048;
 pub const MOST_LINEUP: usize = 1_024;
 /// Bytes enough for the text of every played job; no text is that long.
 pub const MOST_LISTING: usize = 327_808;
+/// Bytes enough for every sheet: 38 for a request's line and 17 for its entry's.
+pub const MOST_SHEET: usize = 28_160;
 /// Rows of a page for every table: one a place, each place alone in its group.
 pub const MOST_ROWS: usize = 4_096;
 /// Bytes of the longest page: lines of 33 bytes, 4,096 for the rows and 205 headings.
@@ -32,6 +34,13 @@ pub const MOST_PAGE: usize = 141_933;
 pub const UNION: u32 = 1;
 /// The kind of a request that asks whether two places are in one group.
 pub const SAME_SET: u32 = 2;
+
+/// The rights of a head that may ask for unions alone.
+pub const MAY_JOIN: u32 = 1;
+/// The rights of a head that may ask for same-sets alone.
+pub const MAY_ENQUIRE: u32 = 2;
+/// The rights of a head that may ask for both.
+pub const MAY_BOTH: u32 = 3;
 
 /// The stack that each call needs at most below its caller's frame, in bytes, the C library's memmove
 /// and memset included. (A program that finds these two only when they are first called needs about
@@ -47,6 +56,8 @@ pub mod stack {
     pub const QUERY: usize = 17_408;
     /// [`list`](crate::list)
     pub const LIST: usize = 1_536;
+    /// [`sheet`](crate::sheet)
+    pub const SHEET: usize = 36_864;
     /// [`page`](crate::page)
     pub const PAGE: usize = 245_760;
 }
@@ -130,7 +141,7 @@ pub enum Refusal {
     RequestPlace = 8,
     /// There is a 513th request.
     TooManyRequests = 9,
-    /// A grant's head is not below the heads, or a run is 0.
+    /// A grant's head is not below the heads, or a run is 0; or a sheet's head is not below the heads.
     Grant = 10,
     /// A run's head is that of the run before, which is under 255.
     SplitRun = 11,
@@ -151,11 +162,16 @@ pub enum Refusal {
     /// A pair of requests, of which the later one waits: one of them doesn't exist, the earlier
     /// number isn't below the later, or the pairs don't rise strictly.
     Wait = 18,
+    /// The rights are not one a head, or none; their heads don't count up from 0, they aren't 1 to 3,
+    /// or they give sight of a head that doesn't exist.
+    Rights = 19,
+    /// A request's kind is not among its head's rights.
+    RequestRights = 20,
 }
 
 impl Refusal {
     /// All of them, by their numbers.
-    pub const ALL: [Refusal; 18] = [
+    pub const ALL: [Refusal; 20] = [
         Refusal::FileTooLong,
         Refusal::FileEndsEarly,
         Refusal::Mark,
@@ -174,6 +190,8 @@ impl Refusal {
         Refusal::Word,
         Refusal::Page,
         Refusal::Wait,
+        Refusal::Rights,
+        Refusal::RequestRights,
     ];
 
     /// The refusal that a number stands for; 0 is none.
@@ -193,7 +211,7 @@ impl Refusal {
             Refusal::RequestKind => "a request's kind is neither 1 nor 2",
             Refusal::RequestPlace => "a request's place is not below the places",
             Refusal::TooManyRequests => "there is a 513th request",
-            Refusal::Grant => "a grant's head is not below the heads, or a run is 0",
+            Refusal::Grant => "a grant's or a sheet's head is not below the heads, or a run is 0",
             Refusal::SplitRun => "a run's head is that of the run before, which is under 255",
             Refusal::AfterClose => "there are bytes after the close",
             Refusal::Balance => "the file's words don't add up to zero",
@@ -210,6 +228,10 @@ impl Refusal {
             Refusal::Wait => {
                 "of a pair of requests one doesn't exist, the earlier number isn't below the later, or the pairs don't rise strictly"
             }
+            Refusal::Rights => {
+                "the rights are not one a head, or none; their heads don't count up from 0, they aren't 1 to 3, or they give sight of a head that doesn't exist"
+            }
+            Refusal::RequestRights => "a request's kind is not among its head's rights",
         }
     }
 }

@@ -18,7 +18,7 @@ pub struct Tally {
     pub working: u32,
 }
 
-/// What a play left: its counts, or a refusal's number (1 to 14, 18) and zeros.
+/// What a play left: its counts, or a refusal's number (1 to 14, 18 to 20) and zeros.
 #[must_use = "a refusal is told only here"]
 #[repr(C)]
 #[derive(Clone, Copy, Debug, Default, PartialEq, Eq)]
@@ -39,7 +39,7 @@ pub struct Played {
     pub tally: Tally,
 }
 
-/// The length of a file that was written, or a refusal's number (1, 4 to 10, 14, 18) and 0.
+/// The length of a file that was written, or a refusal's number (1, 4 to 10, 14, 18 to 20) and 0.
 #[must_use = "a refusal is told only here"]
 #[repr(C)]
 #[derive(Clone, Copy, Debug, Default, PartialEq, Eq)]
@@ -63,7 +63,7 @@ pub struct Queried {
     pub used: u32,
 }
 
-/// The length of a text, or 14 and 0 where a buffer is too short.
+/// The length of a text, or a refusal's number (14; of a sheet 1 to 14, 18 to 20) and 0.
 #[must_use = "a refusal is told only here"]
 #[repr(C)]
 #[derive(Clone, Copy, Debug, Default, PartialEq, Eq)]

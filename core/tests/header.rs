@@ -29,6 +29,7 @@ fn of_the_crate() -> BTreeMap<String, u64> {
         ("REPORT", MOST_REPORT as u64),
         ("LINEUP", MOST_LINEUP as u64),
         ("LISTING", MOST_LISTING as u64),
+        ("SHEET", MOST_SHEET as u64),
         ("ROWS", MOST_ROWS as u64),
         ("PAGE", MOST_PAGE as u64),
     ] {
@@ -40,12 +41,16 @@ fn of_the_crate() -> BTreeMap<String, u64> {
         ("WRITE", stack::WRITE),
         ("QUERY", stack::QUERY),
         ("LIST", stack::LIST),
+        ("SHEET", stack::SHEET),
         ("PAGE", stack::PAGE),
     ] {
         put(format!("STACK_{name}"), number as u64);
     }
     put("UNION".into(), UNION.into());
     put("SAME_SET".into(), SAME_SET.into());
+    put("MAY_JOIN".into(), MAY_JOIN.into());
+    put("MAY_ENQUIRE".into(), MAY_ENQUIRE.into());
+    put("MAY_BOTH".into(), MAY_BOTH.into());
     put("SPENT".into(), Answer::Unfinished as u64);
     put("ACCEPTED".into(), 0);
     for answer in Answer::ALL {
@@ -77,9 +82,9 @@ fn same_names_and_numbers() {
 /// Every number has its refusal and every refusal its words.
 #[test]
 fn refusals_by_number() {
-    for number in 1..=18 {
-        let refusal = Refusal::of(number).expect("1 to 18 are refusals");
+    for number in 1..=20 {
+        let refusal = Refusal::of(number).expect("1 to 20 are refusals");
         assert!(refusal.to_string().starts_with(&format!("refused {number}: ")));
     }
-    assert_eq!((Refusal::of(0), Refusal::of(19)), (None, None));
+    assert_eq!((Refusal::of(0), Refusal::of(21)), (None, None));
 }
