@@ -3,8 +3,8 @@
 
 use std::collections::BTreeSet;
 
-use crate::job::{self, Job, Request, Wait};
-use crate::job::{CLOSE, MAX_BYTES, MAX_HEADS, MAX_REQUESTS, OPENING, REQUEST, RUN, WAIT};
+use crate::job::{self, Job, Kind, Request, Right, Wait};
+use crate::job::{CLOSE, MAX_BYTES, MAX_HEADS, MAX_REQUESTS, OPENING, REQUEST, RIGHT, RUN, WAIT};
 use crate::numbers::refusal;
 use crate::word::{parent, rank, word};
 
@@ -63,7 +63,7 @@ pub fn contended(random: &mut Random) -> Job {
     requests.extend(of_everyone);
     let length = random.between(0, 24 * requests.len() as u32);
     grants.extend(schedule(random, heads, length));
-    Job { nodes, heads, requests, waits: Vec::new(), grants }
+    Job { nodes, heads, rights: Vec::new(), requests, waits: Vec::new(), grants }
 }
 
 /// A job's number of heads and requests that it is to have: one job in four has the most heads
@@ -88,13 +88,62 @@ pub fn waiting(random: &mut Random) -> Job {
     Job { waits: waits.into_iter().collect(), ..job }
 }
 
-/// A contended job, with pairs or without any.
-pub fn contended_or_waiting(random: &mut Random) -> Job {
+/// A contended job with rights of each head, with pairs or without any.
+pub fn entitled(random: &mut Random) -> Job {
+    let job = contended_or_waiting(random);
+    with_rights(random, job)
+}
+
+/// A contended job, with rights and pairs or without any.
+pub fn varied(random: &mut Random) -> Job {
+    let job = contended_or_waiting(random);
+    if random.chance(50) {
+        job
+    } else {
+        with_rights(random, job)
+    }
+}
+
+fn contended_or_waiting(random: &mut Random) -> Job {
     if random.chance(50) {
         contended(random)
     } else {
         waiting(random)
     }
+}
+
+/// The job with rights of each head. A request that its head may not make becomes one of the other
+/// kind.
+pub fn with_rights(random: &mut Random, mut job: Job) -> Job {
+    let mut right =
+        |head| Right { kinds: random.pick(&[1, 2, 3, 3]), sight: sight(random, job.heads, head) };
+    job.rights = (0..job.heads).map(&mut right).collect();
+    for request in &mut job.requests {
+        request.kind = match job.rights[usize::from(request.head)].kinds {
+            1 => Kind::Union,
+            2 => Kind::SameSet,
+            _ => request.kind,
+        };
+    }
+    job
+}
+
+/// Any heads that a head may see: none, all, itself alone, all others, one, or some.
+fn sight(random: &mut Random, heads: u32, head: u32) -> u32 {
+    let (all, itself) = (every_head(heads), 1 << head);
+    match random.below(6) {
+        0 => 0,
+        1 => all,
+        2 => itself,
+        3 => all & !itself,
+        4 => 1 << random.below(heads),
+        _ => random.bits() as u32 & all,
+    }
+}
+
+/// Sight of all of so many heads.
+pub fn every_head(heads: u32) -> u32 {
+    u32::MAX >> (MAX_HEADS - heads)
 }
 
 /// A job of which at least a tenth of the grants wait: before request 0 has any, the other heads,
@@ -148,7 +197,8 @@ pub fn larger(random: &mut Random) -> Job {
     let count = random.between(1, (MAX_REQUESTS - requests.len()) as u32);
     requests.extend(self::requests(random, busy, heads, count));
     let length = random.between(0, 20 * count).min(7_000);
-    Job { nodes, heads, requests, waits: Vec::new(), grants: schedule(random, heads, length) }
+    let grants = schedule(random, heads, length);
+    Job { nodes, heads, rights: Vec::new(), requests, waits: Vec::new(), grants }
 }
 
 fn requests(random: &mut Random, nodes: u32, heads: u32, count: u32) -> Vec<Request> {
@@ -319,7 +369,7 @@ pub enum Expected {
 /// The file of a job, damaged in some way.
 pub fn damaged(random: &mut Random, job: &Job) -> (Vec<u8>, Expected) {
     let file = job.file().expect("a generated job is accepted");
-    match random.below(11) {
+    match random.below(13) {
         0 => bytes_changed(random, file),
         1 => (file[..random.below(file.len() as u32) as usize].to_vec(), ends_early()),
         2 => lengthened(random, file),
@@ -332,6 +382,10 @@ pub fn damaged(random: &mut Random, job: &Job) -> (Vec<u8>, Expected) {
         9 => {
             let fault = random.pick(&WAIT_FAULTS);
             wait_spoilt(random, file, job, fault)
+        }
+        10 | 11 => {
+            let fault = random.pick(&RIGHT_FAULTS);
+            right_spoilt(random, file, job, fault)
         }
         _ => too_many_requests(random, file, job),
     }
@@ -398,7 +452,8 @@ fn opening_out_of_range(random: &mut Random, mut file: Vec<u8>) -> (Vec<u8>, Exp
 }
 
 fn request_out_of_range(random: &mut Random, mut file: Vec<u8>, job: &Job) -> (Vec<u8>, Expected) {
-    let at = OPENING + REQUEST * random.below(job.requests.len() as u32) as usize;
+    let request = random.below(job.requests.len() as u32) as usize;
+    let at = job.shape().requests_at() + REQUEST * request;
     let number = random.between(refusal::REQUEST_HEAD, refusal::REQUEST_NODE);
     match number {
         refusal::REQUEST_HEAD => file[at + 2] = random.between(job.heads, 255) as u8,
@@ -437,7 +492,7 @@ pub fn wait_spoilt(
     if job.waits.is_empty() {
         return (file, Expected::Number(refusal::NONE));
     }
-    let first = OPENING + REQUEST * job.requests.len();
+    let first = job.shape().waits_at();
     let index = random.below(job.waits.len() as u32);
     let at = first + WAIT * index as usize;
     let requests = job.requests.len() as u32;
@@ -459,9 +514,107 @@ pub fn wait_spoilt(
     (file, Expected::Number(refusal::WAIT))
 }
 
+/// The ways in which rights are refused.
+#[derive(Clone, Copy, Debug, PartialEq, Eq)]
+pub enum RightFault {
+    OtherHead,
+    OtherKinds,
+    SightOfNoHead,
+    Missing,
+    Surplus,
+    BehindARequest,
+    CutShort,
+    KindNotAmong,
+}
+
+pub const RIGHT_FAULTS: [RightFault; 8] = [
+    RightFault::OtherHead,
+    RightFault::OtherKinds,
+    RightFault::SightOfNoHead,
+    RightFault::Missing,
+    RightFault::Surplus,
+    RightFault::BehindARequest,
+    RightFault::CutShort,
+    RightFault::KindNotAmong,
+];
+
+/// The rights are spoilt in this way, and in as few others as can be; where they cannot be, nothing
+/// is.
+pub fn right_spoilt(
+    random: &mut Random,
+    mut file: Vec<u8>,
+    job: &Job,
+    fault: RightFault,
+) -> (Vec<u8>, Expected) {
+    let in_vain = match fault {
+        RightFault::SightOfNoHead => job.heads == MAX_HEADS,
+        // Without its only record a file has none, as it may.
+        RightFault::Missing => job.heads == 1,
+        _ => false,
+    };
+    if job.rights.is_empty() || in_vain {
+        return (file, Expected::Number(refusal::NONE));
+    }
+    let at = OPENING + RIGHT * random.below(job.heads) as usize;
+    let number = match fault {
+        RightFault::OtherHead => {
+            file[at + 2] ^= random.between(1, 255) as u8;
+            refusal::RIGHTS
+        }
+        RightFault::OtherKinds => {
+            file[at + 3] = random.pick(&[0, 4, 5, 6, 7, 255]);
+            refusal::RIGHTS
+        }
+        RightFault::SightOfNoHead => {
+            let bit = random.between(job.heads, MAX_HEADS - 1) as usize;
+            file[at + 4 + bit / 8] |= 1 << (bit % 8);
+            refusal::RIGHTS
+        }
+        RightFault::KindNotAmong => {
+            let request = random.pick(&job.requests);
+            // The other kind's number.
+            file[OPENING + RIGHT * usize::from(request.head) + 3] = 3 - request.kind as u8;
+            refusal::REQUEST_RIGHTS
+        }
+        _ => return right_misplaced(random, file, job, fault),
+    };
+    (file, Expected::Number(number))
+}
+
+/// A record of rights is missing, cut short, or stands where none may.
+fn right_misplaced(
+    random: &mut Random,
+    mut file: Vec<u8>,
+    job: &Job,
+    fault: RightFault,
+) -> (Vec<u8>, Expected) {
+    let end = job.shape().requests_at();
+    match fault {
+        RightFault::Missing => {
+            // With another one missing the heads would not count up.
+            file.drain(end - RIGHT..end);
+        }
+        RightFault::CutShort => {
+            file.truncate(random.between(OPENING as u32 + 1, end as u32 + 1) as usize);
+            return (file, ends_early());
+        }
+        _ => {
+            let behind = if fault == RightFault::Surplus { end } else { end + REQUEST };
+            let mut record = file[end - RIGHT..end].to_vec();
+            record[2] = random.pick(&[record[2], job.heads as u8]);
+            file.splice(behind..behind, record);
+            if random.chance(30) {
+                // No more than its mark and a part are there.
+                file.truncate(behind + random.between(2, RIGHT as u32 - 1) as usize);
+            }
+        }
+    }
+    (file, Expected::Number(refusal::WRONG_MARK))
+}
+
 /// The place of some run's record, if there is any.
 fn some_run(random: &mut Random, file: &[u8], job: &Job) -> Option<usize> {
-    let first = OPENING + REQUEST * job.requests.len() + WAIT * job.waits.len();
+    let first = job.shape().runs_at();
     let runs = (file.len() - CLOSE - first) / RUN;
     (runs > 0).then(|| first + RUN * random.below(runs as u32) as usize)
 }
@@ -493,11 +646,11 @@ fn run_split(random: &mut Random, mut file: Vec<u8>, job: &Job) -> (Vec<u8>, Exp
 
 /// A 513th request, cut short, out of range or whole.
 fn too_many_requests(random: &mut Random, mut file: Vec<u8>, job: &Job) -> (Vec<u8>, Expected) {
-    let end = OPENING + REQUEST * job.requests.len();
+    let (start, end) = (job.shape().requests_at(), job.shape().waits_at());
     let more = MAX_REQUESTS - job.requests.len();
-    let first = file[OPENING..OPENING + REQUEST].to_vec();
+    let first = file[start..start + REQUEST].to_vec();
     file.splice(end..end, first.repeat(more + 1));
-    let last = OPENING + REQUEST * MAX_REQUESTS;
+    let last = start + REQUEST * MAX_REQUESTS;
     if random.chance(30) {
         file.truncate(last + random.below(REQUEST as u32) as usize);
         return (file, ends_early());

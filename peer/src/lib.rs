@@ -1,8 +1,8 @@
 //! A second player of job files, from documents 01 and 02; it shares no code with the core.
 //!
-//! `play`, `job`, `query`, `listing` and `page` are the player; `replay` and `demand` say what a run
-//! must leave; `gen` makes jobs, tables and damage; `player` is how any player, this one or another,
-//! is called; `proved`, under the feature `core`, is the proved core as such a player.
+//! `play`, `job`, `query`, `listing`, `page` and `sheet` are the player; `replay` and `demand` say
+//! what a run must leave; `gen` makes jobs, tables and damage; `player` is how any player, this one
+//! or another, is called; `proved`, under the feature `core`, is the proved core as such a player.
 
 #![forbid(unsafe_code)]
 
@@ -19,4 +19,5 @@ pub mod player;
 pub mod proved;
 pub mod query;
 pub mod replay;
+pub mod sheet;
 pub mod word;

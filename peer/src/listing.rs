@@ -2,17 +2,13 @@
 
 use std::fmt::Write;
 
-use crate::job::{MAX_NODES, MAX_REQUESTS};
 use crate::numbers::refusal;
-use crate::play::{play, Played};
+use crate::play::{Buffers, Played};
 use crate::word::{parent, rank};
 
 /// The listing of a file, refused or not.
 pub fn listing(file: &[u8]) -> String {
-    let mut table = [0; MAX_NODES as usize];
-    let mut report = [0; 4 * MAX_REQUESTS];
-    let mut lineup = [0; 2 * MAX_REQUESTS];
-    let played = play(file, &mut table, &mut report, &mut lineup);
+    let (played, Buffers { table, report, lineup }) = Buffers::played(file);
     text(&played, &table, &report, &lineup)
 }
 
@@ -27,25 +23,36 @@ pub fn text(played: &Played, table: &[u32], report: &[u32], lineup: &[u32]) -> S
         return refused(played.number);
     }
     let mut text = String::new();
-    let mut line = |name: &str, numbers: &[u32]| {
-        text.push_str(name);
-        for number in numbers {
-            write!(text, " {number}").expect("a string takes all that is written");
-        }
-        text.push('\n');
-    };
-    line("job", &[played.nodes, played.heads, played.requests, played.grants]);
+    add_line(&mut text, "job", &[played.nodes, played.heads, played.requests, played.grants]);
     for node in 0..played.nodes {
         let own = table[node as usize];
-        line("word", &[node, parent(own), rank(own)]);
+        add_line(&mut text, "word", &[node, parent(own), rank(own)]);
     }
     for (number, four) in (0..played.requests).zip(report.chunks_exact(4)) {
-        line("request", &[number, four[0], four[1], four[2], four[3]]);
+        add_request(&mut text, number, four);
     }
     for entry in lineup.chunks_exact(2).take(played.entries as usize) {
-        line("line", entry);
+        add_entry(&mut text, entry[0], entry[1]);
     }
     let tally = &played.tally;
-    line("tally", &[tally.idle, tally.failed, tally.links, tally.working]);
+    add_line(&mut text, "tally", &[tally.idle, tally.failed, tally.links, tally.working]);
     text
+}
+
+/// Adds the line of a request with its four report numbers.
+pub fn add_request(text: &mut String, number: u32, four: &[u32]) {
+    add_line(text, "request", &[number, four[0], four[1], four[2], four[3]]);
+}
+
+/// Adds the line of an entry of the line-up.
+pub fn add_entry(text: &mut String, point: u32, request: u32) {
+    add_line(text, "line", &[point, request]);
+}
+
+fn add_line(text: &mut String, name: &str, numbers: &[u32]) {
+    text.push_str(name);
+    for number in numbers {
+        write!(text, " {number}").expect("a string takes all that is written");
+    }
+    text.push('\n');
 }

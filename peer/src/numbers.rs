@@ -21,6 +21,7 @@ pub mod refusal {
     pub const REQUEST_KIND: u32 = 7;
     pub const REQUEST_NODE: u32 = 8;
     pub const TOO_MANY_REQUESTS: u32 = 9;
+    /// Of a grant's head, and of a sheet's.
     pub const GRANT: u32 = 10;
     pub const SPLIT_RUN: u32 = 11;
     pub const AFTER_CLOSE: u32 = 12;
@@ -30,4 +31,6 @@ pub mod refusal {
     pub const QUERY_WORD: u32 = 16;
     pub const PAGE_TOO_SHORT: u32 = 17;
     pub const WAIT: u32 = 18;
+    pub const RIGHTS: u32 = 19;
+    pub const REQUEST_RIGHTS: u32 = 20;
 }

@@ -1,9 +1,9 @@
 //! The group page: a row for each group of a lent table, and the rows as lines of text.
 
-use crate::job::{MAX_NODES, MAX_REQUESTS};
+use crate::job::MAX_NODES;
 use crate::listing;
 use crate::numbers::refusal;
-use crate::play::play;
+use crate::play::Buffers;
 use crate::query;
 use crate::word::{parent, rank};
 
@@ -61,10 +61,7 @@ pub fn page(table: &[u32], rows: &mut [Row], page: &mut [u8]) -> Paged {
 
 /// The page of the groups that a job leaves, or the line of its refusal.
 pub fn of_job(file: &[u8]) -> String {
-    let mut table = [0; MAX_NODES as usize];
-    let mut report = [0; 4 * MAX_REQUESTS];
-    let mut lineup = [0; 2 * MAX_REQUESTS];
-    let played = play(file, &mut table, &mut report, &mut lineup);
+    let (played, Buffers { table, .. }) = Buffers::played(file);
     if played.number != refusal::NONE {
         return listing::refused(played.number);
     }

@@ -47,12 +47,32 @@ pub fn play_watched(
     played.unwrap_or_else(Played::refused)
 }
 
+/// Buffers of a call's own, long enough for every job.
+pub struct Buffers {
+    pub table: [u32; job::MAX_NODES as usize],
+    pub report: [u32; 4 * job::MAX_REQUESTS],
+    pub lineup: [u32; 2 * job::MAX_REQUESTS],
+}
+
+impl Buffers {
+    const ZEROS: Buffers = Buffers {
+        table: [0; job::MAX_NODES as usize],
+        report: [0; 4 * job::MAX_REQUESTS],
+        lineup: [0; 2 * job::MAX_REQUESTS],
+    };
+
+    /// Plays a file on them.
+    pub fn played(file: &[u8]) -> (Played, Buffers) {
+        let mut buffers = Buffers::ZEROS;
+        let Buffers { table, report, lineup } = &mut buffers;
+        (play(file, table, report, lineup), buffers)
+    }
+}
+
 /// After the grants of a file, or its refusal: of each head, the lowest unfinished request that its
 /// next one waits for.
 pub fn waits_after(file: &[u8]) -> Result<Vec<Option<usize>>, u32> {
-    let mut table = [0; job::MAX_NODES as usize];
-    let mut report = [0; 4 * job::MAX_REQUESTS];
-    let mut lineup = [0; 2 * job::MAX_REQUESTS];
+    let Buffers { mut table, mut report, mut lineup } = Buffers::ZEROS;
     let told = |run: &Run<_>| {
         let heads = &run.heads[..run.shape.heads as usize];
         heads.iter().map(|head| head.waits.map(usize::from)).collect()
@@ -131,7 +151,8 @@ impl<'a, W: FnMut(Access)> Run<'a, W> {
     /// Lets a head rest before its first request not below `from`, if it has one.
     fn rest(&mut self, head: u8, from: usize) {
         let mut later = from..self.shape.requests;
-        let next = later.find(|&number| job::request_at(self.file, number).head == head);
+        let next =
+            later.find(|&number| job::request_at(self.file, &self.shape, number).head == head);
         if let Some(number) = next {
             self.heads[usize::from(head)].rest(number);
             self.work |= 1 << head;
@@ -175,7 +196,7 @@ impl<'a, W: FnMut(Access)> Run<'a, W> {
         let number = state.request;
         let numbers = &mut self.report[4 * number..][..4];
         if state.is_resting() {
-            state.begin(&job::request_at(self.file, number));
+            state.begin(&job::request_at(self.file, &self.shape, number));
             numbers[1] = self.memory.now;
         }
         numbers[3] += 1;

@@ -1,22 +1,25 @@
 //! The calls of a player, this crate's or another's, and everything that one call leaves behind.
 
 use crate::head::Access;
-use crate::job::{self, Job, Written, MAX_NODES, MAX_REQUESTS};
+use crate::job::{self, Draft, Job, Written, MAX_NODES, MAX_REQUESTS};
 use crate::listing;
 use crate::page::{self, Paged, Row};
 use crate::play::{self, Played};
 use crate::query::{self, Queried};
+use crate::sheet::{self, Listed};
 
 /// File, table, report, line-up.
 pub type Play = fn(&[u8], &mut [u32], &mut [u32], &mut [u32]) -> Played;
-/// Nodes, heads, requests, pairs, grants, buffer.
-pub type Write = fn(u32, u32, &[u32], &[u32], &[u8], &mut [u8]) -> Written;
+/// Nodes, heads, rights, requests, pairs, grants, buffer.
+pub type Write = fn(u32, u32, &[u32], &[u32], &[u32], &[u8], &mut [u8]) -> Written;
 /// Table, x, y, budget.
 pub type Query = fn(&mut [u32], u32, u32, u16) -> Queried;
 /// A file; gives the program's text for it.
 pub type List = fn(&[u8]) -> String;
 /// Table, rows, page.
 pub type Page = fn(&[u32], &mut [Row], &mut [u8]) -> Paged;
+/// A file, head, buffer.
+pub type Sheet = fn(&[u8], u32, &mut [u8]) -> Listed;
 
 /// A player as its calls. One that lives elsewhere, behind C functions say, is held against this
 /// crate's by giving its calls these types.
@@ -28,6 +31,15 @@ pub struct Player {
     pub query: Query,
     pub list: List,
     pub page: Page,
+    pub sheet: Sheet,
+}
+
+impl Player {
+    /// Writes the file of a draft.
+    pub fn write_draft(&self, draft: &Draft, buffer: &mut [u8]) -> Written {
+        let Draft { nodes, heads, rights, requests, waits, grants } = draft;
+        (self.write)(*nodes, *heads, rights, requests, waits, grants, buffer)
+    }
 }
 
 pub const PEER: Player = Player {
@@ -37,6 +49,7 @@ pub const PEER: Player = Player {
     query: query::query,
     list: listing::listing,
     page: page::page,
+    sheet: sheet::sheet,
 };
 
 /// How many numbers are lent for the table, the report and the line-up.

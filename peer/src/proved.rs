@@ -7,11 +7,11 @@ use crate::page::{Paged, Row};
 use crate::play::{Played, Tally};
 use crate::player::{Outcome, Player, AMPLE};
 use crate::query::Queried;
+use crate::sheet::Listed;
 
-pub const CORE: Player = Player { name: "core", play, write, query, list, page };
+pub const CORE: Player = Player { name: "core", play, write, query, list, page, sheet };
 /// The core with a tally lent to it.
-pub const LENT: Player =
-    Player { name: "core, tally lent", play: play_lent, write, query, list, page };
+pub const LENT: Player = Player { name: "core, tally lent", play: play_lent, ..CORE };
 
 /// What stands in a lent tally before the call.
 const BEFORE: core::Tally = core::Tally {
@@ -37,12 +37,13 @@ fn play_lent(file: &[u8], table: &mut [u32], report: &mut [u32], lineup: &mut [u
 fn write(
     nodes: u32,
     heads: u32,
+    rights: &[u32],
     requests: &[u32],
     waits: &[u32],
     grants: &[u8],
     buffer: &mut [u8],
 ) -> Written {
-    let written = core::write(nodes, heads, requests, waits, grants, buffer);
+    let written = core::write(nodes, heads, rights, requests, waits, grants, buffer);
     Written { number: written.number, bytes: written.bytes }
 }
 
@@ -58,6 +59,11 @@ fn page(table: &[u32], rows: &mut [Row], page: &mut [u8]) -> Paged {
     let core::Paged { number, rows: written, bytes } = core::page(table, &mut lent, page);
     rows.copy_from_slice(&lent.into_iter().map(told).collect::<Vec<Row>>());
     Paged { number, rows: written, bytes }
+}
+
+fn sheet(file: &[u8], head: u32, out: &mut [u8]) -> Listed {
+    let core::Listed { number, bytes } = core::sheet(file, head, out);
+    Listed { number, bytes }
 }
 
 fn told(played: core::Played) -> Played {

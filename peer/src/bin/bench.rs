@@ -10,6 +10,7 @@ use peer::listing;
 use peer::page::{self, MAX_PAGE, MAX_ROWS};
 use peer::player::{Outcome, Player, AMPLE, PEER};
 use peer::proved::{list_into, CORE, LENT};
+use peer::sheet::MAX_SHEET;
 
 const ROUNDS: usize = 200;
 /// A round repeats its call for at least this long.
@@ -114,11 +115,10 @@ fn read(files: &[Vec<u8>]) -> Times {
 }
 
 fn write(job: &Job) -> Times {
-    let (requests, waits) = (job.flat_requests(), job.flat_waits());
+    let draft = job.draft();
     let mut buffer = vec![0; peer::job::MAX_BYTES];
     Times::of(|player| {
-        let (nodes, heads) = black_box((job.nodes, job.heads));
-        black_box((player.write)(nodes, heads, &requests, &waits, &job.grants, &mut buffer));
+        black_box(player.write_draft(black_box(&draft), &mut buffer));
     })
 }
 
@@ -176,7 +176,7 @@ fn chain_in_step(seed: u64) -> Job {
         requests.extend(unions(17 * chain));
         grants.extend(busy(Job::new(17, 16, &alone, &runs)).grants);
     }
-    Job { nodes: 17 * CHAINS, heads: 16, requests, waits: Vec::new(), grants }
+    Job { grants, ..Job::new(17 * CHAINS, 16, &requests, &[]) }
 }
 
 /// One head joins 256 nodes to a tree eight levels deep, then finds its way up, from the deepest
@@ -322,6 +322,45 @@ fn pages() {
     }
 }
 
+/// What is lent for a sheet, or for a play and its listing.
+struct Desk {
+    outcome: Outcome,
+    text: Vec<u8>,
+}
+
+/// Prints of a file, by the core.
+type Print = fn(&[u8], &mut Desk);
+
+fn sheets() {
+    println!("\na sheet of 512 requests, and beside the core's play and listing of the same job");
+    println!("{:<40}   core us   peer us  ratio       sheet play+list  ratio", "");
+    let job = busy_job(16, 0, 4096, 512, 50, false);
+    let by_sheet: Print = |file, desk| _ = black_box((CORE.sheet)(file, 0, &mut desk.text));
+    let by_listing: Print = |file, desk| {
+        let Outcome { played, table, report, lineup } = &mut desk.outcome;
+        *played = (CORE.play)(file, table, report, lineup);
+        _ = black_box(list_into(&desk.outcome, &mut desk.text));
+    };
+    let mut desk = Desk { outcome: Outcome::untouched(0, AMPLE), text: vec![0; MOST_LISTING] };
+    for (name, sight) in
+        [("every head seen", 0xFFFF), ("every second head seen", 0x5555), ("no head seen", 0)]
+    {
+        let file = file(&job.clone().entitled(&[(3, sight); 16]));
+        let [of_core, of_peer] = [CORE, PEER].map(|player| {
+            let mut out = vec![0; MAX_SHEET];
+            ((player.sheet)(&file, 0, &mut out), out)
+        });
+        assert_eq!(of_core, of_peer);
+        let times = Times::of(|player| {
+            black_box((player.sheet)(black_box(&file), 0, &mut desk.text));
+        });
+        let beside = Times::between(&by_sheet, &by_listing, |print| {
+            print(black_box(&file), &mut desk);
+        });
+        println!("{name:<40} {}   {}", times.columns(1_000.0), beside.columns(1_000.0));
+    }
+}
+
 fn growth() {
     println!("\ngrowth, 16 heads, one by one, 50 % unions, no idle grants");
     println!("{:<40}   core us   peer us  ratio   core ns a grant", "");
@@ -372,6 +411,7 @@ fn main() {
     bytes();
     enquiry();
     pages();
+    sheets();
     growth();
     waits();
 }

@@ -2,7 +2,7 @@
 //! 02's long dock, put to every player.
 
 use peer::gen;
-use peer::job;
+use peer::job::{self, Draft};
 use peer::player::{Outcome, AMPLE};
 
 use crate::PLAYERS;
@@ -42,7 +42,7 @@ grant to head 31 of 31    | 2 31         |          | 1F | 10
 ";
 
 /// The rows of a table, by their fields; `crates/edges` says what stands in them. A job's pairs stand
-/// behind its requests, after a stroke.
+/// behind its requests, after a stroke, and its rights behind the pairs, after another.
 fn rows_of(table: &'static str) -> impl Iterator<Item = Vec<&'static str>> {
     table
         .lines()
@@ -75,7 +75,7 @@ fn record([later, earlier]: [u16; 2]) -> [u8; 6] {
 }
 
 /// The bytes that a field's words stand for.
-fn bytes(field: &str) -> Vec<u8> {
+pub fn bytes(field: &str) -> Vec<u8> {
     let mut file = Vec::new();
     for (word, copies) in words(field) {
         file.extend(match word {
@@ -134,14 +134,16 @@ fn files() {
 #[test]
 fn jobs() {
     for row in rows().filter(|row| row.len() > 3) {
-        let (requests, waits) = row[2].split_once('/').unwrap_or((row[2], ""));
-        let (requests, waits) = (numbers(requests), numbers(waits));
-        let (sizes, grants) = (numbers(row[1]), bytes(row[3]));
+        let mut lists = row[2].split('/').map(numbers);
+        let mut list = || lists.next().unwrap_or_default();
+        let (requests, waits, rights, sizes) = (list(), list(), list(), numbers(row[1]));
+        let (nodes, heads, grants) = (sizes[0], sizes[1], bytes(row[3]));
+        let draft = Draft { nodes, heads, rights, requests, waits, grants };
         let told = numbers(row[4]);
         let file = row.get(6).map_or(Vec::new(), |field| bytes(field));
         for player in PLAYERS {
             let mut out = vec![0xEE; sizes.get(2).map_or(32_774, |&room| room as usize)];
-            let written = (player.write)(sizes[0], sizes[1], &requests, &waits, &grants, &mut out);
+            let written = player.write_draft(&draft, &mut out);
             assert_eq!([written.number, written.bytes], [told[0], file.len() as u32], "{}", row[0]);
             assert!(out.starts_with(&file), "{}: {}", player.name, row[0]);
             assert!(out[file.len()..].iter().all(|&byte| byte == 0xEE), "{}", row[0]);

@@ -31,7 +31,8 @@ fn job(number: u64) -> Job {
     let most_pairs = if random.chance(50) { 0 } else { random.between(1, 30) };
     let waits = pairs(&mut random, count, most_pairs);
     let length = random.between(0, 60 * count);
-    Job { nodes, heads, requests, waits, grants: grants(&mut random, heads, length as usize) }
+    let grants = grants(&mut random, heads, length as usize);
+    Job { nodes, heads, rights: Vec::new(), requests, waits, grants }
 }
 
 fn request(random: &mut Random, nodes: u32, heads: u32) -> Request {

@@ -24,7 +24,7 @@ fn text_of(outcome: &Outcome) -> Vec<u8> {
 fn fills_what_it_needs() {
     for seed in 0..2_000 {
         let mut random = Random::new(seed);
-        let job = gen::contended_or_waiting(&mut random);
+        let job = gen::varied(&mut random);
         let file = if seed % 2 == 0 {
             job.file().expect("accepted")
         } else {
@@ -47,7 +47,7 @@ fn fills_what_it_needs() {
 #[test]
 fn asks_for_the_numbers_it_prints() {
     for seed in 0..2_000 {
-        let job = gen::contended_or_waiting(&mut Random::new(seed));
+        let job = gen::varied(&mut Random::new(seed));
         let exact = Outcome::of(CORE.play, &job.file().expect("accepted"), Lengths::exact(&job));
         let text = text_of(&exact);
         let whole = (refusal::NONE, text.len(), text.clone());

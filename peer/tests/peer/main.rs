@@ -16,6 +16,7 @@ mod plain;
 mod program;
 mod promises;
 mod random;
+mod sheet;
 #[cfg(all(feature = "core", target_arch = "x86_64"))]
 mod stack;
 mod waits;

@@ -82,7 +82,7 @@ fn number(input: &[u8]) -> u32 {
 #[test]
 fn jobs() {
     for seed in 0..200 {
-        let job = gen::contended_or_waiting(&mut Random::new(seed));
+        let job = gen::varied(&mut Random::new(seed));
         assert_eq!(number(&job.file().expect("accepted")), refusal::NONE, "seed {seed}");
     }
     for job in (0..20).map(|seed| gen::larger(&mut Random::new(seed))).chain(gen::built()) {
@@ -95,10 +95,10 @@ fn jobs() {
 
 #[test]
 fn damaged_files_reach_every_number() {
-    let mut reached = [0; 19];
+    let mut reached = [0; 21];
     for seed in 0..600 {
         let mut random = Random::new(seed);
-        let job = gen::contended_or_waiting(&mut random);
+        let job = gen::varied(&mut random);
         reached[number(&gen::damaged(&mut random, &job).0) as usize] += 1;
     }
     assert!(of_files().all(|number| reached[number as usize] >= 2), "{reached:?}");

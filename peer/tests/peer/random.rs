@@ -27,13 +27,13 @@ fn by_plain(file: &[u8], lengths: Lengths) -> Outcome {
 /// What a job must show, whatever it is.
 fn check(job: &Job, more: usize) -> demand::Verdict {
     let file = job.file().expect("a generated job is accepted");
-    assert_eq!(job::read(&file).as_ref(), Ok(job));
+    assert_eq!((job::read(&file).as_ref(), job::check(&file)), (Ok(job), Ok(job.shape())));
     let lengths = Lengths::exact(job).and(more);
     let (outcome, trace) = Outcome::traced(&file, lengths);
     for player in PLAYERS {
         let played = Outcome::of(player.play, &file, lengths);
         assert_eq!(played, outcome, "{}", player.name);
-        let again = written(&player, job, &job.flat_requests(), file.len() + more);
+        let again = written(&player, &job.draft(), file.len() + more);
         assert_eq!(again.as_ref(), Ok(&file), "{}", player.name);
     }
     assert_eq!(outcome, by_plain(&file, lengths));
@@ -54,6 +54,22 @@ fn waiting_jobs() {
         let job = gen::waiting(&mut Random::new(seed));
         assert!(job.waits.len() <= 30);
         assert_eq!(check(&job, (seed % 3) as usize), Ok(()), "seed {seed}");
+    }
+}
+
+/// A job with rights leaves what it leaves without them.
+#[test]
+fn jobs_with_rights() {
+    for seed in 0..JOBS / 2 {
+        let job = gen::entitled(&mut Random::new(seed));
+        assert_eq!(job.rights.len(), job.heads as usize);
+        assert_eq!(check(&job, (seed % 3) as usize), Ok(()), "seed {seed}");
+        let file = |job: &Job| job.file().expect("accepted");
+        let (with, without) = (file(&job), file(&Job { rights: Vec::new(), ..job }));
+        for player in PLAYERS {
+            let left = |file| Outcome::of(player.play, file, AMPLE);
+            assert_eq!(left(&with), left(&without), "{}: seed {seed}", player.name);
+        }
     }
 }
 
@@ -209,7 +225,7 @@ fn jobs_contend() {
 #[test]
 fn a_listing_shows_the_outcome() {
     for seed in 0..JOBS {
-        let job = gen::contended_or_waiting(&mut Random::new(seed));
+        let job = gen::varied(&mut Random::new(seed));
         let file = job.file().expect("accepted");
         let Outcome { played, table, report, lineup } = by_plain(&file, AMPLE);
         let text = listing::text(&played, &table, &report, &lineup);

@@ -7,7 +7,7 @@ use std::thread;
 
 use grouping_core::{self as core, stack, Played, Row, Tally};
 use peer::gen::{self, Random};
-use peer::job::{Job, Request, MAX_HEADS};
+use peer::job::{Draft, Job, Request, MAX_HEADS};
 use peer::player::{Outcome, AMPLE};
 
 /// A thread of this size makes the longest enquiry.
@@ -64,13 +64,14 @@ fn measured(name: &str, bar: usize, needs: impl Iterator<Item = usize>) {
     assert!(most <= bar, "{name} needs {most} bytes of stack, more than {bar}");
 }
 
-/// Jobs up to every limit, contended ones, some with pairs, and damaged files.
+/// Jobs up to every limit, contended ones, some with pairs or rights, and damaged files.
 fn files() -> Vec<Vec<u8>> {
     let mut files: Vec<Vec<u8>> = gen::built().iter().map(file).collect();
     for seed in 0..100 {
         let mut random = Random::new(seed);
         files.push(file(&gen::larger(&mut random)));
-        for job in [gen::contended(&mut random), gen::waiting(&mut random)] {
+        let (contended, waiting) = (gen::contended(&mut random), gen::waiting(&mut random));
+        for job in [contended, waiting, gen::entitled(&mut random)] {
             files.push(file(&job));
             files.push(gen::damaged(&mut random, &job).0);
         }
@@ -119,13 +120,29 @@ fn write() {
     jobs.push(Job::new(1, 2, &[], &[(0, 2_088_195), (1, 1)]));
     jobs.extend((0..200).map(|seed| gen::larger(&mut Random::new(seed))));
     jobs.extend((0..200).map(|seed| gen::waiting(&mut Random::new(seed))));
+    jobs.extend((0..200).map(|seed| gen::entitled(&mut Random::new(seed))));
     jobs.extend([gen::most_pairs(), gen::longest_wait()]);
     let used = |job: Job| {
-        let (requests, waits) = (job.flat_requests(), job.flat_waits());
-        let Job { nodes, heads, grants, .. } = job;
-        painted.used(|| _ = core::write(nodes, heads, &requests, &waits, &grants, &mut out))
+        let Draft { nodes, heads, rights, requests, waits, grants } = job.draft();
+        painted.used(|| {
+            _ = core::write(nodes, heads, &rights, &requests, &waits, &grants, &mut out);
+        })
     };
     measured("write", stack::WRITE, jobs.into_iter().map(used));
+}
+
+/// The first and the last head's sheet of each file, one for no head, and one that has no room.
+#[test]
+fn sheet() {
+    let mut painted = Painted::new();
+    let mut out = vec![0; core::MOST_SHEET];
+    let used = |file: Vec<u8>| {
+        let heads = [0, MAX_HEADS - 1, MAX_HEADS];
+        let short = painted.used(|| _ = core::sheet(&file, 0, &mut []));
+        let most = heads.map(|head| painted.used(|| _ = core::sheet(&file, head, &mut out)));
+        most.into_iter().fold(short, usize::max)
+    };
+    measured("sheet", stack::SHEET, files().into_iter().map(used));
 }
 
 /// The largest listing, of the longest numbers that a caller can hand over, whole and refused.

@@ -1,4 +1,5 @@
-//! The second player's own program: the listing of a job, its group page, and how it is used.
+//! The second player's own program: the listing of a job, its group page, its heads' sheets, and how
+//! it is used.
 
 use std::io::Write;
 use std::process::{Command, Output, Stdio};
@@ -7,6 +8,7 @@ use peer::gen::{self, Random};
 use peer::listing::listing;
 use peer::page::{self, Row, MAX_PAGE, MAX_ROWS};
 use peer::player::{Outcome, AMPLE, PEER};
+use peer::sheet::MAX_SHEET;
 
 /// What the program does with these words and this input: its status, output and errors.
 fn run(words: &[&str], input: &[u8]) -> (Option<i32>, String, String) {
@@ -56,6 +58,27 @@ fn page() {
 }
 
 #[test]
+fn sheet() {
+    let text = "request 0 0 3 0 6\nrequest 1 4 1 9 3\nline 2 1\nline 7 0\n";
+    for head in ["0", "1", "01"] {
+        assert_eq!(printed(&["sheet", head], JOB), text);
+    }
+    for head in ["2", "4294967295"] {
+        assert_eq!(printed(&["sheet", head], JOB), "refused 10\n");
+    }
+    assert_eq!(printed(&["sheet", "2"], b""), "refused 2\n");
+    for seed in 0..20 {
+        let mut random = Random::new(seed);
+        let job = gen::entitled(&mut random);
+        let (file, head) = (job.file().expect("accepted"), random.below(job.heads));
+        let mut out = vec![0; MAX_SHEET];
+        let listed = (PEER.sheet)(&file, head, &mut out);
+        out.truncate(listed.bytes);
+        assert_eq!(printed(&["sheet", &head.to_string()], &file).into_bytes(), out, "seed {seed}");
+    }
+}
+
+#[test]
 fn no_word() {
     assert_eq!(printed(&[], JOB), listing(JOB));
     assert_eq!(printed(&[], b""), "refused 2\n");
@@ -63,9 +86,13 @@ fn no_word() {
 
 #[test]
 fn other_words() {
-    for words in [&["pages"][..], &["page", "page"], &["--help"], &[""]] {
+    let heads = ["", "-1", "+1", " 1", "one", "0x1", "4294967296"];
+    let mut wrong = vec![vec!["pages"], vec!["page", "page"], vec!["--help"], vec![""]];
+    wrong.extend([vec!["sheet"], vec!["sheet", "0", "0"], vec!["0"]]);
+    wrong.extend(heads.map(|head| vec!["sheet", head]));
+    for words in &wrong {
         let (status, text, usage) = run(words, JOB);
         assert_eq!((status, text), (Some(2), String::new()), "{words:?}");
-        assert!(usage.starts_with("usage: peer [page]"), "{usage}");
+        assert!(usage.starts_with("usage: peer [page | sheet HEAD]"), "{usage}");
     }
 }
