@@ -229,7 +229,7 @@ impl Refusal {
                 "of a pair of requests one doesn't exist, the earlier number isn't below the later, or the pairs don't rise strictly"
             }
             Refusal::Rights => {
-                "the rights are not one a head, or none; their heads don't count up from 0, they aren't 1 to 3, or they give sight of a head that doesn't exist"
+                "rights are neither one a head nor none, don't count up from head 0, aren't 1 to 3, or show a head that doesn't exist"
             }
             Refusal::RequestRights => "a request's kind is not among its head's rights",
         }

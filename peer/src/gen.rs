@@ -556,29 +556,22 @@ pub fn right_spoilt(
         return (file, Expected::Number(refusal::NONE));
     }
     let at = OPENING + RIGHT * random.below(job.heads) as usize;
-    let number = match fault {
-        RightFault::OtherHead => {
-            file[at + 2] ^= random.between(1, 255) as u8;
-            refusal::RIGHTS
-        }
-        RightFault::OtherKinds => {
-            file[at + 3] = random.pick(&[0, 4, 5, 6, 7, 255]);
-            refusal::RIGHTS
-        }
+    match fault {
+        RightFault::OtherHead => file[at + 2] ^= random.between(1, 255) as u8,
+        RightFault::OtherKinds => file[at + 3] = random.pick(&[0, 4, 5, 6, 7, 255]),
         RightFault::SightOfNoHead => {
             let bit = random.between(job.heads, MAX_HEADS - 1) as usize;
             file[at + 4 + bit / 8] |= 1 << (bit % 8);
-            refusal::RIGHTS
         }
         RightFault::KindNotAmong => {
             let request = random.pick(&job.requests);
             // The other kind's number.
             file[OPENING + RIGHT * usize::from(request.head) + 3] = 3 - request.kind as u8;
-            refusal::REQUEST_RIGHTS
+            return (file, Expected::Number(refusal::REQUEST_RIGHTS));
         }
         _ => return right_misplaced(random, file, job, fault),
-    };
-    (file, Expected::Number(number))
+    }
+    (file, Expected::Number(refusal::RIGHTS))
 }
 
 /// A record of rights is missing, cut short, or stands where none may.
