@@ -4,6 +4,8 @@
 //   4B         a byte; 00*32768 is that many
 //   J          a job's record, two places and two heads
 //   Q*512      that many requests, each a union of 0 and 1 for head 0; in a list of numbers the same four numbers each
+//   V*32       the records of that many rights (02, A5), head 0's first, each of both kinds and sight of the head itself; in a
+//              list of numbers three numbers each
 //   W*2        that many records of the pair 1 0 (02, A3): request 1 waits for request 0
 //   P*4777     the records of that many pairs that rise, 1 0, 2 0, 2 1, 3 0 and so on; in a list of numbers two numbers each
 //   R*8189     that many runs of 255 for head 0
@@ -131,6 +133,40 @@ fn put_copies(
     at
 }
 
+// The bit of a head in a mask.
+fn bit_of(head: u32) -> u32 {
+    if 32 <= head {
+        return 0;
+    }
+    1u32 << head
+}
+
+// Stores the right of a head that may ask for both kinds and sees itself alone, and gives the positions behind it.
+fn put_right(file: &mut [u8], list: &mut [u32], at: Ends, head: u32) -> Ends {
+    let sight = bit_of(head);
+    let bytes = put_bytes(file, at.bytes, b"\x52\x54");
+    let bytes = put_byte(file, bytes, (head % 256) as u8);
+    let bytes = put_byte(file, bytes, 3);
+    let bytes = put_sixteen(file, bytes, (sight % 65536) as u16);
+    let numbers = put_number(list, at.numbers, head);
+    let numbers = put_number(list, numbers, 3);
+    Ends {
+        bytes: put_sixteen(file, bytes, (sight / 65536) as u16),
+        numbers: put_number(list, numbers, sight),
+    }
+}
+
+// Stores the rights of that many heads, and gives the positions behind them.
+fn put_rights(file: &mut [u8], list: &mut [u32], start: Ends, count: u32) -> Ends {
+    let mut at = start;
+    let mut head = 0;
+    while head < count {
+        at = put_right(file, list, at, head);
+        head += 1;
+    }
+    at
+}
+
 // A pair (02, A3): the later request waits for the earlier one.
 struct Pair {
     later: u16,
@@ -197,6 +233,7 @@ fn put_word(file: &mut [u8], list: &mut [u32], at: Ends, word: &[u8]) -> Ends {
             Meant::Request,
             count,
         ),
+        b'V' => put_rights(file, list, at, count),
         b'W' => put_copies(file, list, at, b"\x41\x46\x01\x00\x00\x00", number, count),
         b'P' => put_pairs(file, list, at, count),
         b'R' => put_copies(file, list, at, b"\x47\x52\x00\xFF", number, count),

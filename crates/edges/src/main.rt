@@ -1,6 +1,6 @@
 // Plays the edges of the job file: files for the reader, and jobs for the writer, whose files are compared byte by byte and
 // read again. The tables state what each case expects, worked out from document 01, "Job file", "Turned down" and "Played
-// cases", and from document 02, A3 and A4; `play` says what stands in a row and `build` what its words stand for. A line of the
+// cases", and from document 02, A3 to A5; `play` says what stands in a row and `build` what its words stand for. A line of the
 // output ends with `ok` where the numbers answered and the bytes left are the row's, and the last line counts the cases.
 mod build;
 mod play;
@@ -351,6 +351,110 @@ fn file_pair_lengths(score: Score) -> Score {
     )
 }
 
+// Rights behind the first record (02, A5), one a head, read in the order of the heads; requests, pairs and runs stand behind them.
+fn file_right_samples(score: Score) -> Score {
+    score.files(
+        b"
+join alone, enquire alone | 44 4B 04 00 02 00 52 54 00 01 01 00 00 00 52 54 01 02 03 00 00 00 52 51 00 01 02 00 03 00 52 51 01 02 00 00 01 00 47 52 01 02 47 52 00 0D 47 52 01 01 43 4C 48 10                   | 0 4 2 2 16 3 0 2
+no sight, sight of itself | 44 4B 04 00 02 00 52 54 00 03 00 00 00 00 52 54 01 03 02 00 00 00 52 51 00 01 02 00 03 00 52 51 01 02 00 00 01 00 47 52 01 02 47 52 00 0D 47 52 01 01 43 4C 4A 0D                   | 0 4 2 2 16 3 0 2
+with a pair               | 44 4B 04 00 02 00 52 54 00 03 03 00 00 00 52 54 01 03 02 00 00 00 52 51 00 01 00 00 01 00 52 51 01 02 00 00 01 00 41 46 01 00 00 00 47 52 01 03 47 52 00 0D 47 52 01 06 43 4C 09 C1 | 0 4 2 2 22 3 1 2
+one head                  | 44 4B 02 00 01 00 52 54 00 03 01 00 00 00 =                                                                                                                                         | 0 2 1 0 0 0 0 1
+two heads, nothing else   | J V*2 =                                                                                                                                                                             | 0 2 2 0 0 0 0 2
+32 heads, nothing else    | 44 4B 02 00 20 00 V*32 =                                                                                                                                                            | 0 2 32 0 0 0 0 32
+32 heads, head 31 alone   | 44 4B 02 00 20 00 V*32 52 51 1F 01 00 00 01 00 47 52 1F 0D =                                                                                                                        | 0 2 32 1 13 1 0 32
+",
+    )
+}
+
+// Once begun there is one a head: two bytes for the mark (2), the mark (3), the whole record (2); one more is no mark that may stand
+// there (3), whole or not.
+fn file_right_places(score: Score) -> Score {
+    score.files(
+        b"
+one of two, then a request | J V Q =                         | 3
+one of two, then a pair    | J V W =                         | 3
+one of two, then a run     | J V 47 52 00 01 =               | 3
+one of two, then the close | J V 43 4C 00 00                 | 3
+one of two, then no mark   | J V 00 00                       | 3
+one of two, then nothing   | J V                             | 2
+one of two, then one byte  | J V 52                          | 2
+one of two, then its mark  | J V 52 54                       | 2
+31 of 32, then the close   | 44 4B 02 00 20 00 V*31 =        | 3
+three of two               | J V*3 =                         | 3
+three of two, the last cut | J V*2 52 54                     | 3
+three of two, the last bad | J V*2 52 54 02 04 FF 00 00 00 = | 3
+33 of 32                   | 44 4B 02 00 20 00 V*33 =        | 3
+two of one                 | 44 4B 02 00 01 00 V*2 =         | 3
+behind a request           | J Q V*2 =                       | 3
+behind a pair              | J Q*2 W V*2 =                   | 3
+behind a run               | J 47 52 00 01 V*2 =             | 3
+again behind a request     | J V*2 Q V*2 =                   | 3
+mark of a right alone      | J 52 54                         | 2
+first cut to seven bytes   | J 52 54 00 03 03 00 00          | 2
+first cut, all bad         | J 52 54 01 04 FF 00 00          | 2
+second cut to seven bytes  | J V 52 54 01 03 03 00 00        | 2
+",
+    )
+}
+
+// The heads count up from 0, rights are 1 to 3, a mask has no bit for no head (19), record by record.
+fn file_right_fields(score: Score) -> Score {
+    score.files(
+        b"
+first of head 1      | J 52 54 01 03 03 00 00 00                 | 19
+head 0 twice         | J V 52 54 00 03 03 00 00 00               | 19
+second of head 2     | J V 52 54 02 03 03 00 00 00               | 19
+rights 0             | J 52 54 00 00 03 00 00 00                 | 19
+rights 4             | J 52 54 00 04 03 00 00 00                 | 19
+rights 255           | J 52 54 00 FF 03 00 00 00                 | 19
+bit 2 of two heads   | J 52 54 00 03 04 00 00 00                 | 19
+bits 0 to 2          | J 52 54 00 03 07 00 00 00                 | 19
+bit 8                | J 52 54 00 03 00 01 00 00                 | 19
+bit 16               | J 52 54 00 03 00 00 01 00                 | 19
+bit 31               | J 52 54 00 03 00 00 00 80                 | 19
+bit 31 of 31 heads   | 44 4B 02 00 1F 00 52 54 00 03 00 00 00 80 | 19
+bit 1 of one head    | 44 4B 02 00 01 00 52 54 00 03 02 00 00 00 | 19
+second right bad     | J V 52 54 01 00 03 00 00 00               | 19
+19, then no mark     | J 52 54 01 03 03 00 00 00 00 00           | 19
+19, then a request   | J 52 54 00 04 03 00 00 00 Q =             | 19
+heads bad, right bad | 44 4B 02 00 21 00 52 54 01 00 00 00 00 00 | 5
+",
+    )
+}
+
+// A kind that is not among its head's rights (20), behind head, kind and places, record by record.
+fn file_right_kinds(score: Score) -> Score {
+    score.files(
+        b"
+union, enquire alone       | J 52 54 00 02 03 00 00 00 52 54 01 03 03 00 00 00 Q =                             | 20
+same-set, join alone       | J 52 54 00 01 03 00 00 00 52 54 01 03 03 00 00 00 52 51 00 02 00 00 01 00 =       | 20
+union, join alone          | J 52 54 00 01 03 00 00 00 52 54 01 02 03 00 00 00 Q =                             | 0 2 2 1 0 0 0 2
+same-set, enquire alone    | J 52 54 00 01 03 00 00 00 52 54 01 02 03 00 00 00 52 51 01 02 00 00 01 00 =       | 0 2 2 1 0 0 0 2
+union of the other head    | J 52 54 00 01 03 00 00 00 52 54 01 02 03 00 00 00 52 51 01 01 00 00 01 00 =       | 20
+place bad, and not allowed | J 52 54 00 02 03 00 00 00 52 54 01 03 03 00 00 00 52 51 00 01 02 00 01 00 =       | 8
+kind bad, and not allowed  | J 52 54 00 02 03 00 00 00 52 54 01 03 03 00 00 00 52 51 00 03 00 00 01 00 =       | 7
+head bad                   | J 52 54 00 02 03 00 00 00 52 54 01 03 03 00 00 00 52 51 02 01 00 00 01 00 =       | 6
+second request not allowed | J 52 54 00 01 03 00 00 00 52 54 01 03 03 00 00 00 Q 52 51 00 02 00 00 01 00 =     | 20
+20, then place bad         | J 52 54 00 02 03 00 00 00 52 54 01 03 03 00 00 00 Q 52 51 00 01 02 00 01 00 =     | 20
+20, pair bad               | J 52 54 00 02 03 00 00 00 52 54 01 03 03 00 00 00 Q*2 41 46 01 00 01 00 =         | 20
+513 requests, not allowed  | J 52 54 00 01 03 00 00 00 52 54 01 03 03 00 00 00 Q*512 52 51 00 02 00 00 01 00 = | 9
+grants are for every head  | J 52 54 00 02 00 00 00 00 52 54 01 02 00 00 00 00 47 52 00 01 =                   | 0 2 2 0 1 1 0 2
+",
+    )
+}
+
+// With rights a file has 26 bytes of two heads: 8,185 runs are 32,766 bytes, and one more is too long.
+fn file_right_lengths(score: Score) -> Score {
+    score.files(
+        b"
+32,766 bytes, 8,185 runs | J V*2 R*8185 =    | 0 2 2 0 2087175 8185 0 2
+32,770 bytes, 8,186 runs | J V*2 R*8186 =    | 1
+wrong balance            | J V*2 43 4C 00 00 | 13
+byte after the close     | J V*2 = 00        | 12
+",
+    )
+}
+
 // Jobs whose files are stored byte by byte.
 fn job_samples(score: Score) -> Score {
     score.jobs(
@@ -569,11 +673,73 @@ buffer of 32,767 bytes                  | 2 2 32767 | Q*512 / P*4777 |          
     )
 }
 
+// Rights behind the heads (02, A5); a rest of one or two numbers is no right.
+fn job_rights(score: Score) -> Score {
+    score.jobs(
+        b"
+join alone, enquire alone | 4 2  | 0 1 2 3 1 2 0 1 / / 0 1 1 1 2 3     | 01 01 00*13 01  | 0 54  | 0 4 2 2 16 3 0 2  | 44 4B 04 00 02 00 52 54 00 01 01 00 00 00 52 54 01 02 03 00 00 00 52 51 00 01 02 00 03 00 52 51 01 02 00 00 01 00 47 52 01 02 47 52 00 0D 47 52 01 01 43 4C 48 10
+with a pair               | 4 2  | 0 1 0 1 1 2 0 1 / 1 0 / 0 3 3 1 3 2 | 01*3 00*13 01*6 | 0 60  | 0 4 2 2 22 3 1 2  | 44 4B 04 00 02 00 52 54 00 03 03 00 00 00 52 54 01 03 02 00 00 00 52 51 00 01 00 00 01 00 52 51 01 02 00 00 01 00 41 46 01 00 00 00 47 52 01 03 47 52 00 0D 47 52 01 06 43 4C 09 C1
+no right                  | 2 2  | Q / /                               |                 | 0 18  | 0 2 2 1           | J Q =
+rest of one number        | 2 2  | / / 9                               |                 | 0 10  | 0 2 2             | J =
+rest of two numbers       | 2 2  | / / 9 9                             |                 | 0 10  | 0 2 2             | J =
+rights and a rest         | 2 2  | / / V*2 9 9                         |                 | 0 26  | 0 2 2 0 0 0 0 2   | J V*2 =
+32 rights                 | 2 32 | / / V*32                            |                 | 0 266 | 0 2 32 0 0 0 0 32 | 44 4B 02 00 20 00 V*32 =
+masks of all of three     | 2 3  | / / 0 3 7 1 3 7 2 3 7               |                 | 0 34  | 0 2 3 0 0 0 0 3   | 44 4B 02 00 03 00 52 54 00 03 07 00 00 00 52 54 01 03 07 00 00 00 52 54 02 03 07 00 00 00 =
+mask of bit 16            | 2 17 | / / V*16 16 3 65537                 |                 | 0 146 | 0 2 17 0 0 0 0 17 | 44 4B 02 00 11 00 V*16 52 54 10 03 01 00 01 00 =
+",
+    )
+}
+
+// Neither none nor one a head (19), then each right (19), behind places and heads and before the count of the requests.
+fn job_right_fields(score: Score) -> Score {
+    score.jobs(
+        b"
+one of two                 | 2 2   | / / V                     |    | 19
+three of two               | 2 2   | / / V*3                   |    | 19
+33 of 32                   | 2 32  | / / V*33                  |    | 19
+three, 33 heads            | 2 33  | / / V*3                   |    | 5
+three, no place            | 0 2   | / / V*3                   |    | 4
+first of head 1            | 2 2   | / / 1 3 3 0 3 3           |    | 19
+second of head 257         | 2 2   | / / V 257 3 3             |    | 19
+rights 0                   | 2 2   | / / 0 0 3 1 3 3           |    | 19
+rights 4                   | 2 2   | / / 0 4 3 1 3 3           |    | 19
+rights 259                 | 2 2   | / / 0 259 3 1 3 3         |    | 19
+bit 2 of two heads         | 2 2   | / / 0 3 4 1 3 3           |    | 19
+bit 16 of two heads        | 2 2   | / / 0 3 65536 1 3 3       |    | 19
+one of two, 513 requests   | 2 2   | Q*513 / / V               |    | 19
+rights 4, 513 requests     | 2 2   | Q*513 / / 0 4 3 1 4 3     |    | 19
+rights, 513 requests       | 2 2   | Q*513 / / V*2             |    | 9
+rights 4, request bad      | 2 2   | 2 1 0 1 / / 0 4 3 1 3 3   |    | 19
+union, enquire alone       | 2 2   | Q / / 0 2 3 1 3 3         |    | 20
+same-set, join alone       | 2 2   | 0 2 0 1 / / 0 1 3 1 3 3   |    | 20
+20, grant of head 9        | 2 2   | Q / / 0 2 3 1 3 3         | 09 | 20
+20, pair bad               | 2 2   | Q*2 / 1 1 / 0 2 3 1 3 3   |    | 20
+place bad, and not allowed | 2 2   | 0 1 2 1 / / 0 2 3 1 3 3   |    | 8
+second request not allowed | 2 2   | Q 1 1 0 1 / / 0 1 3 1 2 3 |    | 20
+20, then place bad         | 2 2   | Q 0 1 2 1 / / 0 2 3 1 3 3 |    | 20
+rights, grant bad          | 2 2   | Q / / V*2                 | 02 | 10
+19, empty buffer           | 2 2 0 | / / V                     |    | 19
+",
+    )
+}
+
+// The length (1) and the buffer (14) count the rights.
+fn job_right_lengths(score: Score) -> Score {
+    score.jobs(
+        b"
+buffer of 26 bytes       | 2 2 26 | / / V*2 |            | 0 26    | 0 2 2 0 0 0 0 2          | J V*2 =
+buffer of 25 bytes       | 2 2 25 | / / V*2 |            | 14
+32,766 bytes, 8,185 runs | 2 2    | / / V*2 | 00*2087175 | 0 32766 | 0 2 2 0 2087175 8185 0 2 | J V*2 R*8185 =
+32,770 bytes, 8,186 runs | 2 2    | / / V*2 | 00*2087176 | 1
+",
+    )
+}
+
 // Reads every file without pairs.
 fn read_files(score: Score) -> Score {
     io::write_all(
         STDOUT_FILENO,
-        b"reader: number places heads requests grants runs pairs\n",
+        b"reader: number places heads requests grants runs pairs rights\n",
     );
     let score = file_cuts(score);
     let score = file_marks(score);
@@ -596,6 +762,15 @@ fn read_pairs(score: Score) -> Score {
     let score = file_pair_order(score);
     let score = file_pair_faults(score);
     file_pair_lengths(score)
+}
+
+// Reads every file with rights.
+fn read_rights(score: Score) -> Score {
+    let score = file_right_samples(score);
+    let score = file_right_places(score);
+    let score = file_right_fields(score);
+    let score = file_right_kinds(score);
+    file_right_lengths(score)
 }
 
 // Writes every job without pairs.
@@ -622,11 +797,20 @@ fn write_pairs(score: Score) -> Score {
     job_pair_lengths(score)
 }
 
+// Writes every job with rights.
+fn write_rights(score: Score) -> Score {
+    let score = job_rights(score);
+    let score = job_right_fields(score);
+    job_right_lengths(score)
+}
+
 fn main() {
     let score = Score { cases: 0, wrong: 0 };
     let score = read_files(score);
     let score = read_pairs(score);
+    let score = read_rights(score);
     let score = write_jobs(score);
     let score = write_pairs(score);
+    let score = write_rights(score);
     print_score(score);
 }

@@ -1,11 +1,11 @@
 // How a row is played: a file is read, or a job is written and its file read again, and the answers are compared.
 //
-//   file row   label | file | number places heads requests grants runs pairs
-//   job row    label | places heads [room] | requests [/ pairs] | grants | number bytes | number places .. pairs | file
+//   file row   label | file | number places heads requests grants runs pairs rights
+//   job row    label | places heads [room] | requests [/ pairs [/ rights]] | grants | number bytes | number places .. rights | file
 //
 // The last two fields of a job row are what the reader answers for the written file, and that file, built by hand; a
-// refusal has neither. A pair (02, A3) is two numbers, later and earlier. Without a room the writer gets a buffer of 32,774
-// bytes. Numbers left out elsewhere are zeros.
+// refusal has neither. A pair (02, A3) is two numbers, later and earlier, a right (02, A5) three, head, rights and mask. Without
+// a room the writer gets a buffer of 32,774 bytes. Numbers left out elsewhere are zeros.
 use crate::build::put_numbers;
 use crate::build::put_words;
 use crate::score::Score;
@@ -13,11 +13,10 @@ use crate::score::judge;
 use crate::score::print_checked;
 use crate::score::print_label;
 use crate::score::print_written;
-use crate::text::before_stroke;
-use crate::text::behind_stroke;
 use crate::text::field;
 use crate::text::find;
 use crate::text::first_bytes;
+use crate::text::list;
 use reader::Checked;
 use writer::Written;
 ghost use mathlib.Core.Path.{_≡_};
@@ -53,6 +52,13 @@ fn pair_room() -> [u32; 10644]
     [0; 10644]
 }
 
+// Room for the numbers of 33 rights.
+fn right_room() -> [u32; 99]
+    ensures { λ r. ⌜ 99 ≡ length r ⌝ }
+{
+    [0; 99]
+}
+
 // Room for the grants of 8,189 runs of 255, and one more.
 fn grant_room() -> [u8; 2088196]
     ensures { λ r. ⌜ 2088196 ≡ length r ⌝ }
@@ -70,12 +76,13 @@ fn first_numbers(numbers: &[u32], count: usize) -> &[u32] {
 
 // The reader's answer that a field expects.
 fn checked_in(text: &[u8]) -> Checked {
-    let mut numbers = [0u32; 7];
+    let mut numbers = [0u32; 8];
     put_numbers(&mut numbers, text);
     Checked {
         number: numbers[0],
         nodes: numbers[1],
         heads: numbers[2],
+        rights: numbers[7],
         requests: numbers[3],
         waits: numbers[6],
         grants: numbers[4],
@@ -93,7 +100,7 @@ fn written_in(text: &[u8]) -> Written {
     }
 }
 
-// Whether two answers of the reader are the same in all seven numbers.
+// Whether two answers of the reader are the same in all eight numbers.
 fn is_same_checked(a: Checked, b: Checked) -> bool {
     if a.number != b.number {
         return false;
@@ -111,6 +118,9 @@ fn is_same_checked(a: Checked, b: Checked) -> bool {
         return false;
     }
     if a.runs != b.runs {
+        return false;
+    }
+    if a.rights != b.rights {
         return false;
     }
     a.waits == b.waits
@@ -139,14 +149,17 @@ fn write_row(row: &[u8], out: &mut [u8]) -> Written {
     let mut sizes = [0u32; 3];
     put_numbers(&mut sizes, field(row, 1));
     let mut requests = request_room();
-    let numbers = put_numbers(&mut requests, before_stroke(field(row, 2)));
+    let numbers = put_numbers(&mut requests, list(field(row, 2), 0));
     let mut waits = pair_room();
-    let pairs = put_numbers(&mut waits, behind_stroke(field(row, 2)));
+    let pairs = put_numbers(&mut waits, list(field(row, 2), 1));
+    let mut rights = right_room();
+    let held = put_numbers(&mut rights, list(field(row, 2), 2));
     let mut grants = grant_room();
     let count = put_words(&mut grants, field(row, 3));
     writer::write(
         sizes[0],
         sizes[1],
+        first_numbers(&rights, held),
         first_numbers(&requests, numbers),
         first_numbers(&waits, pairs),
         first_bytes(&grants, count),

@@ -24,7 +24,7 @@ pub fn print_label(score: Score, label: &[u8]) {
     io::write_all(STDOUT_FILENO, b"|");
 }
 
-// Prints the reader's seven numbers, the pairs last.
+// Prints the reader's eight numbers, the pairs and the rights last.
 pub fn print_checked(answer: Checked) {
     print_number(answer.number);
     print_number(answer.nodes);
@@ -33,6 +33,7 @@ pub fn print_checked(answer: Checked) {
     print_number(answer.grants);
     print_number(answer.runs);
     print_number(answer.waits);
+    print_number(answer.rights);
 }
 
 // Prints the writer's two numbers.

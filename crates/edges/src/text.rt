@@ -58,14 +58,9 @@ pub fn field(row: &[u8], number: u32) -> &[u8] {
     part(row, b'|', number)
 }
 
-// The requests in a field that has the pairs behind them (02, A3).
-pub fn before_stroke(text: &[u8]) -> &[u8] {
-    part(text, b'/', 0)
-}
-
-// The pairs in such a field, none where it has no stroke.
-pub fn behind_stroke(text: &[u8]) -> &[u8] {
-    part(text, b'/', 1)
+// The list with a number in a field of lists, empty where the field has none.
+pub fn list(text: &[u8], number: u32) -> &[u8] {
+    part(text, b'/', number)
 }
 
 // The value of a digit, hexadecimal too; 0 for any other character.

@@ -62,6 +62,17 @@ fn words(field: &str) -> impl Iterator<Item = (&str, usize)> {
     })
 }
 
+/// The rights of that many heads, of both kinds and with sight of the head itself.
+fn rights(count: usize) -> impl Iterator<Item = [u32; 3]> {
+    (0..count as u32).map(|head| [head, 3, 1u32.checked_shl(head).unwrap_or(0)])
+}
+
+/// The record of a right.
+fn right_record([head, kinds, sight]: [u32; 3]) -> [u8; 8] {
+    let [a, b, c, d] = sight.to_le_bytes();
+    [b'R', b'T', head as u8, kinds as u8, a, b, c, d]
+}
+
 /// That many pairs that rise, from 1 0 on: every request waits for all before it.
 fn pairs(count: usize) -> impl Iterator<Item = [u16; 2]> {
     let of = |later| (0..later).map(move |earlier| [later, earlier]);
@@ -81,6 +92,7 @@ pub fn bytes(field: &str) -> Vec<u8> {
         file.extend(match word {
             "J" => b"DK\x02\0\x02\0".repeat(copies),
             "Q" => b"RQ\0\x01\0\0\x01\0".repeat(copies),
+            "V" => rights(copies).flat_map(right_record).collect(),
             "W" => b"AF\x01\0\0\0".repeat(copies),
             "P" => pairs(copies).flat_map(record).collect(),
             "R" => b"GR\0\xFF".repeat(copies),
@@ -100,6 +112,7 @@ pub fn bytes(field: &str) -> Vec<u8> {
 fn numbers(field: &str) -> Vec<u32> {
     let number = |(word, copies): (&str, usize)| match word {
         "Q" => [0, 1, 0, 1].repeat(copies),
+        "V" => rights(copies).flatten().collect(),
         "P" => pairs(copies).flatten().map(u32::from).collect(),
         number => vec![number.parse().expect("a number")],
     };
