@@ -17,7 +17,8 @@ use Rattle.text.specs.Writing.{lastPosition}
 use Rattle.text.proofs.Text.{Narrow, line-short, each-short}
 use Rattle.listing.specs.declared.Section.{Section}
 use Rattle.listing.specs.declared.Section.the-variants.{Words, Requests, Entries}
-use Rattle.listing.specs.Listing.{wordName, requestName, lineName, jobName, tallyName, refusedName, row, rowSize}
+use Rattle.listing.specs.Listing.{wordName, requestName, lineName, jobName, tallyName, refusedName}
+use Rattle.listing.specs.Listing.{entryLine, reportLine, row, rowSize}
 use Rattle.listing.specs.Listing.{jobLine, rows, tallyLine, refusedLine, accepted, listing, sourcesShort, Enough}
 
 -- What the lines show is counted in 64 bits without loss.
@@ -40,18 +41,23 @@ module _ (played : Played) (table report linearization : List ℕ) where
   accepted-length = length-three (jobLine played) (rows played table report linearization) (tallyLine (played .tally))
 
 -- A line has at most 64 bytes: the longest is a request's, with five numbers of ten digits.
-row-short : (s : Section) (buffer : List ℕ) → ((k : ℕ) → getD buffer k 0 < 2 ^ 32) → (i : ℕ) → i < 2 ^ 32 → length (row s buffer i) ≤ 64
-unfolding rankOf parentOf
-row-short Words table narrow i h =
-    let numbers : List ℕ = i ∷ parentOf (getD table i 0) ∷ rankOf (getD table i 0) ∷ [] in
-    omega (arith, line-short wordName numbers (h, (omega arith, (omega (arith, narrow i), tt))))
-row-short Requests report narrow i h =
-    let at : ℕ = 4 * i in
-    let numbers : List ℕ = i ∷ getD report at 0 ∷ getD report (at + 1) 0 ∷ getD report (at + 2) 0 ∷ getD report (at + 3) 0 ∷ [] in
-    omega (arith, line-short requestName numbers (h, (narrow at, (narrow (at + 1), (narrow (at + 2), (narrow (at + 3), tt))))))
-row-short Entries linearization narrow i h =
-    let numbers : List ℕ = getD linearization (2 * i) 0 ∷ getD linearization (2 * i + 1) 0 ∷ [] in
-    omega (arith, line-short lineName numbers (narrow (2 * i), (narrow (2 * i + 1), tt)))
+pub entry-short : (point request : ℕ) → point < 2 ^ 32 → request < 2 ^ 32 → length (entryLine point request) ≤ 64
+entry-short point request h k = omega (arith, line-short lineName (point ∷ request ∷ []) (h, (k, tt)))
+
+module _ (buffer : List ℕ) (narrow : (k : ℕ) → getD buffer k 0 < 2 ^ 32) where
+  pub request-short : (number i : ℕ) → number < 2 ^ 32 → length (reportLine number buffer i) ≤ 64
+  request-short number i h =
+      let at : ℕ = 4 * i in
+      let numbers : List ℕ = number ∷ getD buffer at 0 ∷ getD buffer (at + 1) 0 ∷ getD buffer (at + 2) 0 ∷ getD buffer (at + 3) 0 ∷ [] in
+      omega (arith, line-short requestName numbers (h, (narrow at, (narrow (at + 1), (narrow (at + 2), (narrow (at + 3), tt))))))
+
+  row-short : (s : Section) (i : ℕ) → i < 2 ^ 32 → length (row s buffer i) ≤ 64
+  unfolding rankOf parentOf
+  row-short Words i h =
+      let numbers : List ℕ = i ∷ parentOf (getD buffer i 0) ∷ rankOf (getD buffer i 0) ∷ [] in
+      omega (arith, line-short wordName numbers (h, (omega arith, (omega (arith, narrow i), tt))))
+  row-short Requests i h = request-short i i h
+  row-short Entries i h = entry-short (getD buffer (2 * i) 0) (getD buffer (2 * i + 1) 0) (narrow (2 * i)) (narrow (2 * i + 1))
 
 pub record Fitting (played : Played) (table report linearization : List ℕ) : Type 0 where
   pub number : played .number < 2 ^ 32
@@ -64,7 +70,7 @@ pub record Fitting (played : Played) (table report linearization : List ℕ) : T
 
 section-short : (s : Section) (buffer : List ℕ) → ((k : ℕ) → getD buffer k 0 < 2 ^ 32) → (count : ℕ) → count < 2 ^ 32
     → length (each (row s buffer) count) ≤ 64 * count
-section-short s buffer narrow count h = each-short (row s buffer) 64 count (λ i l. row-short s buffer narrow i (omega arith))
+section-short s buffer narrow count h = each-short (row s buffer) 64 count (λ i l. row-short buffer narrow s i (omega arith))
 
 -- A text has a line for each node, request and entry, the job's and the tally's.
 accepted-lines : (played : Played) (table report linearization : List ℕ)

@@ -5,6 +5,7 @@
 --   refusedLine number       the line of a refusal
 --   requestLine n a f l u    the line of a request, by its number and its four
 --   entryLine p q            the line of an entry, by its point and its request
+--   reportLine n report i    the line of request i under the number n, from the report's buffer
 --   row s buffer i           line number i of section s, from the numbers in the section's buffer
 --   rowSize s                how many numbers of its buffer a line of section s shows
 --   rows p t r l             the lines of all words, requests and entries
@@ -59,11 +60,15 @@ requestLine number answer first last used = line requestName (number ∷ answer 
 abbrev pub entryLine : ℕ → ℕ → List ℕ
 entryLine point request = line lineName (point ∷ request ∷ [])
 
+-- Of request i the report has four numbers. The listing's own number for it is i.
+abbrev pub reportLine : ℕ → List ℕ → ℕ → List ℕ
+reportLine number report i =
+    requestLine number (getD report (4 * i) 0) (getD report (4 * i + 1) 0) (getD report (4 * i + 2) 0) (getD report (4 * i + 3) 0)
+
 -- word: place, parent, rank. A request and an entry are read from their buffers.
 abbrev pub row : Section → List ℕ → ℕ → List ℕ
 row Words table i = line wordName (i ∷ parentOf (getD table i 0) ∷ rankOf (getD table i 0) ∷ [])
-row Requests report i =
-    requestLine i (getD report (4 * i) 0) (getD report (4 * i + 1) 0) (getD report (4 * i + 2) 0) (getD report (4 * i + 3) 0)
+row Requests report i = reportLine i report i
 row Entries linearization i = entryLine (getD linearization (2 * i) 0) (getD linearization (2 * i + 1) 0)
 
 -- A place has one number in the table, a request four in the report, an entry two in the line-up.

@@ -1,5 +1,5 @@
 // The listing: the text of a played job, as bytes in a lent buffer.
-mod sections;
+pub mod sections;
 
 use job::Played;
 use job::Tally;

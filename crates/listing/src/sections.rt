@@ -7,7 +7,7 @@ ghost use lib.Dec.{ltb};
 ghost use lib.ListN.{length};
 ghost use Rattle.text.specs.Text.{each};
 ghost use Rattle.text.specs.Writing.{Wrote};
-ghost use Rattle.listing.specs.Listing.{row, rowSize};
+ghost use Rattle.listing.specs.Listing.{entryLine, reportLine, row, rowSize};
 
 // How many numbers of its buffer a line of a section shows.
 fn row_size(section: Section) -> usize
@@ -40,14 +40,14 @@ fn put_word(table: &[Word], i: u32, out: &mut [u8], at: usize) -> usize
     text::put_line(out, at, b"word", &numbers)
 }
 
-// Writes the line of request i.
-fn put_request(report: &[u32], i: u32, out: &mut [u8], at: usize) -> usize
+// Writes the line of request i under a number: i in a listing, another one where only some requests are listed.
+pub fn put_request(number: u32, report: &[u32], i: u32, out: &mut [u8], at: usize) -> usize
     requires { ⌜ 4 * (i + 1) ≤ length (now report) ⌝ }
-    ensures { λ r. ⌜ Wrote (row Section.Requests (now (report .entry)) i) at (now (out .entry)) (now (out .exit)) r ⌝ }
+    ensures { λ r. ⌜ Wrote (reportLine number (now (report .entry)) i) at (now (out .entry)) (now (out .exit)) r ⌝ }
 {
     let base = 4 * (i as usize);
     let numbers = [
-        i,
+        number,
         report[base],
         report[base + 1],
         report[base + 2],
@@ -56,14 +56,21 @@ fn put_request(report: &[u32], i: u32, out: &mut [u8], at: usize) -> usize
     text::put_line(out, at, b"request", &numbers)
 }
 
+// Writes the line of an entry, by its point and the number of its request.
+pub fn put_entry_line(point: u32, request: u32, out: &mut [u8], at: usize) -> usize
+    ensures { λ r. ⌜ Wrote (entryLine point request) at (now (out .entry)) (now (out .exit)) r ⌝ }
+{
+    let numbers = [point, request];
+    text::put_line(out, at, b"line", &numbers)
+}
+
 // Writes the line of entry i.
 fn put_entry(linearization: &[u32], i: u32, out: &mut [u8], at: usize) -> usize
     requires { ⌜ 2 * (i + 1) ≤ length (now linearization) ⌝ }
     ensures { λ r. ⌜ Wrote (row Section.Entries (now (linearization .entry)) i) at (now (out .entry)) (now (out .exit)) r ⌝ }
 {
     let base = 2 * (i as usize);
-    let numbers = [linearization[base], linearization[base + 1]];
-    text::put_line(out, at, b"line", &numbers)
+    put_entry_line(linearization[base], linearization[base + 1], out, at)
 }
 
 // Writes line i of a section.
@@ -73,7 +80,7 @@ fn put_row(section: Section, buffer: &[u32], i: u32, out: &mut [u8], at: usize) 
 {
     match section {
         Section::Words => put_word(buffer, i, out, at),
-        Section::Requests => put_request(buffer, i, out, at),
+        Section::Requests => put_request(i, buffer, i, out, at),
         Section::Entries => put_entry(buffer, i, out, at),
     }
 }
