@@ -3,4 +3,6 @@ pub mod Numbers
 pub mod Entries
 pub mod Texts
 pub mod Sheets
+pub mod Accepted
+pub mod Numbered
 mod Cases

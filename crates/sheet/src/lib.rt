@@ -1,2 +1,3 @@
-// The text of a head's sheet (02, A5), for any rule of which requests are seen. Theory alone, in specs/ and proofs/; nothing calls
-// it yet.
+// A head's sheet (02, A5): the requests that the head may see, numbered among themselves, and their line-up.
+mod lines;
+mod numbering;

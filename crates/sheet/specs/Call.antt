@@ -1,0 +1,66 @@
+-- Document 02, A5: what the call for a head's sheet answers and leaves in the lent buffer.
+--
+--   textFrom origin j h    the text of head h's sheet, of the run of the job j from that start
+--   textOf file h          the same, of an accepted file
+--   roomRefusal room text  14 where a buffer of that length has no room for the text
+--   sheetRefusal           the refusal of a sheet, 0 for none
+--   Sheet                  the answer, and the buffer afterwards
+--   refusal n out          the sheet that is refused with the number n
+--   filled text out        the sheet that is the text
+--   writtenOf text out     one of the two, by the buffer's length
+--   sheetOf file h out     the sheet, for any bytes, any head and any buffer
+use mathlib.Core.Bool.{cond}
+use mathlib.Core.List.{List, _++_}
+use Prim.Native.Nat.{ℕ}
+use lib.Dec.{eqb, ltb, leb}
+use lib.ListN.{length, drop}
+use Rattle.job.specs.Job.{Job}
+use Rattle.listing.specs.declared.Listed.{Listed}
+use Rattle.jobfile.specs.Format.{_then_}
+use Rattle.jobfile.specs.Meaning.{meaning}
+use Rattle.rules.specs.Start.{Start}
+use Rattle.turns.specs.Turns.{runOf}
+use Rattle.player.specs.Player.{originIn}
+use Rattle.sheet.specs.Sheet.{sheetText}
+use Rattle.sheet.specs.Sight.{visible}
+
+-- The requests that the head may see, with what the run left of them.
+abbrev pub textFrom : Start → Job → ℕ → List ℕ
+textFrom origin j head = sheetText (visible j head) (runOf origin j .report) (runOf origin j .entries)
+
+abbrev pub textOf : List ℕ → ℕ → List ℕ
+textOf file head = textFrom (originIn file) (meaning file .job) head
+
+-- "a sheet buffer too short 14"
+abbrev pub roomRefusal : ℕ → List ℕ → ℕ
+roomRefusal room text = cond (ltb room (length text)) 14 0
+
+-- The file's own refusal comes first. "A sheet for a head not below the heads gives 10, after 13".
+unfoldable pub sheetRefusal : List ℕ → ℕ → ℕ → ℕ
+sheetRefusal file head room =
+    meaning file .number
+    then cond (leb (meaning file .job .heads) head) 10 0
+    then roomRefusal room (textOf file head)
+
+pub record Sheet : Type 0 where
+  pub answer : Listed
+  pub out : List ℕ
+
+-- A refusal gives its number and zero bytes, and writes nothing.
+abbrev pub refusal : ℕ → List ℕ → Sheet
+refusal number out = record { answer = record { number = number; bytes = 0 }; out = out }
+
+-- "That call writes nothing but the sheet, and bytes past it stay."
+abbrev pub filled : List ℕ → List ℕ → Sheet
+filled text out = record { answer = record { number = 0; bytes = length text }; out = text ++ drop (length text) out }
+
+unfoldable pub sheetOf : List ℕ → ℕ → List ℕ → Sheet
+sheetOf file head out =
+    let number = sheetRefusal file head (length out) in
+    cond (eqb number 0) (filled (textOf file head) out) (refusal number out)
+
+-- ---- for the inner functions
+
+-- A text into a buffer, or 14 where it has no room.
+unfoldable pub writtenOf : List ℕ → List ℕ → Sheet
+writtenOf text out = cond (ltb (length out) (length text)) (refusal 14 out) (filled text out)
