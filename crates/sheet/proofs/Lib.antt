@@ -5,4 +5,6 @@ pub mod Texts
 pub mod Sheets
 pub mod Accepted
 pub mod Numbered
+pub mod Buffers
+pub mod Call
 mod Cases

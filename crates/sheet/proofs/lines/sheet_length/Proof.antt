@@ -1,21 +1,24 @@
+-- `lines::sheet_length`: every text can be counted.
+use native.Mathlib.Omega.{arith}
+use denote.Ref.{now}
+use Rattle.text.proofs.Writing.{wrote-measured}
+use Rattle.sheet.proofs.Buffers.{sheetIn-counted}
 use borrow.Author.Needs.{needs}
 use Rattle.sheet.proofs.lines.sheet_length.Statement.{statement}
 use Rattle.sheet.proofs.lines.sheet_length.Tie as tie
-use Rattle.sheet.proofs.lines.sheet_length.Reads as reads
-use Rattle.sheet.proofs.lines.sheet_length.Lts as lts
-use Rattle.sheet.proofs.lines.put_sheet.Reads as put-sheet-reads
 
--- src/lines.rt:105:66
-slice-aggregate-put-sheet : tie.Need-slice-aggregate-put-sheet
-slice-aggregate-put-sheet c = search needs
-
--- src/lines.rt:105:5
-put-sheet-requires : tie.Need-put-sheet-requires
-put-sheet-requires c κs = search needs
-
--- src/lines.rt:94:1
 returns : tie.Need-returns
-returns c = ?
+returns c =
+    let put = c .before in
+    let points = put .before .before in
+    let rows = points .before in
+    let numbers = rows .before in
+    let a = numbers .before .args in
+    wrote-measured (put .put-sheet .ensures)
+    (sheetIn-counted (now (a .numbers)) (now (a .report)) (a .requests) (now (a .linearization)) (a .entries)
+    (λ k. omega (arith, numbers .shared-slice-known .given k))
+    (λ k. omega (arith, rows .shared-slice-known2 .given k))
+    (λ k. omega (arith, points .shared-slice-known3 .given k)) (search needs) (search needs))
 
 pub sheet-length-spec : {M : Type 1} → statement M
-sheet-length-spec = tie.close (tie.spec slice-aggregate-put-sheet put-sheet-requires returns)
+sheet-length-spec = tie.close (tie.spec (λ c. search needs) (λ c κs. search needs) returns)
