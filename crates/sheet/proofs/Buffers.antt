@@ -110,6 +110,10 @@ module _ {rows : List Row} {entries : List Entry} {report linearization : List â
             (omega (arith, holding .counted, length-append (flat entries) (holding .past), length-flat entries));
         listed = Î» i l.
             rw (holding .listed)
-            (omega (arith, enough, holding .counted,
-            entry-inside (length rows) entries (holding .past) (holding .line-up .requests) i (omega (arith, holding .counted))));
+            (omega (
+              arith,
+              enough,
+              holding .counted,
+              entry-inside (length rows) entries (holding .past) (holding .line-up .requests) i (omega (arith, holding .counted)),
+            ));
       }

@@ -37,8 +37,8 @@ module _ {seen : ℕ → Bool} {n : ℕ} where
     pub numbered-few : count ≤ q
     numbered-few = omega (arith, to .counted, count-le seen q)
 
-    pub numbered-all : n ≤ q → Numbered seen n numbers
-    numbered-all l = record { each = λ i h. to .done i (omega arith) }
+    pub numbered-all : n ≤ q → n ≤ mostRequests → Numbered seen n numbers
+    numbered-all l few = record { long = omega (arith, to .size); each = λ i h. to .done i (omega arith) }
 
     module _ (more : q < n) (few : n ≤ mostRequests) where
       next : numberOf seen (q + 1) ≡ numberOf seen (suc q)

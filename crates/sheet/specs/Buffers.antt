@@ -9,6 +9,7 @@
 --   EntriesNumbered            the entries' requests are numbered
 --   Readable                   the buffers have what the text shows
 --   Holding rows entries r l n the report r has the rows, and the line-up l the entries, n of them
+--   HoldingRun file r l n      the same of the run of a file
 use mathlib.Core.Path.{_≡_}
 use mathlib.Core.Bool.{Bool, cond}
 use mathlib.Core.List.{List, [], _++_}
@@ -22,6 +23,7 @@ use Rattle.linearization.specs.Entry.{Entry, flat}
 use Rattle.rules.specs.declared.Row.{Row}
 use Rattle.sheet.specs.Sheet.{numberOf}
 use Rattle.sheet.specs.Agree.{LineUp, Numbers}
+use Rattle.sheet.specs.Call.{runIn}
 
 -- Every number on a sheet is below it.
 abbrev pub unseen : ℕ
@@ -31,6 +33,7 @@ abbrev pub numberIn : (ℕ → Bool) → ℕ → ℕ
 numberIn seen q = cond (seen q) (numberOf seen q) unseen
 
 pub record Numbered (seen : ℕ → Bool) (n : ℕ) (numbers : List ℕ) : Type 0 where
+  pub long : n ≤ length numbers
   pub each : (q : ℕ) → q < n → getD numbers q 0 ≡ numberIn seen q
 
 -- A line under its number on the sheet, and none without one.
@@ -65,3 +68,7 @@ pub record Holding (rows : List Row) (entries : List Entry) (report linearizatio
   pub past : List ℕ
   pub listed : linearization ≡ flat entries ++ past
   pub counted : count ≡ length entries
+
+-- What a play of the file leaves.
+abbrev pub HoldingRun : List ℕ → List ℕ → List ℕ → ℕ → Type 0
+HoldingRun file = Holding (runIn file .report) (runIn file .entries)

@@ -1,7 +1,9 @@
 -- Document 02, A5: what the call for a head's sheet answers and leaves in the lent buffer.
 --
+--   runText seen S         the text of what a run left in the state S
 --   textFrom origin j h    the text of head h's sheet, of the run of the job j from that start
---   textOf file h          the same, of an accepted file
+--   runIn file             the run of an accepted file
+--   textOf file h          the text of head h's sheet
 --   roomRefusal room text  14 where a buffer of that length has no room for the text
 --   sheetRefusal           the refusal of a sheet, 0 for none
 --   Sheet                  the answer, and the buffer afterwards
@@ -9,7 +11,7 @@
 --   filled text out        the sheet that is the text
 --   writtenOf text out     one of the two, by the buffer's length
 --   sheetOf file h out     the sheet, for any bytes, any head and any buffer
-use mathlib.Core.Bool.{cond}
+use mathlib.Core.Bool.{Bool, cond}
 use mathlib.Core.List.{List, _++_}
 use Prim.Native.Nat.{ℕ}
 use lib.Dec.{eqb, ltb, leb}
@@ -18,15 +20,24 @@ use Rattle.job.specs.Job.{Job}
 use Rattle.listing.specs.declared.Listed.{Listed}
 use Rattle.jobfile.specs.Format.{_then_}
 use Rattle.jobfile.specs.Meaning.{meaning}
+use Rattle.rules.specs.State.{State}
 use Rattle.rules.specs.Start.{Start}
 use Rattle.turns.specs.Turns.{runOf}
 use Rattle.player.specs.Player.{originIn}
 use Rattle.sheet.specs.Sheet.{sheetText}
 use Rattle.sheet.specs.Sight.{visible}
 
--- The requests that the head may see, with what the run left of them.
+-- What the run left of the requests that are seen.
+abbrev pub runText : (ℕ → Bool) → State → List ℕ
+runText seen S = sheetText seen (S .report) (S .entries)
+
+-- Those are the requests that the head may see.
 abbrev pub textFrom : Start → Job → ℕ → List ℕ
-textFrom origin j head = sheetText (visible j head) (runOf origin j .report) (runOf origin j .entries)
+textFrom origin j head = runText (visible j head) (runOf origin j)
+
+-- The file is played from what every play of it starts from.
+abbrev pub runIn : List ℕ → State
+runIn file = runOf (originIn file) (meaning file .job)
 
 abbrev pub textOf : List ℕ → ℕ → List ℕ
 textOf file head = textFrom (originIn file) (meaning file .job) head

@@ -42,7 +42,13 @@ fn put_requests(numbers: &[u16], report: &[u32], requests: u32, out: &mut [u8], 
 }
 
 // Writes the line of entry i, if its request is seen.
-fn put_seen_entry(numbers: &[u16], linearization: &[u32], i: u32, out: &mut [u8], at: usize) -> usize
+fn put_seen_entry(
+    numbers: &[u16],
+    linearization: &[u32],
+    i: u32,
+    out: &mut [u8],
+    at: usize,
+) -> usize
     requires { ⌜ 2 * (i + 1) ≤ length (now linearization) ⌝ }
     requires { ⌜ getD (now linearization) (2 * i + 1) 0 < length (now numbers) ⌝ }
     ensures { λ r. ⌜ Wrote (entryLineIn (now (numbers .entry)) (now (linearization .entry)) i) at (now (out .entry)) (now (out .exit)) r ⌝ }
@@ -58,7 +64,13 @@ fn put_seen_entry(numbers: &[u16], linearization: &[u32], i: u32, out: &mut [u8]
 }
 
 // Writes the lines of the seen requests' entries.
-fn put_entries(numbers: &[u16], linearization: &[u32], entries: u32, out: &mut [u8], at: usize) -> usize
+fn put_entries(
+    numbers: &[u16],
+    linearization: &[u32],
+    entries: u32,
+    out: &mut [u8],
+    at: usize,
+) -> usize
     requires { ⌜ 2 * entries ≤ length (now linearization) ⌝ }
     requires { ⌜ EntriesNumbered (now numbers) (now linearization) entries ⌝ }
     ensures { λ r. ⌜ Wrote (each (entryLineIn (now (numbers .entry)) (now (linearization .entry))) entries) at

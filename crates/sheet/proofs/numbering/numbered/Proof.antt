@@ -79,7 +79,7 @@ loop-again-2 c =
     numbered-seen (at .loop .inv) (omega arith) (few-requests (start at .pre)) (sym (seen (c .before)) ∙ not-false _ (c .if2 .left))
 
 returns : tie.Need-returns Inv-loop μ-loop
-returns c = let at = c .before .before in numbered-all (at .loop .inv) (omega arith)
+returns c = let at = c .before .before in numbered-all (at .loop .inv) (omega arith) (few-requests (start at .pre))
 
 pub numbered-spec : {M : Type 1} → statement M
 numbered-spec =
