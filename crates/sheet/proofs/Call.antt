@@ -15,7 +15,7 @@ use lib.Dec.{ltb}
 use lib.ListN.{length, drop, replicate, length-append, length-replicate}
 use borrow.Author.Tests.{lt-ltb, le-ltb, le-leb, lt-leb, eq-eqb, ne-eqb}
 use Rattle.basics.proofs.Conditions.{split}
-use Rattle.job.specs.Job.{mostNodes, mostRequests}
+use Rattle.job.specs.Job.{Job, mostNodes, mostRequests}
 use Rattle.jobfile.specs.Meaning.{meaning}
 use Rattle.jobfile.specs.Admitted.{Admitted, Bytes}
 use Rattle.jobfile.proofs.RoundTrip.{admitted-meaning}
@@ -23,15 +23,17 @@ use Rattle.reader.specs.declared.Checked.{Checked}
 use Rattle.reader.specs.Reader.{Playing}
 use Rattle.reader.proofs.Playing.{playing-count}
 use Rattle.rules.specs.declared.Row.{Row}
+use Rattle.rules.specs.Start.{Start, Initial}
 use Rattle.rules.proofs.Theorem.{invariant-linearized}
 use Rattle.stepper.specs.Buffers.{flatRows}
 use Rattle.stepper.proofs.Lists.{length-rows}
 use Rattle.stepper.proofs.Reached.{playing-admitted}
+use Rattle.turns.specs.Turns.{runOf}
 use Rattle.player.specs.Player.{Left, cutOf, originIn, lentRefusal, playRefusal, playedOf}
 use Rattle.player.specs.Cuts.{LongEnough}
 use Rattle.player.proofs.Demand.{run-ended, origin-initial}
 use Rattle.listing.specs.declared.Listed.{Listed}
-use Rattle.sheet.specs.Agree.{Numbers}
+use Rattle.sheet.specs.Agree.{LineUp, Numbers}
 use Rattle.sheet.proofs.Sheets.{linearized-lineUp, numbers-none, numbers-next}
 use Rattle.sheet.proofs.Accepted.{few-requests}
 use Rattle.sheet.proofs.Buffers.{holding-text, holding-readable}
@@ -57,6 +59,13 @@ module _ (text before : List ℕ) {bytes : ℕ} (size : bytes ≡ length text) w
 
 -- ---- the play
 
+-- a run has what is asked of a report and a line-up
+pub run-lineUp : {origin : Start} (j : Job) → Initial (j .nodes) origin → Admitted j
+    → LineUp (runOf origin j .report) (runOf origin j .entries)
+run-lineUp j initial admitted =
+    let ended = run-ended j initial admitted in
+    linearized-lineUp (invariant-linearized ended) (ended .reports)
+
 numbers-rows : (rows : List Row) (past : List ℕ) → Numbers (flatRows rows ++ past) rows
 numbers-rows [] past = numbers-none past
 numbers-rows (row ∷ rows) past = numbers-next row rows (flatRows rows ++ past) (numbers-rows rows past)
@@ -73,7 +82,7 @@ module _ (file table report linearization : List ℕ) where
   played-refused refused = simp (ne-eqb (meaning file .number) 0 refused)
 
   module _ (accepted : meaning file .number ≡ 0) where
-    played-accepted : LongEnough (meaning file .job) table report linearization
+    pub played-accepted : LongEnough (meaning file .job) table report linearization
         → playedOf file table report linearization ≡ cutOf (originIn file) (meaning file .job) table report linearization
     unfolding playRefusal playedOf
     played-accepted enough = simp (eq-eqb (meaning file .number) 0 accepted, enough)
@@ -84,9 +93,8 @@ module _ (file table report linearization : List ℕ) where
     cut-holding bytes left is =
         let j = meaning file .job in
         let end = runIn file in
-        let ended = run-ended j (origin-initial file) (admitted-meaning file bytes accepted) in
         subst (λ (l : Left). HoldingRun file (l .report) (l .linearization) (l .result .entries)) (sym is) (record {
-          line-up = linearized-lineUp (invariant-linearized ended) (ended .reports);
+          line-up = run-lineUp j (origin-initial file) (admitted-meaning file bytes accepted);
           report-long = omega (
             arith,
             length-append (flatRows (end .report)) (drop (4 * length (j .requests)) report),

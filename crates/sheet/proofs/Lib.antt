@@ -7,4 +7,5 @@ pub mod Accepted
 pub mod Numbered
 pub mod Buffers
 pub mod Call
+pub mod Calls
 mod Cases

@@ -6,11 +6,19 @@
 --   SeenBelow seen n         the seen numbers below n are numbered without gap, and stand in file order
 --   Agreement                two runs that agree give the same sheet
 --   FullSight                where every request is seen, the sheet is what the listing prints of requests and entries
+--   RunsAgree                the runs of two jobs agree on what a head of each sees
+--   JobsAgreement            two admitted jobs whose runs agree give the same text
+--   HasHead file h           the file is accepted, and h is one of its heads
+--   SameSheets, CallsAgreement   so the call gives the same sheet for their files, with the same answer
+--   SeesAll j h              head h of the job j sees every head
+--   listingLines left        what the listing prints of requests and entries after a play
+--   FullCall                 that is the sheet of a head that sees every head
 use mathlib.Core.Path.{_≡_}
 use mathlib.Core.Bool.{Bool, true}
 use mathlib.Core.List.{List, _++_, map, List·Memᴰ}
 use Prim.Native.Nat.{ℕ, _+_, _*_, _≤_, _<_}
 use lib.ListN.{length, getD}
+use Rattle.job.specs.Job.{Job}
 use Rattle.basics.specs.Count.{count}
 use Rattle.text.specs.Text.{each}
 use Rattle.listing.specs.declared.Section.the-variants.{Requests, Entries}
@@ -18,7 +26,15 @@ use Rattle.listing.specs.Listing.{row}
 use Rattle.linearization.specs.Entry.{Entry, Rising, occurrences, flat}
 use Rattle.rules.specs.declared.Row.{Row}
 use Rattle.rules.specs.Report.{rowAt}
+use Rattle.rules.specs.Start.{Start, Initial}
+use Rattle.jobfile.specs.Meaning.{meaning}
+use Rattle.jobfile.specs.Admitted.{Admitted, Bytes}
+use Rattle.turns.specs.Turns.{runOf}
+use Rattle.player.specs.Player.{Left, originIn, playedOf}
+use Rattle.player.specs.Cuts.{LongEnough}
 use Rattle.sheet.specs.Sheet.{seenNumbers, numberOf, upTo, pointIn, sheetText}
+use Rattle.sheet.specs.Sight.{sees, sightOf, visible}
+use Rattle.sheet.specs.Call.{textFrom, textOf, sheetOf}
 
 -- What a linearized run has (demand 3): a report row for every request, and a line-up.
 pub record LineUp (report : List Row) (entries : List Entry) : Type 0 where
@@ -70,3 +86,49 @@ FullSight =
     → LineUp report entries → Numbers numbers report → ((q : ℕ) → q < length report → seen q ≡ true)
     → sheetText seen report entries
     ≡ each (row Requests numbers) (length report) ++ each (row Entries (flat entries ++ past)) (length entries)
+
+-- ---- of runs, and of the call
+
+-- Places, heads, masks, waits, schedules and what the runs start from may all differ.
+abbrev pub RunsAgree : Start → Job → ℕ → Start → Job → ℕ → Type 0
+RunsAgree origin j h origin′ j′ h′ =
+    Agree (visible j h) (runOf origin j .report) (runOf origin j .entries)
+    (visible j′ h′) (runOf origin′ j′ .report) (runOf origin′ j′ .entries)
+
+abbrev pub JobsAgreement : Type 0
+JobsAgreement =
+    (origin origin′ : Start) (j j′ : Job) (h h′ : ℕ)
+    → Initial (j .nodes) origin → Initial (j′ .nodes) origin′ → Admitted j → Admitted j′ → RunsAgree origin j h origin′ j′ h′
+    → textFrom origin j h ≡ textFrom origin′ j′ h′
+
+pub record HasHead (file : List ℕ) (h : ℕ) : Type 0 where
+  pub bytes : Bytes file
+  pub accepted : meaning file .number ≡ 0
+  pub below : h < meaning file .job .heads
+
+pub record SameSheets (file : List ℕ) (h : ℕ) (file′ : List ℕ) (h′ : ℕ) : Type 0 where
+  -- "the sheet's length is part of this": buffers of one length get the same answer, 14 or the sheet's length
+  pub answers : (out out′ : List ℕ) → length out ≡ length out′ → sheetOf file h out .answer ≡ sheetOf file′ h′ out′ .answer
+  -- "byte for byte": one buffer gets the same bytes
+  pub bytes : (out : List ℕ) → sheetOf file h out .out ≡ sheetOf file′ h′ out .out
+
+abbrev pub CallsAgreement : Type 0
+CallsAgreement =
+    (file file′ : List ℕ) (h h′ : ℕ) → HasHead file h → HasHead file′ h′
+    → RunsAgree (originIn file) (meaning file .job) h (originIn file′) (meaning file′ .job) h′
+    → SameSheets file h file′ h′
+
+abbrev pub SeesAll : Job → ℕ → Type 0
+SeesAll j h = (k : ℕ) → k < j .heads → sees (sightOf j h) k ≡ true
+
+-- What the listing prints of requests and entries, from what a play left.
+abbrev pub listingLines : Left → List ℕ
+listingLines left =
+    each (row Requests (left .report)) (left .result .requests) ++ each (row Entries (left .linearization)) (left .result .entries)
+
+-- Whatever buffers the play was lent, if they are not refused.
+abbrev pub FullCall : Type 0
+FullCall =
+    (file : List ℕ) (h : ℕ) → Bytes file → meaning file .number ≡ 0 → SeesAll (meaning file .job) h
+    → (table report linearization : List ℕ) → LongEnough (meaning file .job) table report linearization
+    → textOf file h ≡ listingLines (playedOf file table report linearization)
