@@ -18,11 +18,11 @@ fn put_seen_request(numbers: &[u16], report: &[u32], q: u32, out: &mut [u8], at:
     requires { ⌜ 4 * (q + 1) ≤ length (now report) ⌝ }
     ensures { λ r. ⌜ Wrote (requestLineIn (now (numbers .entry)) (now (report .entry)) q) at (now (out .entry)) (now (out .exit)) r ⌝ }
 {
-    let number = numbers[q as usize];
+    let number = numbers[q as usize] as u32;
     if number == UNSEEN {
         return at;
     }
-    put_request(number as u32, report, q, out, at)
+    put_request(number, report, q, out, at)
 }
 
 // Writes the lines of the seen requests.
@@ -56,11 +56,11 @@ fn put_seen_entry(
     let base = 2 * (i as usize);
     let point = linearization[base];
     let request = linearization[base + 1];
-    let number = numbers[request as usize];
+    let number = numbers[request as usize] as u32;
     if number == UNSEEN {
         return at;
     }
-    put_entry_line(point, number as u32, out, at)
+    put_entry_line(point, number, out, at)
 }
 
 // Writes the lines of the seen requests' entries.

@@ -7,14 +7,14 @@ ghost use Rattle.sheet.specs.Sight.{sighted};
 ghost use Rattle.sheet.specs.Buffers.{Numbered};
 
 // What stands for a request that is not seen: every number on a sheet is below it.
-pub const UNSEEN: u16 = 512;
+pub const UNSEEN: u32 = 512;
 
 // The numbering of a file's requests, of which those are seen whose head's bit is set in `sight`.
 pub fn numbered(file: &[u8], counts: Checked, sight: u32) -> [u16; MOST_REQUESTS]
     requires { ⌜ Playing (now file) counts ⌝ }
     ensures { λ r. ⌜ Numbered (sighted sight (requestsIn (now (file .entry)))) (counts .requests) r ⌝ }
 {
-    let mut numbers = [UNSEEN; MOST_REQUESTS];
+    let mut numbers = [UNSEEN as u16; MOST_REQUESTS];
     let mut seen: u16 = 0;
     let mut q: u32 = 0;
     while q < counts.requests {

@@ -13,15 +13,15 @@ use Rattle.sheet.proofs.lines.put_seen_entry.Tie as tie
 abbrev start : tie.After-shared-slice-known5 → tie.Start
 start c = c .before .before .before .before .before .before
 
+cast-number-2 : tie.Need-cast-number-2
+cast-number-2 c =
+    let a = start c .args in
+    omega (arith, c .shared-slice-known5 .given (getD (now (a .linearization)) (2 * a .i + 1) 0))
+
 returns : tie.Need-returns
 returns c =
     let a = start (c .before) .args in
     rw (eq-eqb _ unseen (c .if1 .taken)) (wrote-nothing (a .at) (now (a .out)) (search needs) (search needs))
-
-cast-put-entry-line : tie.Need-cast-put-entry-line
-cast-put-entry-line c =
-    let a = start (c .before) .args in
-    omega (arith, c .before .shared-slice-known5 .given (getD (now (a .linearization)) (2 * a .i + 1) 0))
 
 returns-2 : tie.Need-returns-2
 returns-2 c =
@@ -31,5 +31,5 @@ returns-2 c =
 pub put-seen-entry-spec : {M : Type 1} → statement M
 put-seen-entry-spec =
     tie.close (tie.spec (λ c. search needs) (λ c. search needs) (λ c. search needs) (λ c. search needs)
-    (λ c. search needs) (λ c. search needs) (λ c. search needs) (λ c. search needs) (λ c. search needs) returns
-    cast-put-entry-line (λ c κs. search needs) (λ c. search needs) returns-2)
+    (λ c. search needs) (λ c. search needs) (λ c. search needs) (λ c. search needs) (λ c. search needs) cast-number-2
+    returns (λ c κs. search needs) (λ c. search needs) returns-2)

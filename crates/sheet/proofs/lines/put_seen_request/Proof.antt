@@ -11,13 +11,13 @@ use Rattle.sheet.proofs.lines.put_seen_request.Tie as tie
 abbrev start : tie.After-shared-slice-known3 → tie.Start
 start c = c .before .before .before .before
 
+cast-number : tie.Need-cast-number
+cast-number c = omega (arith, c .shared-slice-known3 .given (start c .args .q))
+
 returns : tie.Need-returns
 returns c =
     let a = start (c .before) .args in
     rw (eq-eqb _ unseen (c .if1 .taken)) (wrote-nothing (a .at) (now (a .out)) (search needs) (search needs))
-
-cast-put-request : tie.Need-cast-put-request
-cast-put-request c = let a = start (c .before) .args in omega (arith, c .before .shared-slice-known3 .given (a .q))
 
 returns-2 : tie.Need-returns-2
 returns-2 c =
@@ -26,5 +26,5 @@ returns-2 c =
 
 pub put-seen-request-spec : {M : Type 1} → statement M
 put-seen-request-spec =
-    tie.close (tie.spec (λ c. search needs) (λ c. search needs) returns cast-put-request (λ c κs. search needs)
+    tie.close (tie.spec (λ c. search needs) (λ c. search needs) cast-number returns (λ c κs. search needs)
     (λ c. search needs) returns-2)

@@ -61,8 +61,8 @@ loop-again c =
     let at = looped (asked (c .before)) in
     numbered-unseen (at .loop .inv) (omega arith) (few-requests (start at .pre)) (sym (seen (c .before)) ∙ not-true _ (c .if2 .taken))
 
-cast-numbers : tie.Need-cast-numbers Inv-loop μ-loop
-cast-numbers c = omega (arith, place (c .before))
+cast-numbers-2 : tie.Need-cast-numbers-2 Inv-loop μ-loop
+cast-numbers-2 c = omega (arith, place (c .before))
 
 mul-numbers : tie.Need-mul-numbers Inv-loop μ-loop
 mul-numbers c = omega (arith, place (c .before))
@@ -83,6 +83,6 @@ returns c = let at = c .before .before in numbered-all (at .loop .inv) (omega ar
 
 pub numbered-spec : {M : Type 1} → statement M
 numbered-spec =
-    tie.close (tie.spec Inv-loop μ-loop loop-holds request-at-requires cast-is-set is-set-requires
-    (λ c. omega (arith, place (c .before))) (λ c. search needs) loop-again cast-numbers mul-numbers array-write-numbers
+    tie.close (tie.spec Inv-loop μ-loop (λ c. search needs) loop-holds request-at-requires cast-is-set is-set-requires
+    (λ c. omega (arith, place (c .before))) (λ c. search needs) loop-again cast-numbers-2 mul-numbers array-write-numbers
     add-seen (λ c. omega (arith, place (c .before))) (λ c. search needs) loop-again-2 returns)
