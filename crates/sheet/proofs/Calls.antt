@@ -25,7 +25,8 @@ use Rattle.sheet.specs.Sight.{sees, visible}
 use Rattle.sheet.specs.Call.{runIn, textOf, writtenOf, sheetOf}
 use Rattle.sheet.specs.Agree.{JobsAgreement, HasHead, CallsAgreement, SeesAll, listingLines, FullCall}
 use Rattle.sheet.proofs.Sheets.{agreement, full-sight}
-use Rattle.sheet.proofs.Call.{run-lineUp, sheet-written, played-accepted, cut-holding}
+use Rattle.sheet.proofs.Played.{run-lineUp, played-accepted, cut-holding}
+use Rattle.sheet.proofs.Call.{sheet-written}
 
 -- ---- two runs that agree
 

@@ -6,6 +6,7 @@ pub mod Sheets
 pub mod Accepted
 pub mod Numbered
 pub mod Buffers
+pub mod Played
 pub mod Call
 pub mod Calls
 mod Cases

@@ -7,6 +7,7 @@
 --   roomRefusal room text  14 where a buffer of that length has no room for the text
 --   sheetRefusal           the refusal of a sheet, 0 for none
 --   Sheet                  the answer, and the buffer afterwards
+--   refused n              the answer of a refusal
 --   refusal n out          the sheet that is refused with the number n
 --   filled text out        the sheet that is the text
 --   writtenOf text out     one of the two, by the buffer's length
@@ -57,9 +58,13 @@ pub record Sheet : Type 0 where
   pub answer : Listed
   pub out : List ℕ
 
--- A refusal gives its number and zero bytes, and writes nothing.
+-- A refusal gives its number and zero bytes,
+abbrev pub refused : ℕ → Listed
+refused number = record { number = number; bytes = 0 }
+
+-- and writes nothing.
 abbrev pub refusal : ℕ → List ℕ → Sheet
-refusal number out = record { answer = record { number = number; bytes = 0 }; out = out }
+refusal number out = record { answer = refused number; out = out }
 
 -- "That call writes nothing but the sheet, and bytes past it stay."
 abbrev pub filled : List ℕ → List ℕ → Sheet

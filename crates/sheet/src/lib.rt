@@ -14,7 +14,7 @@ ghost use Rattle.jobfile.specs.Meaning.{meaning};
 ghost use Rattle.reader.specs.Reader.{Playing};
 ghost use Rattle.stepper.specs.Shown.{requestsIn};
 ghost use Rattle.sheet.specs.Sight.{sighted, sightOf};
-ghost use Rattle.sheet.specs.Call.{runIn, runText, writtenOf, sheetOf};
+ghost use Rattle.sheet.specs.Call.{runIn, runText, refused, writtenOf, sheetOf};
 ghost use Rattle.sheet.specs.Buffers.{HoldingRun};
 
 // STAND-IN for the reader's function of this name, until a file has rights: every head sees every head.
@@ -31,7 +31,7 @@ fn sight_of(file: &[u8], counts: Checked, head: u32) -> u32
 
 // The answer of a refusal.
 fn refuse(number: u32) -> Listed
-    ensures { λ r. ⌜ r ≡ record { number = number; bytes = 0 } ⌝ }
+    ensures { λ r. ⌜ r ≡ refused number ⌝ }
 {
     Listed { number, bytes: 0 }
 }

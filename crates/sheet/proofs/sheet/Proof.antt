@@ -12,7 +12,8 @@ use Rattle.player.specs.Player.{left}
 use Rattle.sheet.specs.Sight.{sighted}
 use Rattle.sheet.specs.Call.{runIn, runText, writtenOf}
 use Rattle.stepper.specs.Shown.{requestsIn}
-use Rattle.sheet.proofs.Call.{CallPlayed, call-played, sheet-refused, sheet-headless, sheet-written}
+use Rattle.sheet.proofs.Played.{CallPlayed, call-played}
+use Rattle.sheet.proofs.Call.{sheet-refused, sheet-headless, sheet-written}
 use Rattle.sheet.proofs.sheet.Statement.{statement}
 use Rattle.sheet.proofs.sheet.Tie as tie
 
@@ -25,9 +26,12 @@ playing c = c .before .before .before .before
 abbrev start : tie.After-play → tie.Start
 start c = c .before .before .before .before .before .before
 
--- the counts are known
+-- the head's sight is known, and the counts before it
+abbrev asked : tie.After-sheet-for-arg → tie.After-sight-of
+asked c = c .before .before .before
+
 abbrev checked : tie.After-sheet-for-arg → tie.After-check
-checked c = c .before .before .before .before
+checked c = asked c .before
 
 -- ---- what holds there
 
@@ -89,7 +93,7 @@ returns-3 c =
     let f = file (played (allowed at)) in
     let out = now (start (played (allowed at)) .args .out) in
     written .sheet-for .ensures
-    ∙ ap (λ sight. writtenOf (runText (sighted sight (requestsIn f)) (runIn f)) out) (written .before .before .before .before .sight-of .ensures)
+    ∙ ap (λ sight. writtenOf (runText (sighted sight (requestsIn f)) (runIn f)) out) (asked (written .before) .sight-of .ensures)
     ∙ sheet-written _ _ _ (accepted (allowed at)) (below at)
 
 pub sheet-spec : {M : Type 1} → statement M

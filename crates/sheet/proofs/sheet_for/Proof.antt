@@ -3,7 +3,7 @@ use mathlib.Core.Path.{ap, _∙_}
 use denote.Ref.{now}
 use borrow.Author.Needs.{needs}
 use Rattle.sheet.specs.Call.{writtenOf}
-use Rattle.sheet.proofs.Call.{run-readable, run-text}
+use Rattle.sheet.proofs.Played.{run-readable, run-text}
 use Rattle.sheet.proofs.sheet_for.Statement.{statement}
 use Rattle.sheet.proofs.sheet_for.Tie as tie
 
