@@ -31,6 +31,10 @@ module _ (text before : List ℕ) {bytes : ℕ} (size : bytes ≡ length text) w
       rw (le-ltb (length before) (length text) room)
       (λ i. record { answer = record { number = 0; bytes = size i }; out = wrote-whole w room i })
 
+pub written-accepted : (text out : List ℕ) → length text ≤ length out → writtenOf text out .answer .number ≡ 0
+unfolding writtenOf
+written-accepted text out room = rw (le-ltb (length out) (length text) room)
+
 -- ---- the outcomes
 
 module _ (file : List ℕ) (head : ℕ) (out : List ℕ) where

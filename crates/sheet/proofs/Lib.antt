@@ -9,4 +9,5 @@ pub mod Buffers
 pub mod Played
 pub mod Call
 pub mod Calls
+pub mod Room
 mod Cases

@@ -4,4 +4,5 @@ pub mod Sight
 pub mod Call
 pub mod Cases
 pub mod Agree
+pub mod Room
 pub mod Buffers
