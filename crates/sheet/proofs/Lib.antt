@@ -1,4 +1,5 @@
--- The seen numbers, the entries that a sheet shows, the texts, and the promises; the table of sheets.
+-- The seen numbers, the entries that a sheet shows, the texts, and the promises; the numbering, the text from buffers, what a
+-- play leaves, the call and what is promised of it, the room; the tables.
 pub mod Numbers
 pub mod Entries
 pub mod Texts

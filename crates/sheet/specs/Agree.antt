@@ -9,7 +9,8 @@
 --   RunsAgree                the runs of two jobs agree on what a head of each sees
 --   JobsAgreement            two admitted jobs whose runs agree give the same text
 --   HasHead file h           the file is accepted, and h is one of its heads
---   SameSheets, CallsAgreement   so the call gives the same sheet for their files, with the same answer
+--   SameSheets               two calls give the same answer and the same bytes
+--   CallsAgreement           they do where the runs of their files agree
 --   SeesAll j h              head h of the job j sees every head
 --   listingLines left        what the listing prints of requests and entries after a play
 --   FullCall                 that is the sheet of a head that sees every head
@@ -87,46 +88,54 @@ FullSight =
     → sheetText seen report entries
     ≡ each (row Requests numbers) (length report) ++ each (row Entries (flat entries ++ past)) (length entries)
 
--- ---- of runs, and of the call
+-- ---- of runs
 
--- Places, heads, masks, waits, schedules and what the runs start from may all differ.
+-- Head h of the job j and head h′ of the job j′, each with its own sight, and the two jobs' runs. Places, heads, masks, waits,
+-- schedules and what the runs start from may all differ.
 abbrev pub RunsAgree : Start → Job → ℕ → Start → Job → ℕ → Type 0
 RunsAgree origin j h origin′ j′ h′ =
     Agree (visible j h) (runOf origin j .report) (runOf origin j .entries)
     (visible j′ h′) (runOf origin′ j′ .report) (runOf origin′ j′ .entries)
 
+-- Any two jobs that have a file, so that any two cuts of one job are among them.
 abbrev pub JobsAgreement : Type 0
 JobsAgreement =
     (origin origin′ : Start) (j j′ : Job) (h h′ : ℕ)
     → Initial (j .nodes) origin → Initial (j′ .nodes) origin′ → Admitted j → Admitted j′ → RunsAgree origin j h origin′ j′ h′
     → textFrom origin j h ≡ textFrom origin′ j′ h′
 
+-- ---- of the call
+
+-- A call that is not refused with the file's number or 10.
 pub record HasHead (file : List ℕ) (h : ℕ) : Type 0 where
   pub bytes : Bytes file
   pub accepted : meaning file .number ≡ 0
   pub below : h < meaning file .job .heads
 
+-- Two calls give the same sheet.
 pub record SameSheets (file : List ℕ) (h : ℕ) (file′ : List ℕ) (h′ : ℕ) : Type 0 where
   -- "the sheet's length is part of this": buffers of one length get the same answer, 14 or the sheet's length
   pub answers : (out out′ : List ℕ) → length out ≡ length out′ → sheetOf file h out .answer ≡ sheetOf file′ h′ out′ .answer
   -- "byte for byte": one buffer gets the same bytes
   pub bytes : (out : List ℕ) → sheetOf file h out .out ≡ sheetOf file′ h′ out .out
 
+-- They do where the two runs agree.
 abbrev pub CallsAgreement : Type 0
 CallsAgreement =
     (file file′ : List ℕ) (h h′ : ℕ) → HasHead file h → HasHead file′ h′
     → RunsAgree (originIn file) (meaning file .job) h (originIn file′) (meaning file′ .job) h′
     → SameSheets file h file′ h′
 
+-- "sight of every head"
 abbrev pub SeesAll : Job → ℕ → Type 0
 SeesAll j h = (k : ℕ) → k < j .heads → sees (sightOf j h) k ≡ true
 
--- What the listing prints of requests and entries, from what a play left.
+-- The listing's own request and line lines, from what a play left.
 abbrev pub listingLines : Left → List ℕ
 listingLines left =
     each (row Requests (left .report)) (left .result .requests) ++ each (row Entries (left .linearization)) (left .result .entries)
 
--- Whatever buffers the play was lent, if they are not refused.
+-- A head that sees every head gets them all, whatever buffers the play was lent, if they were not refused.
 abbrev pub FullCall : Type 0
 FullCall =
     (file : List ℕ) (h : ℕ) → Bytes file → meaning file .number ≡ 0 → SeesAll (meaning file .job) h

@@ -25,13 +25,15 @@ use Rattle.sheet.specs.Sheet.{numberOf}
 use Rattle.sheet.specs.Agree.{LineUp, Numbers}
 use Rattle.sheet.specs.Call.{runIn}
 
--- Every number on a sheet is below it.
+-- Every number on a sheet is below it: a job has at most so many requests.
 abbrev pub unseen : ℕ
 unseen = mostRequests
 
+-- A request's number on the sheet, or that mark.
 abbrev pub numberIn : (ℕ → Bool) → ℕ → ℕ
 numberIn seen q = cond (seen q) (numberOf seen q) unseen
 
+-- One place a request; what is past them does not matter.
 pub record Numbered (seen : ℕ → Bool) (n : ℕ) (numbers : List ℕ) : Type 0 where
   pub long : n ≤ length numbers
   pub each : (q : ℕ) → q < n → getD numbers q 0 ≡ numberIn seen q
@@ -46,6 +48,7 @@ entryLineIn numbers linearization i =
     let number = getD numbers (getD linearization (2 * i + 1) 0) 0 in
     cond (eqb number unseen) [] (entryLine (getD linearization (2 * i) 0) number)
 
+-- Requests first, then entries.
 abbrev pub sheetIn : List ℕ → List ℕ → ℕ → List ℕ → ℕ → List ℕ
 sheetIn numbers report requests linearization entries =
     each (requestLineIn numbers report) requests ++ each (entryLineIn numbers linearization) entries
@@ -54,6 +57,7 @@ sheetIn numbers report requests linearization entries =
 abbrev pub EntriesNumbered : List ℕ → List ℕ → ℕ → Type 0
 EntriesNumbered numbers linearization entries = (i : ℕ) → i < entries → getD linearization (2 * i + 1) 0 < length numbers
 
+-- The counts do not reach past the buffers.
 pub record Readable (numbers report : List ℕ) (requests : ℕ) (linearization : List ℕ) (entries : ℕ) : Type 0 where
   pub numbered : requests ≤ length numbers
   pub rows : 4 * requests ≤ length report

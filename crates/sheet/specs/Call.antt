@@ -28,11 +28,11 @@ use Rattle.player.specs.Player.{originIn}
 use Rattle.sheet.specs.Sheet.{sheetText}
 use Rattle.sheet.specs.Sight.{visible}
 
--- What the run left of the requests that are seen.
+-- The requests that are seen, with what the run left of them.
 abbrev pub runText : (ℕ → Bool) → State → List ℕ
 runText seen S = sheetText seen (S .report) (S .entries)
 
--- Those are the requests that the head may see.
+-- Seen are those that the head may see.
 abbrev pub textFrom : Start → Job → ℕ → List ℕ
 textFrom origin j head = runText (visible j head) (runOf origin j)
 
@@ -40,6 +40,7 @@ textFrom origin j head = runText (visible j head) (runOf origin j)
 abbrev pub runIn : List ℕ → State
 runIn file = runOf (originIn file) (meaning file .job)
 
+-- The head's sheet of that run.
 abbrev pub textOf : List ℕ → ℕ → List ℕ
 textOf file head = textFrom (originIn file) (meaning file .job) head
 
@@ -47,13 +48,14 @@ textOf file head = textFrom (originIn file) (meaning file .job) head
 abbrev pub roomRefusal : ℕ → List ℕ → ℕ
 roomRefusal room text = cond (ltb room (length text)) 14 0
 
--- The file's own refusal comes first. "A sheet for a head not below the heads gives 10, after 13".
+-- "A sheet for a head not below the heads gives 10, after 13": after all that is checked of the file. Then the buffer's 14.
 unfoldable pub sheetRefusal : List ℕ → ℕ → ℕ → ℕ
 sheetRefusal file head room =
     meaning file .number
     then cond (leb (meaning file .job .heads) head) 10 0
     then roomRefusal room (textOf file head)
 
+-- What the caller has afterwards.
 pub record Sheet : Type 0 where
   pub answer : Listed
   pub out : List ℕ
@@ -70,6 +72,7 @@ refusal number out = record { answer = refused number; out = out }
 abbrev pub filled : List ℕ → List ℕ → Sheet
 filled text out = record { answer = record { number = 0; bytes = length text }; out = text ++ drop (length text) out }
 
+-- Refused, nothing is written; else the text.
 unfoldable pub sheetOf : List ℕ → ℕ → List ℕ → Sheet
 sheetOf file head out =
     let number = sheetRefusal file head (length out) in

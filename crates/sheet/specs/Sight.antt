@@ -20,9 +20,10 @@ sees sight k = eqb (sight / 2 ^ k % 2) 1
 abbrev pub sighted : ℕ → List Request → ℕ → Bool
 sighted sight requests q = sees sight (requestAt requests q .head)
 
--- STAND-IN: a job has no rights yet. "None means every right and sight of every head."
+-- STAND-IN, until a job has rights. "None means every right and sight of every head": a bit for each.
 abbrev pub sightOf : Job → ℕ → ℕ
 sightOf j h = 2 ^ j .heads - 1
 
+-- A head need not see its own requests: its mask tells.
 abbrev pub visible : Job → ℕ → ℕ → Bool
 visible j h = sighted (sightOf j h) (j .requests)

@@ -7,7 +7,7 @@ ghost use Rattle.sheet.specs.Sight.{sighted};
 ghost use Rattle.sheet.specs.Buffers.{Numbered};
 
 // What stands for a request that is not seen: every number on a sheet is below it.
-pub const UNSEEN: u32 = 512;
+pub const UNSEEN: u32 = MOST_REQUESTS as u32;
 
 // The numbering of a file's requests, of which those are seen whose head's bit is set in `sight`.
 pub fn numbered(file: &[u8], counts: Checked, sight: u32) -> [u16; MOST_REQUESTS]
