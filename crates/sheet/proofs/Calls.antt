@@ -1,6 +1,6 @@
 -- What is promised of the call holds.
 --
--- Main laws: jobs-agreement; calls-agreement; full-call; every-head, the mask of all heads has the bit of each.
+-- Main laws: jobs-agreement; rights-unread; calls-agreement; every-head; full-call.
 use mathlib.Core.Path.{_≡_, refl, sym, ap, _∙_}
 use mathlib.Core.Bool.{true, false}
 use mathlib.Core.List.{List, _++_}
@@ -11,7 +11,7 @@ use lib.Pow.{pow-pos}
 use lib.Dec.{ltb}
 use lib.ListN.{length, drop, replicate, length-replicate, getD-replicate}
 use Rattle.basics.proofs.Conditions.{split}
-use Rattle.job.specs.Job.{Job}
+use Rattle.job.specs.Job.{Job, mostHeads, rightOf}
 use Rattle.mask.specs.Mask.{maskOf}
 use Rattle.mask.proofs.Laws.{mask-none, mask-more, mask-flag}
 use Rattle.jobfile.specs.Meaning.{meaning}
@@ -23,7 +23,7 @@ use Rattle.player.specs.Player.{originIn, cutOf}
 use Rattle.player.proofs.Demand.{run-ended, origin-initial}
 use Rattle.sheet.specs.Sight.{sees, visible}
 use Rattle.sheet.specs.Call.{runIn, textOf, writtenOf, sheetOf}
-use Rattle.sheet.specs.Agree.{JobsAgreement, HasHead, CallsAgreement, SeesAll, listingLines, FullCall}
+use Rattle.sheet.specs.Agree.{JobsAgreement, RightsUnread, HasHead, CallsAgreement, SeesAll, EveryHead, listingLines, FullCall}
 use Rattle.sheet.proofs.Sheets.{agreement, full-sight}
 use Rattle.sheet.proofs.Played.{run-lineUp, played-accepted, cut-holding}
 use Rattle.sheet.proofs.Call.{sheet-written}
@@ -35,6 +35,9 @@ jobs-agreement origin origin′ j j′ h h′ initial initial′ admitted admitt
     agreement (visible j h) (visible j′ h′) (runOf origin j .report) (runOf origin′ j′ .report)
     (runOf origin j .entries) (runOf origin′ j′ .entries)
     (run-lineUp j initial admitted) (run-lineUp j′ initial′ admitted′) agree
+
+pub rights-unread : RightsUnread
+rights-unread origin j rights = refl
 
 -- an accepted file's sheet is its text, or 14
 head-written : (file : List ℕ) (h : ℕ) → HasHead file h → (out : List ℕ) → sheetOf file h out ≡ writtenOf (textOf file h) out
@@ -66,10 +69,19 @@ full-mask : (n : ℕ) → maskOf (replicate n true) ≡ 2 ^ n - 1
 full-mask zero = mask-none
 full-mask (suc n) = mask-more true (replicate n true) ∙ omega (arith, full-mask n, pow-succ' 2 n, pow-pos n)
 
-pub every-head : (heads k : ℕ) → k < heads → sees (2 ^ heads - 1) k ≡ true
-every-head heads k l =
+-- the mask of all heads has the bit of each
+every-bit : (heads k : ℕ) → k < heads → sees (2 ^ heads - 1) k ≡ true
+every-bit heads k l =
     ap (λ sight. sees sight k) (sym (full-mask heads))
     ∙ mask-flag (replicate heads true) k (omega (arith, length-replicate heads true)) ∙ getD-replicate heads k true false l
+
+pub every-head : EveryHead
+every-head =
+    record {
+      none = λ j h admitted none k l.
+          ap (λ rights. sees (rightOf rights h .sight) k) none ∙ every-bit mostHeads k (omega (arith, admitted .few-heads));
+      mask = λ j h all k l. ap (λ sight. sees sight k) all ∙ every-bit (j .heads) k l;
+    }
 
 module _ (file : List ℕ) (bytes : Bytes file) (accepted : meaning file .number ≡ 0) where
   abbrev j : Job

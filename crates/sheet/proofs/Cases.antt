@@ -7,9 +7,9 @@ use Rattle.word.specs.Word.{rankOf, parentOf, encode}
 use Rattle.process.specs.Access.{accessOf}
 use Rattle.process.specs.Advance.{advanceOf}
 use Rattle.text.specs.Text.{digitsWithin, decimal, fields, line, each}
-use Rattle.jobfile.specs.Format.{sizesRefusal, fieldsRefusal, pairRefusal, lengthRefusal}
-use Rattle.jobfile.specs.Meaning.{recordsWithin, records, sectionRefusal, headerRefusal, requestRefusal, waitRefusal, runRefusal}
-use Rattle.jobfile.specs.Meaning.{closeRefusal, balanceRefusal, fileRefusal, jobIn, meaning}
+use Rattle.jobfile.specs.Format.{firstRefusal, sizesRefusal, rightRefusal, fieldsRefusal, kindRefusal, pairRefusal, lengthRefusal}
+use Rattle.jobfile.specs.Meaning.{recordsWithin, records, headerRefusal, rightRecordRefusal, missingRefusal, requestRefusal, waitRefusal}
+use Rattle.jobfile.specs.Meaning.{runRefusal, closeRefusal, balanceRefusal, fileRefusal, jobIn, meaning}
 use Rattle.rules.specs.Report.{charge}
 use Rattle.rules.specs.State.{seek}
 use Rattle.rules.specs.Step.{step}
@@ -22,7 +22,7 @@ unfolding digitsWithin decimal fields line each sheetText
 sheet-cases = refl
 
 pub call-cases : map called calls ≡ map (λ c. c .expected) calls
-unfolding sizesRefusal fieldsRefusal pairRefusal lengthRefusal recordsWithin records sectionRefusal headerRefusal requestRefusal
-    waitRefusal runRefusal closeRefusal balanceRefusal fileRefusal jobIn meaning rankOf parentOf encode accessOf advanceOf charge seek
-    step digitsWithin decimal fields line each sheetText sheetRefusal sheetOf
+unfolding firstRefusal sizesRefusal rightRefusal fieldsRefusal kindRefusal pairRefusal lengthRefusal recordsWithin records headerRefusal
+    rightRecordRefusal missingRefusal requestRefusal waitRefusal runRefusal closeRefusal balanceRefusal fileRefusal jobIn meaning
+    rankOf parentOf encode accessOf advanceOf charge seek step digitsWithin decimal fields line each sheetText sheetRefusal sheetOf
 call-cases = refl

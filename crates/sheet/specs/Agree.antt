@@ -11,15 +11,19 @@
 --   HasHead file h           the file is accepted, and h is one of its heads
 --   SameSheets               two calls give the same answer and the same bytes
 --   CallsAgreement           they do where the runs of their files agree
+--   withRights j rights      the job j with these rights
+--   RightsUnread             the run of a job is that of the same job with any rights
 --   SeesAll j h              head h of the job j sees every head
+--   EveryHead                it does where there are no rights, and where its mask has every head
 --   listingLines left        what the listing prints of requests and entries after a play
 --   FullCall                 that is the sheet of a head that sees every head
 use mathlib.Core.Path.{_≡_}
 use mathlib.Core.Bool.{Bool, true}
-use mathlib.Core.List.{List, _++_, map, List·Memᴰ}
-use Prim.Native.Nat.{ℕ, _+_, _*_, _≤_, _<_}
+use mathlib.Core.List.{List, [], _++_, map, List·Memᴰ}
+use Prim.Native.Nat.{ℕ, _+_, _*_, _-_, _^_, _≤_, _<_}
 use lib.ListN.{length, getD}
-use Rattle.job.specs.Job.{Job}
+use Rattle.job.specs.declared.Right.{Right}
+use Rattle.job.specs.Job.{Job, sightOf}
 use Rattle.basics.specs.Count.{count}
 use Rattle.text.specs.Text.{each}
 use Rattle.listing.specs.declared.Section.the-variants.{Requests, Entries}
@@ -34,7 +38,7 @@ use Rattle.turns.specs.Turns.{runOf}
 use Rattle.player.specs.Player.{Left, originIn, playedOf}
 use Rattle.player.specs.Cuts.{LongEnough}
 use Rattle.sheet.specs.Sheet.{seenNumbers, numberOf, upTo, pointIn, sheetText}
-use Rattle.sheet.specs.Sight.{sees, sightOf, visible}
+use Rattle.sheet.specs.Sight.{sees, visible}
 use Rattle.sheet.specs.Call.{textFrom, textOf, sheetOf}
 
 -- What a linearized run has (demand 3): a report row for every request, and a line-up.
@@ -104,6 +108,22 @@ JobsAgreement =
     → Initial (j .nodes) origin → Initial (j′ .nodes) origin′ → Admitted j → Admitted j′ → RunsAgree origin j h origin′ j′ h′
     → textFrom origin j h ≡ textFrom origin′ j′ h′
 
+-- The same job, but for what its heads may ask and see.
+abbrev pub withRights : Job → List Right → Job
+withRights j rights =
+    record {
+      nodes = j .nodes;
+      heads = j .heads;
+      rights = rights;
+      requests = j .requests;
+      waits = j .waits;
+      schedule = j .schedule;
+    }
+
+-- A play does not read them.
+abbrev pub RightsUnread : Type 0
+RightsUnread = (origin : Start) (j : Job) (rights : List Right) → runOf origin j ≡ runOf origin (withRights j rights)
+
 -- ---- of the call
 
 -- A call that is not refused with the file's number or 10.
@@ -129,6 +149,13 @@ CallsAgreement =
 -- "sight of every head"
 abbrev pub SeesAll : Job → ℕ → Type 0
 SeesAll j h = (k : ℕ) → k < j .heads → sees (sightOf j h) k ≡ true
+
+-- Who sees every head.
+pub record EveryHead : Type 0 where
+  -- "None means every right and sight of every head."
+  pub none : (j : Job) (h : ℕ) → Admitted j → j .rights ≡ [] → SeesAll j h
+  -- a mask of all heads
+  pub mask : (j : Job) (h : ℕ) → sightOf j h ≡ 2 ^ j .heads - 1 → SeesAll j h
 
 -- The listing's own request and line lines, from what a play left.
 abbrev pub listingLines : Left → List ℕ

@@ -2,14 +2,13 @@
 --
 --   sees sight k               the mask `sight` has the bit of head k
 --   sighted sight requests q   the head of request q is one that the mask has
---   sightOf j h                the mask of the heads that head h of the job j may see
 --   visible j h q              head h of the job j may see request q
 use mathlib.Core.Bool.{Bool}
 use mathlib.Core.List.{List}
-use Prim.Native.Nat.{ℕ, _-_, _/_, _%_, _^_}
+use Prim.Native.Nat.{ℕ, _/_, _%_, _^_}
 use lib.Dec.{eqb}
 use Rattle.job.specs.declared.Request.{Request}
-use Rattle.job.specs.Job.{Job}
+use Rattle.job.specs.Job.{Job, sightOf}
 use Rattle.rules.specs.State.{requestAt}
 
 -- "a 32-bit mask of heads it may see": bit k is head k's.
@@ -19,10 +18,6 @@ sees sight k = eqb (sight / 2 ^ k % 2) 1
 -- "the requests of the heads it may see"
 abbrev pub sighted : ℕ → List Request → ℕ → Bool
 sighted sight requests q = sees sight (requestAt requests q .head)
-
--- STAND-IN, until a job has rights. "None means every right and sight of every head": a bit for each.
-abbrev pub sightOf : Job → ℕ → ℕ
-sightOf j h = 2 ^ j .heads - 1
 
 -- A head need not see its own requests: its mask tells.
 abbrev pub visible : Job → ℕ → ℕ → Bool

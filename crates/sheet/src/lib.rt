@@ -9,24 +9,21 @@ use listing::Listed;
 use numbering::numbered;
 use reader::Checked;
 ghost use mathlib.Core.Path.{_≡_};
-ghost use Prim.Native.Nat.{_<_};
+ghost use Rattle.job.specs.Job.{sightOf};
 ghost use Rattle.jobfile.specs.Meaning.{meaning};
 ghost use Rattle.reader.specs.Reader.{Playing};
 ghost use Rattle.stepper.specs.Shown.{requestsIn};
-ghost use Rattle.sheet.specs.Sight.{sighted, sightOf};
+ghost use Rattle.sheet.specs.Sight.{sighted};
 ghost use Rattle.sheet.specs.Call.{runIn, runText, refused, writtenOf, sheetOf};
 ghost use Rattle.sheet.specs.Buffers.{HoldingRun};
 
-// STAND-IN for the reader's function of this name, until a file has rights: every head sees every head.
+// The mask of the heads that a head may see.
 fn sight_of(file: &[u8], counts: Checked, head: u32) -> u32
     requires { ⌜ Playing (now file) counts ⌝ }
-    requires { ⌜ head < counts .heads ⌝ }
     ensures { λ r. ⌜ r ≡ sightOf (meaning (now (file .entry)) .job) head ⌝ }
 {
-    if counts.heads == 32 {
-        return u32::MAX;
-    }
-    (1u32 << counts.heads) - 1
+    let right = reader::right_at(file, counts, head);
+    right.sight
 }
 
 // The answer of a refusal.

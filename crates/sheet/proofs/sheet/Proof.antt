@@ -79,7 +79,7 @@ returns-2 c =
     sheet-headless _ _ _ (accepted allowed) (c .refuse2 .ensures) (omega (arith, heads allowed, c .before .if2 .taken))
 
 sight-of-requires : tie.Need-sight-of-requires
-sight-of-requires c κs = (checks c, omega (arith, below c, ap (λ k. k .heads) (c .check .ensures)))
+sight-of-requires c κs = checks c
 
 sheet-for-requires : tie.Need-sheet-for-requires
 sheet-for-requires c κs =
