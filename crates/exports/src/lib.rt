@@ -12,6 +12,7 @@ ghost use Rattle.writer.specs.Write.{given, writes};
 ghost use Rattle.query.specs.Query.{queried};
 ghost use Rattle.query.specs.Faithful.{Faithful};
 ghost use Rattle.listing.specs.Listing.{listed, printed};
+ghost use Rattle.sheet.specs.Call.{sheetOf};
 
 // Plays a job file: any bytes, on any lent buffers. Everything is checked before anything is written.
 #[no_mangle]
@@ -31,21 +32,23 @@ pub extern "C" fn grouping_play(
     player::play(file, table, report, linearization)
 }
 
-// Writes the file of a job, from four numbers a request, two a pair of requests (the later one, the earlier one) and one head
-// number a grant.
+// Writes the file of a job, from three numbers a head's rights (head, rights, mask) or none, four a request, two a pair of
+// requests (the later one, the earlier one) and one head number a grant.
 #[no_mangle]
 pub extern "C" fn grouping_write(
     nodes: u32,
     heads: u32,
+    rights: &[u32],
     requests: &[u32],
     waits: &[u32],
     grants: &[u8],
     out: &mut [u8],
 ) -> Written
     ensures { λ r. ⌜ record { answer = r; out = now (out .exit) }
-        ≡ writes (given nodes heads (now (requests .entry)) (now (waits .entry)) (now (grants .entry))) (now (out .entry)) ⌝ }
+        ≡ writes (given nodes heads (now (rights .entry)) (now (requests .entry)) (now (waits .entry)) (now (grants .entry)))
+        (now (out .entry)) ⌝ }
 {
-    writer::write(nodes, heads, requests, waits, grants, out)
+    writer::write(nodes, heads, rights, requests, waits, grants, out)
 }
 
 // Makes a counter enquiry: are x and y in one set, within a budget of grants?
@@ -72,4 +75,12 @@ pub extern "C" fn grouping_list(
         ≡ printed played (now (table .entry)) (now (report .entry)) (now (linearization .entry)) (now (out .entry)) ⌝ }
 {
     listing::list(played, table, report, linearization, out)
+}
+
+// Plays a job file and writes the sheet of one of its heads into a lent buffer.
+#[no_mangle]
+pub extern "C" fn grouping_sheet(file: &[u8], head: u32, out: &mut [u8]) -> Listed
+    ensures { λ r. ⌜ record { answer = r; out = now (out .exit) } ≡ sheetOf (now (file .entry)) head (now (out .entry)) ⌝ }
+{
+    sheet::sheet(file, head, out)
 }
