@@ -3,7 +3,7 @@
 -- Main laws: jobs-agreement; rights-unread; calls-agreement; every-head; full-call.
 use mathlib.Core.Path.{_≡_, refl, sym, ap, _∙_}
 use mathlib.Core.Bool.{true, false}
-use mathlib.Core.List.{List, _++_}
+use mathlib.Core.List.{List}
 use Prim.Native.Nat.{ℕ, zero, suc, _*_, _-_, _^_, _<_}
 use native.Mathlib.Nat.{pow-succ'}
 use native.Mathlib.Omega.{arith}
@@ -23,7 +23,8 @@ use Rattle.player.specs.Player.{originIn, cutOf}
 use Rattle.player.proofs.Demand.{run-ended, origin-initial}
 use Rattle.sheet.specs.Sight.{sees, visible}
 use Rattle.sheet.specs.Call.{runIn, textOf, writtenOf, sheetOf}
-use Rattle.sheet.specs.Agree.{JobsAgreement, RightsUnread, HasHead, CallsAgreement, SeesAll, EveryHead, listingLines, FullCall}
+use Rattle.sheet.specs.Agree.{RunsAgree, JobsAgreement, RightsUnread, HasHead, CallsAgreement, SeesAll, EveryHead, listingLines}
+use Rattle.sheet.specs.Agree.{FullCall}
 use Rattle.sheet.proofs.Sheets.{agreement, full-sight}
 use Rattle.sheet.proofs.Played.{run-lineUp, played-accepted, cut-holding}
 use Rattle.sheet.proofs.Call.{sheet-written}
@@ -47,15 +48,16 @@ written-answer : (text out out′ : List ℕ) → length out ≡ length out′ �
 unfolding writtenOf
 written-answer text out out′ e = split (ltb (length out′) (length text)) (λ short. rw (e, short)) (λ roomy. rw (e, roomy))
 
+texts-agree : (file file′ : List ℕ) (h h′ : ℕ) → HasHead file h → HasHead file′ h′
+    → RunsAgree (originIn file) (meaning file .job) h (originIn file′) (meaning file′ .job) h′ → textOf file h ≡ textOf file′ h′
+texts-agree file file′ h h′ has has′ agree =
+    jobs-agreement (originIn file) (originIn file′) (meaning file .job) (meaning file′ .job) h h′ (origin-initial file)
+    (origin-initial file′) (admitted-meaning file (has .bytes) (has .accepted)) (admitted-meaning file′ (has′ .bytes) (has′ .accepted)) agree
+
 pub calls-agreement : CallsAgreement
 calls-agreement file file′ h h′ has has′ agree =
-    let j = meaning file .job in
-    let j′ = meaning file′ .job in
-    let texts : textOf file h ≡ textOf file′ h′ =
-    jobs-agreement (originIn file) (originIn file′) j j′ h h′ (origin-initial file) (origin-initial file′)
-    (admitted-meaning file (has .bytes) (has .accepted)) (admitted-meaning file′ (has′ .bytes) (has′ .accepted)) agree in
     let sheets : (out : List ℕ) → sheetOf file h out ≡ writtenOf (textOf file′ h′) out =
-    λ out. head-written file h has out ∙ ap (λ text. writtenOf text out) texts in
+    λ out. head-written file h has out ∙ ap (λ text. writtenOf text out) (texts-agree file file′ h h′ has has′ agree) in
     record {
       answers = λ out out′ e.
           ap (λ s. s .answer) (sheets out) ∙ written-answer (textOf file′ h′) out out′ e

@@ -1,5 +1,8 @@
 -- No sheet is longer than its room: grants have at most seven digits, and a request has one entry at most.
 --
+--   grantLimit   what every grant number is below
+--   Short row    the answer has one digit, and the grants are below the limit
+--
 -- Main law: room-for-all.
 use mathlib.Core.Path.{_≡_, refl, sym, ap, _∙_, subst}
 use mathlib.Core.Bool.{Bool, cond}
@@ -60,12 +63,15 @@ fields-none : length (fields []) ≡ 0
 unfolding fields
 fields-none = omega arith
 
--- grants of at most seven digits
+-- a number below it has at most seven digits
+abbrev grantLimit : ℕ
+grantLimit = 10000000
+
 record Short (row : Row) : Type 0 where
   answer : row .answer < 10
-  first : row .first < 10000000
-  last : row .last < 10000000
-  used : row .used < 10000000
+  first : row .first < grantLimit
+  last : row .last < grantLimit
+  used : row .used < grantLimit
 
 row-line-short : (n : ℕ) (row : Row) → n < 1000 → Short row → length (rowLine n row) ≤ requestRoom
 row-line-short n row l short =
@@ -85,7 +91,7 @@ row-line-short n row l short =
       digits-most 6 (row .used) (short .used),
     )
 
-entry-line-short : (point n : ℕ) → point < 10000000 → n < 1000 → length (entryLine point n) ≤ entryRoom
+entry-line-short : (point n : ℕ) → point < grantLimit → n < 1000 → length (entryLine point n) ≤ entryRoom
 entry-line-short point n l h =
     omega (
       arith,
@@ -108,7 +114,7 @@ module _ (seen : ℕ → Bool) where
       cond-both {A = List ℕ} (λ t. length t ≤ requestRoom) (seen q)
       (row-line-short (numberOf seen q) (rowAt rows q) (omega (arith, count-le seen q)) (short q l)) (omega arith))
 
-  entries-short : (es : List Entry) → ((e : Entry) → List·Memᴰ e es → e .point < 10000000)
+  entries-short : (es : List Entry) → ((e : Entry) → List·Memᴰ e es → e .point < grantLimit)
       → ((e : Entry) → List·Memᴰ e es → e .request < mostRequests) → length (entryLines seen es) ≤ entryRoom * length es
   entries-short [] early inside = omega arith
   entries-short (e ∷ es) early inside =
@@ -151,13 +157,13 @@ point-bound Union q past =
     cond-both (λ k. k ≤ length past) (eqb (linkOf q past) 0) (last-bound (isOf q) past) (last-bound (linksFor q) past)
 point-bound SameSet q past = last-bound (endsFindOf q) past
 
-row-short : (q : ℕ) (past : List Happening) → length past < 10000000 → Short (rowOf q past)
+row-short : (q : ℕ) (past : List Happening) → length past < grantLimit → Short (rowOf q past)
 unfolding rowOf
 row-short q past l =
     record {
       answer = answer-bound q past;
       first = omega (arith, first-bound (isOf q) past);
-      last = cond-both (λ k. k < 10000000) (eqb (answerOf q past) 0) (omega arith) (omega (arith, last-bound (isOf q) past));
+      last = cond-both (λ k. k < grantLimit) (eqb (answerOf q past) 0) (omega arith) (omega (arith, last-bound (isOf q) past));
       used = omega (arith, count-bound (isOf q) past);
     }
 
@@ -176,7 +182,7 @@ module _ (file : List ℕ) (h : ℕ) (has : HasHead file h) where
   ended : Invariant (j .requests) (j .nodes) (originIn file .labels) (originIn file .groups) (runIn file) past
   ended = run-ended j (origin-initial file) admitted
 
-  grants-short : length past < 10000000
+  grants-short : length past < grantLimit
   grants-short =
       omega (
         arith,
@@ -188,7 +194,7 @@ module _ (file : List ℕ) (h : ℕ) (has : HasHead file h) where
   rows-short : (q : ℕ) → q < length (runIn file .report) → Short (rowAt (runIn file .report) q)
   rows-short q l = subst Short (sym (ended .rows q (omega (arith, ended .reports)))) (row-short q past grants-short)
 
-  points-short : (e : Entry) → List·Memᴰ e (runIn file .entries) → e .point < 10000000
+  points-short : (e : Entry) → List·Memᴰ e (runIn file .entries) → e .point < grantLimit
   points-short e m =
       let kind = requestAt (j .requests) (e .request) .kind in
       omega (arith, invariant-linearized ended .points e m, point-bound kind (e .request) past, grants-short)
