@@ -13,14 +13,12 @@ use lib.Dec.{eqb}
 use lib.ListN.{length, length-append}
 use Rattle.basics.proofs.Conditions.{cond-both}
 use Rattle.basics.proofs.Counts.{count-le}
-use Rattle.basics.proofs.Lists.{length-three}
 use Rattle.job.specs.declared.Kind.{Kind}
 use Rattle.job.specs.declared.Kind.the-variants.{Union, SameSet}
 use Rattle.job.specs.declared.Answer.{Answer}
 use Rattle.job.specs.declared.Answer.the-variants.{Unfinished, Joined, Together, Yes, No}
 use Rattle.job.specs.Job.{Job, mostRequests, answerNumber}
-use Rattle.text.specs.Text.{decimal, fields, line}
-use Rattle.text.proofs.Text.{digits-most, each-short}
+use Rattle.text.proofs.Text.{digits-most, fields-none, fields-length, line-length, each-short}
 use Rattle.listing.specs.Listing.{requestName, lineName, entryLine}
 use Rattle.linearization.specs.Entry.{Entry}
 use Rattle.rules.specs.declared.Row.{Row}
@@ -50,18 +48,6 @@ use Rattle.sheet.proofs.Played.{run-lineUp}
 use Rattle.sheet.proofs.Call.{written-accepted, sheet-written}
 
 -- ---- the length of a line
-
-line-length : (name ns : List ℕ) → length (line name ns) ≡ length name + length (fields ns) + 1
-unfolding line
-line-length name ns = length-three name (fields ns) (10 ∷ [])
-
-fields-length : (n : ℕ) (ns : List ℕ) → length (fields (n ∷ ns)) ≡ suc (length (decimal n)) + length (fields ns)
-unfolding fields
-fields-length n ns = length-append (32 ∷ decimal n) (fields ns)
-
-fields-none : length (fields []) ≡ 0
-unfolding fields
-fields-none = omega arith
 
 -- a number below it has at most seven digits
 abbrev grantLimit : ℕ

@@ -103,13 +103,19 @@ abbrev pub Narrow : List ℕ → Type 0
 Narrow [] = Unit {0}
 Narrow (n ∷ ns) = (n < 2 ^ 32) × Narrow ns
 
-pub fields-short : (ns : List ℕ) → Narrow ns → length (fields ns) ≤ 11 * length ns
+pub fields-none : length (fields []) ≡ 0
 unfolding fields
-fields-short [] h = omega arith
-fields-short (n ∷ ns) h =
-    omega (arith, length-append (32 ∷ decimal n) (fields ns), decimal-short n (h .0), fields-short ns (h .1))
+fields-none = omega arith
 
-line-length : (name ns : List ℕ) → length (line name ns) ≡ length name + length (fields ns) + 1
+pub fields-length : (n : ℕ) (ns : List ℕ) → length (fields (n ∷ ns)) ≡ suc (length (decimal n)) + length (fields ns)
+unfolding fields
+fields-length n ns = length-append (32 ∷ decimal n) (fields ns)
+
+pub fields-short : (ns : List ℕ) → Narrow ns → length (fields ns) ≤ 11 * length ns
+fields-short [] h = omega (arith, fields-none)
+fields-short (n ∷ ns) h = omega (arith, fields-length n ns, decimal-short n (h .0), fields-short ns (h .1))
+
+pub line-length : (name ns : List ℕ) → length (line name ns) ≡ length name + length (fields ns) + 1
 unfolding line
 line-length name ns = length-three name (fields ns) (10 ∷ [])
 
