@@ -8,7 +8,6 @@ use native.Mathlib.Omega.{arith}
 use lib.ListN.{getD}
 use Rattle.job.specs.declared.Request.{Request}
 use Rattle.job.specs.Job.{mostHeads, mostRequests}
-use Rattle.jobfile.specs.Meaning.{meaning}
 use Rattle.reader.specs.declared.Checked.{Checked}
 use Rattle.reader.specs.Reader.{Playing}
 use Rattle.reader.proofs.Playing.{playing-count}
