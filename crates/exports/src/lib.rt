@@ -12,7 +12,6 @@ ghost use Rattle.writer.specs.Write.{given, writes};
 ghost use Rattle.query.specs.Query.{queried};
 ghost use Rattle.query.specs.Faithful.{Faithful};
 ghost use Rattle.listing.specs.Listing.{listed, printed};
-ghost use Rattle.sheet.specs.Call.{sheetOf};
 
 // Plays a job file: any bytes, on any lent buffers. Everything is checked before anything is written.
 #[no_mangle]
@@ -75,12 +74,4 @@ pub extern "C" fn grouping_list(
         ≡ printed played (now (table .entry)) (now (report .entry)) (now (linearization .entry)) (now (out .entry)) ⌝ }
 {
     listing::list(played, table, report, linearization, out)
-}
-
-// Plays a job file and writes the sheet of one of its heads into a lent buffer.
-#[no_mangle]
-pub extern "C" fn grouping_sheet(file: &[u8], head: u32, out: &mut [u8]) -> Listed
-    ensures { λ r. ⌜ record { answer = r; out = now (out .exit) } ≡ sheetOf (now (file .entry)) head (now (out .entry)) ⌝ }
-{
-    sheet::sheet(file, head, out)
 }

@@ -59,9 +59,10 @@ fn sheet_for(
     )
 }
 
-// Writes the sheet of one head of a job file into `out`: any bytes, any head, any buffer. It plays the file on buffers for the
-// largest job.
-pub fn sheet(file: &[u8], head: u32, out: &mut [u8]) -> Listed
+// Writes the sheet of one head of a job file into `out`, for programs in C and Rust: any bytes, any head, any buffer. It plays the
+// file on buffers for the largest job, and a refusal writes nothing.
+#[no_mangle]
+pub extern "C" fn grouping_sheet(file: &[u8], head: u32, out: &mut [u8]) -> Listed
     ensures { λ r. ⌜ record { answer = r; out = now (out .exit) } ≡ sheetOf (now (file .entry)) head (now (out .entry)) ⌝ }
 {
     let mut table = [0u32; MOST_NODES];

@@ -1,4 +1,4 @@
--- `sheet::sheet`: the play refuses the file, or the head is none of the job's, or its sheet is written.
+-- `sheet::grouping_sheet`: the play refuses the file, or the head is none of the job's, or its sheet is written.
 use mathlib.Core.Path.{_≡_, sym, ap, _∙_}
 use mathlib.Core.List.{List}
 use Prim.Native.Nat.{ℕ, _<_}
@@ -14,8 +14,8 @@ use Rattle.sheet.specs.Call.{runIn, runText, writtenOf}
 use Rattle.stepper.specs.Shown.{requestsIn}
 use Rattle.sheet.proofs.Played.{CallPlayed, call-played}
 use Rattle.sheet.proofs.Call.{sheet-refused, sheet-headless, sheet-written}
-use Rattle.sheet.proofs.sheet.Statement.{statement}
-use Rattle.sheet.proofs.sheet.Tie as tie
+use Rattle.sheet.proofs.grouping_sheet.Statement.{statement}
+use Rattle.sheet.proofs.grouping_sheet.Tie as tie
 
 -- ---- the places that are read, each from a later one
 
@@ -96,8 +96,8 @@ returns-3 c =
     ∙ ap (λ sight. writtenOf (runText (sighted sight (requestsIn f)) (runIn f)) out) (asked (written .before) .sight-of .ensures)
     ∙ sheet-written _ _ _ (accepted (allowed at)) (below at)
 
-pub sheet-spec : {M : Type 1} → statement M
-sheet-spec =
+pub grouping-sheet-spec : {M : Type 1} → statement M
+grouping-sheet-spec =
     tie.close (tie.spec (λ c. search needs) (λ c. search needs) (λ c. search needs) (λ c κs. search needs)
     (λ c κs. search needs) returns (λ c κs. search needs) returns-2 (λ c κs. search needs) sight-of-requires
     (λ c. search needs) (λ c. search needs) sheet-for-requires (λ c. search needs) returns-3)
