@@ -1,10 +1,69 @@
--- Heads within the lower of two limits are above neither, so both refuse alike.
+-- Heads within the lower of two limits are above neither, so both refuse alike; and without rights every section stands, and is
+-- checked, as before.
 --
--- Main law: sizes-kept.
-use mathlib.Core.Path.{refl}
+-- Main laws: sizes-kept, rights-kept.
+use mathlib.Core.Path.{_≡_, refl, sym}
+use mathlib.Core.List.{List, [], _∷_}
+use Prim.Native.Nat.{ℕ, _+_}
 use native.Mathlib.Omega.{arith}
-use borrow.Author.Tests.{le-ltb}
-use Rattle.jobfile.specs.Kept.{SizesKept}
+use lib.Dec.{eqb}
+use lib.ListN.{drop}
+use borrow.Author.Tests.{eqb-true, le-ltb}
+use Rattle.basics.proofs.Conditions.{split}
+use Rattle.job.specs.Job.{Job, kindOf}
+use Rattle.jobfile.specs.declared.Fields.{Fields}
+use Rattle.jobfile.specs.Format.{rightMark, jobSize, rightSize, word, firstRefusal, fieldsRefusal, askedRefusal}
+use Rattle.jobfile.specs.Meaning.{nodesIn, headsIn, rightsRefusal, missingRefusal, rightRecords, fieldsAt, requestRefusal}
+use Rattle.jobfile.specs.Meaning.{fileRefusal, jobIn}
+use Rattle.jobfile.specs.Written.{fileWith}
+use Rattle.jobfile.specs.Kept.{SizesKept, formerRequests, formerRequestRefusal, formerRefusal, formerJob, formerFile, RightsKept}
+use Rattle.jobfile.proofs.KindNumbers.{every-kind}
+use Rattle.jobfile.proofs.Refusals.{may-passes}
+use Rattle.jobfile.proofs.Records.{records-end}
 
 pub sizes-kept : SizesKept
 sizes-kept lower upper nodes heads rise within = rw (le-ltb lower heads within, le-ltb upper heads (omega arith)) refl
+
+-- ---- where there are no rights
+
+-- every kind is allowed
+asked-all : (nodes heads : ℕ) (q : Fields) → askedRefusal nodes heads [] q ≡ fieldsRefusal nodes heads q
+asked-all nodes heads q =
+    split (eqb (fieldsRefusal nodes heads q) 0)
+    (λ none.
+    rw (none, may-passes 3 (q .kind) (every-kind (kindOf (q .kind)))) (sym (eqb-true (fieldsRefusal nodes heads q) 0 none)))
+    (λ some. rw some)
+
+checks-kept : (nodes heads number : ℕ) (ts : List (List ℕ))
+    → firstRefusal (requestRefusal nodes heads []) (λ number t. number + 1) number ts
+    ≡ firstRefusal (formerRequestRefusal nodes heads) (λ number t. number + 1) number ts
+unfolding firstRefusal requestRefusal
+checks-kept nodes heads number [] = refl
+checks-kept nodes heads number (t ∷ ts) = rw (asked-all nodes heads (fieldsAt t), checks-kept nodes heads (number + 1) ts)
+
+file-kept : (j : Job) (w : ℕ) → j .rights ≡ [] → fileWith j w ≡ formerFile j w
+unfolding fileWith
+file-kept j w none = rw none
+
+module _ (s : List ℕ) (other : word (drop jobSize s) ≡ rightMark → ⊥) where
+  no-records : rightRecords s ≡ []
+  no-records = records-end rightSize rightMark (omega arith) refl (drop jobSize s) other
+
+  none-refused : rightsRefusal (headsIn s) 0 [] ≡ 0
+  unfolding firstRefusal
+  none-refused = refl
+
+  none-missing : (t : List ℕ) → missingRefusal (headsIn s) 0 t ≡ 0
+  unfolding missingRefusal
+  none-missing t = refl
+
+  refusal-kept : fileRefusal s ≡ formerRefusal s
+  unfolding fileRefusal
+  refusal-kept = rw (no-records, none-refused, none-missing, checks-kept (nodesIn s) (headsIn s) 0 (formerRequests s))
+
+  job-kept : jobIn s ≡ formerJob s
+  unfolding jobIn
+  job-kept = rw no-records
+
+pub rights-kept : RightsKept
+rights-kept = record { refused = refusal-kept; means = job-kept; written = file-kept }

@@ -3,12 +3,14 @@
 --   kind-back       the kind of a kind's number is that kind
 --   kind-written    the number of an admitted number's kind is that number
 --   some-kind, few-kinds   a kind's number is admitted: 1 or 2
+--   every-kind      every kind is among all rights (02, A5)
 use mathlib.Core.Path.{_≡_, refl}
+use mathlib.Core.Bool.{true}
 use Prim.Native.Nat.{ℕ, zero, suc, _≤_, _<_}
 use native.Mathlib.Omega.{arith}
 use Rattle.job.specs.declared.Kind.{Kind}
 use Rattle.job.specs.declared.Kind.the-variants.{Union, SameSet}
-use Rattle.job.specs.Job.{kindOf, kindNumber}
+use Rattle.job.specs.Job.{kindOf, kindNumber, mayAsk}
 
 pub kind-back : (k : Kind) → kindOf (kindNumber k) ≡ k
 kind-back Union = refl
@@ -27,3 +29,7 @@ some-kind SameSet = omega arith
 pub few-kinds : (k : Kind) → kindNumber k ≤ 2
 few-kinds Union = omega arith
 few-kinds SameSet = omega arith
+
+pub every-kind : (k : Kind) → mayAsk 3 k ≡ true
+every-kind Union = refl
+every-kind SameSet = refl

@@ -9,7 +9,7 @@
 --   checked-holds       and it refuses none that do
 use mathlib.Core.Path.{_≡_}
 use mathlib.Core.List.{List}
-use Prim.Native.Nat.{ℕ, zero, suc, _+_, _≤_, _<_}
+use Prim.Native.Nat.{ℕ, zero, suc, _≤_, _<_}
 use native.Mathlib.Omega.{arith}
 use native.Mathlib.Nat.{zero-add}
 use lib.ListN.{length, getD}
@@ -48,7 +48,8 @@ module _ (heads : ℕ) where
   pub holds-checked : (rs : List Right) → eachRightRefusal heads 0 rs ≡ 0
       → (k : ℕ) (none : Right) → k < length rs → Holds heads k (getD rs k none)
   holds-checked rs e k none l =
-      rw zero-add at (counted-each (Holds heads) 0 rs (checked-chain (rightRefusal heads) (Holds heads) counted (held heads) 0 rs e) k none l)
+      let chain = checked-chain (rightRefusal heads) (Holds heads) counted (held heads) 0 rs e in
+      rw zero-add at (counted-each (Holds heads) 0 rs chain k none l)
 
   pub checked-holds : (rs : List Right) → ((k : ℕ) (none : Right) → k < length rs → Holds heads k (getD rs k none))
       → eachRightRefusal heads 0 rs ≡ 0

@@ -29,8 +29,8 @@ use Rattle.jobfile.specs.declared.Fields.{Fields}
 use Rattle.jobfile.specs.declared.Run.{Run}
 use Rattle.jobfile.specs.Format.{jobMark, rightMark, requestMark, waitMark, runMark, closeMark, jobSize, rightSize, requestSize}
 use Rattle.jobfile.specs.Format.{waitSize, runSize, closeSize, rightPlace, requestPlace, waitPlace, runPlace, mostGrants, word}
-use Rattle.jobfile.specs.Format.{mask, wordSum, _then_, firstRefusal, sizesRefusal, rightRefusal, askedRefusal, requestOf, pairRefusal, noPair}
-use Rattle.jobfile.specs.Format.{extends, lengthRefusal}
+use Rattle.jobfile.specs.Format.{mask, wordSum, _then_, firstRefusal, sizesRefusal, rightRefusal, askedRefusal, requestOf}
+use Rattle.jobfile.specs.Format.{pairRefusal, noPair, extends, lengthRefusal}
 
 -- A section goes on as long as its mark follows; no section has more records than the file has bytes.
 unfoldable pub recordsWithin : ℕ → ℕ → ℕ → List ℕ → List (List ℕ)

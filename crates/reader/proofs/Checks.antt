@@ -18,7 +18,7 @@ use lib.ListN.{length, drop, length-drop, length-map}
 use borrow.Author.Tests.{lt-ltb, le-ltb, ne-eqb}
 use Rattle.jobfile.specs.Format.{waitMark, runMark, jobSize, waitSize, runSize, requestPlace, waitPlace, runPlace, mostBytes, _then_}
 use Rattle.jobfile.specs.Format.{noPair, lengthRefusal}
-use Rattle.jobfile.specs.Meaning.{records, nodesIn, headsIn, headerRefusal, rightsRefusal, missingRefusal, rightAt, rightRecords}
+use Rattle.jobfile.specs.Meaning.{records, nodesIn, headsIn, headerRefusal, rightAt, rightRecords}
 use Rattle.jobfile.specs.Meaning.{rightsIn, requestsStart, requestsRefusal, requestAt, waitsRefusal, waitAt, runsRefusal, runAt}
 use Rattle.jobfile.specs.Meaning.{fullRun, granted, closeRefusal, balanceRefusal, requestRecords, waitsStart, waitRecords, runsStart}
 use Rattle.jobfile.specs.Meaning.{runRecords, closeStart, fileRefusal, runsIn, jobIn, refused, meaning}

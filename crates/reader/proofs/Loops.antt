@@ -100,7 +100,8 @@ module _ (heads : ℕ) {s : List ℕ} {at count : ℕ} (h : ReadTo (rightLayout 
 
   module _ (m : word (drop at s) ≡ rightMark → ⊥) (n : ℕ) (e : n ≡ missingRefusal heads count (drop at s)) where
     -- what is left to check stands where the loop ended
-    rights-left : (rightsRefusal heads 0 (rightRecords s) then missingRefusal heads (length (rightRecords s)) (drop (requestsStart s) s)) ≡ n
+    rights-left : (rightsRefusal heads 0 (rightRecords s)
+        then missingRefusal heads (length (rightRecords s)) (drop (requestsStart s) s)) ≡ n
     rights-left = rw (read-passes h m, read-count h m, ← h .place) (sym e)
 
     pub rights-missing : (n ≡ 0 → ⊥) → record { number = n; count = 0 } ≡ rightsTold

@@ -52,7 +52,8 @@ texts-agree : (file file′ : List ℕ) (h h′ : ℕ) → HasHead file h → Ha
     → RunsAgree (originIn file) (meaning file .job) h (originIn file′) (meaning file′ .job) h′ → textOf file h ≡ textOf file′ h′
 texts-agree file file′ h h′ has has′ agree =
     jobs-agreement (originIn file) (originIn file′) (meaning file .job) (meaning file′ .job) h h′ (origin-initial file)
-    (origin-initial file′) (admitted-meaning file (has .bytes) (has .accepted)) (admitted-meaning file′ (has′ .bytes) (has′ .accepted)) agree
+    (origin-initial file′) (admitted-meaning file (has .bytes) (has .accepted))
+    (admitted-meaning file′ (has′ .bytes) (has′ .accepted)) agree
 
 pub calls-agreement : CallsAgreement
 calls-agreement file file′ h h′ has has′ agree =

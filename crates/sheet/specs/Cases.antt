@@ -171,6 +171,8 @@ calls =
     -- Two runs that agree on what head 0 sees, and not on what head 2 does.
     ∷ call before 0 (lent 29) (sheet 29 ("request 0 1 1 13 13" ∷ "line 5 0" ∷ []) [])
     ∷ call after 0 (lent 29) (sheet 29 ("request 0 1 1 13 13" ∷ "line 5 0" ∷ []) [])
-    ∷ call before 2 (lent 80) (sheet 77 ("request 0 1 1 13 13" ∷ "request 1 4 14 16 3" ∷ "request 2 0 0 0 0" ∷ "line 5 0" ∷ "line 15 1" ∷ []) (lent 3))
-    ∷ call after 2 (lent 80) (sheet 78 ("request 0 1 1 13 13" ∷ "request 1 0 17 0 3" ∷ "request 2 4 14 16 3" ∷ "line 5 0" ∷ "line 15 2" ∷ []) (lent 2))
+    ∷ call before 2 (lent 80)
+    (sheet 77 ("request 0 1 1 13 13" ∷ "request 1 4 14 16 3" ∷ "request 2 0 0 0 0" ∷ "line 5 0" ∷ "line 15 1" ∷ []) (lent 3))
+    ∷ call after 2 (lent 80)
+    (sheet 78 ("request 0 1 1 13 13" ∷ "request 1 0 17 0 3" ∷ "request 2 4 14 16 3" ∷ "line 5 0" ∷ "line 15 2" ∷ []) (lent 2))
     ∷ []

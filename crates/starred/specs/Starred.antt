@@ -36,7 +36,8 @@ outcome (refused file n) = means (meaning file)
 abbrev pub wanted : Case → Outcome
 wanted (played c) = left (rules.wanted c)
 wanted (enquired c) = told (query.wanted c)
-wanted (refused file n) = means (record { number = n; job = record { nodes = 0; heads = 0; rights = []; requests = []; waits = []; schedule = [] } })
+wanted (refused file n) =
+    means (record { number = n; job = record { nodes = 0; heads = 0; rights = []; requests = []; waits = []; schedule = [] } })
 
 abbrev pub starred : List Case
 starred =

@@ -7,7 +7,6 @@
 --   asked-fields, asked-kind  the refusal of a request, by what is told of its numbers and of its head
 --   each-fits                 requests that are not refused fit the largest job
 use mathlib.Core.Path.{_≡_, refl, _∙_}
-use mathlib.Core.Bool.{true}
 use mathlib.Core.List.{List, [], _∷_}
 use Prim.Native.Nat.{ℕ, _+_, _/_, _≤_, _<_}
 use native.Mathlib.Omega.{arith}
@@ -15,13 +14,12 @@ use native.Mathlib.Nat.{add-zero}
 use lib.ListN.{length, drop, length-drop}
 use lib.Seq.{getD-drop, drop-drop}
 use borrow.Author.Tests.{ne-eqb, lt-ltb, le-ltb}
-use Rattle.job.specs.declared.Kind.{Kind}
-use Rattle.job.specs.declared.Kind.the-variants.{Union, SameSet}
 use Rattle.job.specs.declared.Right.{Right}
-use Rattle.job.specs.Job.{mostNodes, mostHeads, mostRequests, kindOf, mayAsk, rightOf}
+use Rattle.job.specs.Job.{mostNodes, mostHeads, mostRequests, kindOf, rightOf}
 use Rattle.jobfile.specs.declared.Fields.{Fields}
 use Rattle.jobfile.specs.Format.{firstRefusal, fieldsRefusal, kindRefusal, askedRefusal}
 use Rattle.jobfile.specs.Draft.{fieldsOf, countRefusal, eachRefusal}
+use Rattle.jobfile.proofs.KindNumbers.{every-kind}
 use Rattle.jobfile.proofs.Refusals.{through, Sized, Fit, fit, fit-passes, may-passes}
 use Rattle.writer.specs.Write.{fieldsFrom}
 use Rattle.writer.proofs.Lists.{Given}
@@ -64,11 +62,6 @@ count-refuses l many = rw (fields-count l, lt-ltb mostRequests (length l / 4) ma
 pub count-passes : (l : List ℕ) → length l / 4 ≤ mostRequests → countRefusal (length (fieldsOf l)) ≡ 0
 unfolding countRefusal
 count-passes l some = rw (fields-count l, le-ltb mostRequests (length l / 4) some)
-
--- Both kinds are among all rights.
-every-kind : (k : Kind) → mayAsk 3 k ≡ true
-every-kind Union = refl
-every-kind SameSet = refl
 
 -- The refusal of a request: of its numbers, and where these fit, of what its head may ask.
 module _ (nodes heads : ℕ) (rights : List Right) (q : Fields) (n : ℕ) where

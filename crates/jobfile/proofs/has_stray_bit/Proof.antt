@@ -1,6 +1,6 @@
 -- `jobfile::has_stray_bit`: the power of two fits 32 bits, or no mask reaches it.
 use mathlib.Core.Path.{sym, ap, _∙_}
-use Prim.Native.Nat.{ℕ, _^_, _≤_}
+use Prim.Native.Nat.{_^_, _≤_}
 use native.Mathlib.Omega.{arith}
 use native.Mathlib.Nat.{one-mul, mod-eq-of-lt}
 use lib.Dec.{leb}

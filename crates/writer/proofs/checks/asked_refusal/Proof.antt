@@ -16,8 +16,8 @@ returns-2 c =
     let held = c .before in
     let fit = held .before in
     let a = fit .before .before .before .args in
-    asked-kind (a .nodes) (a .heads) (rightsGiven (now (a .rights))) (a .fields) _ _ _ (fit .before .fields-refusal .ensures) (fit .if1 .left)
-    (held .right-of .ensures) (c .kind-refusal .ensures)
+    asked-kind (a .nodes) (a .heads) (rightsGiven (now (a .rights))) (a .fields) _ _ _ (fit .before .fields-refusal .ensures)
+    (fit .if1 .left) (held .right-of .ensures) (c .kind-refusal .ensures)
 
 pub asked-refusal-spec : {M : Type 1} → statement M
 asked-refusal-spec =

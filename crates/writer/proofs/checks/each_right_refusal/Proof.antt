@@ -28,7 +28,8 @@ loop-holds c = (passing-start _ _ _ _ _, omega arith)
 returns : tie.Need-returns Inv-loop μ-loop
 returns c =
     let told = c .before in
-    passing-stops (looped told .loop .inv .0) _ (told .before .right-at .ensures) (omega arith) _ (told .right-refusal .ensures) (c .if1 .taken)
+    passing-stops (looped told .loop .inv .0) _ (told .before .right-at .ensures) (omega arith) _ (told .right-refusal .ensures)
+    (c .if1 .taken)
 
 add-number : tie.Need-add-number Inv-loop μ-loop
 add-number c =

@@ -26,7 +26,8 @@ loop-holds c = passing-start _ _ _ _ _
 returns : tie.Need-returns Inv-loop μ-loop
 returns c =
     let told = c .before in
-    passing-stops (looped told .loop .inv) _ (told .before .fields-at .ensures) (omega arith) _ (told .asked-refusal .ensures) (c .if1 .taken)
+    passing-stops (looped told .loop .inv) _ (told .before .fields-at .ensures) (omega arith) _ (told .asked-refusal .ensures)
+    (c .if1 .taken)
 
 loop-again : tie.Need-loop-again Inv-loop μ-loop
 loop-again c =
