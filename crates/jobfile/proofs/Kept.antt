@@ -2,23 +2,19 @@
 -- checked, as before.
 --
 -- Main laws: sizes-kept, rights-kept.
-use mathlib.Core.Path.{_≡_, refl, sym}
+use mathlib.Core.Path.{_≡_, refl}
 use mathlib.Core.List.{List, [], _∷_}
 use Prim.Native.Nat.{ℕ, _+_}
 use native.Mathlib.Omega.{arith}
-use lib.Dec.{eqb}
 use lib.ListN.{drop}
-use borrow.Author.Tests.{eqb-true, le-ltb}
-use Rattle.basics.proofs.Conditions.{split}
-use Rattle.job.specs.Job.{Job, kindOf}
-use Rattle.jobfile.specs.declared.Fields.{Fields}
-use Rattle.jobfile.specs.Format.{rightMark, jobSize, rightSize, word, firstRefusal, fieldsRefusal, askedRefusal}
+use borrow.Author.Tests.{le-ltb}
+use Rattle.job.specs.Job.{Job}
+use Rattle.jobfile.specs.Format.{rightMark, jobSize, rightSize, word, firstRefusal}
 use Rattle.jobfile.specs.Meaning.{nodesIn, headsIn, rightsRefusal, missingRefusal, rightRecords, fieldsAt, requestRefusal}
 use Rattle.jobfile.specs.Meaning.{fileRefusal, jobIn}
 use Rattle.jobfile.specs.Written.{fileWith}
 use Rattle.jobfile.specs.Kept.{SizesKept, formerRequests, formerRequestRefusal, formerRefusal, formerJob, formerFile, RightsKept}
-use Rattle.jobfile.proofs.KindNumbers.{every-kind}
-use Rattle.jobfile.proofs.Refusals.{may-passes}
+use Rattle.jobfile.proofs.Refusals.{asked-free}
 use Rattle.jobfile.proofs.Records.{records-end}
 
 pub sizes-kept : SizesKept
@@ -26,20 +22,12 @@ sizes-kept lower upper nodes heads rise within = rw (le-ltb lower heads within, 
 
 -- ---- where there are no rights
 
--- every kind is allowed
-asked-all : (nodes heads : ℕ) (q : Fields) → askedRefusal nodes heads [] q ≡ fieldsRefusal nodes heads q
-asked-all nodes heads q =
-    split (eqb (fieldsRefusal nodes heads q) 0)
-    (λ none.
-    rw (none, may-passes 3 (q .kind) (every-kind (kindOf (q .kind)))) (sym (eqb-true (fieldsRefusal nodes heads q) 0 none)))
-    (λ some. rw some)
-
 checks-kept : (nodes heads number : ℕ) (ts : List (List ℕ))
     → firstRefusal (requestRefusal nodes heads []) (λ number t. number + 1) number ts
     ≡ firstRefusal (formerRequestRefusal nodes heads) (λ number t. number + 1) number ts
 unfolding firstRefusal requestRefusal
 checks-kept nodes heads number [] = refl
-checks-kept nodes heads number (t ∷ ts) = rw (asked-all nodes heads (fieldsAt t), checks-kept nodes heads (number + 1) ts)
+checks-kept nodes heads number (t ∷ ts) = rw (asked-free nodes heads [] (fieldsAt t) refl, checks-kept nodes heads (number + 1) ts)
 
 file-kept : (j : Job) (w : ℕ) → j .rights ≡ [] → fileWith j w ≡ formerFile j w
 unfolding fileWith

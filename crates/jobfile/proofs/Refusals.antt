@@ -8,20 +8,25 @@
 --   held, holds-passes  a right that is not refused is its head's, and the other way round
 --   Fit n h q           the numbers q are those of a request in a job of n nodes and h heads
 --   may, may-passes     a kind that is not refused is among the rights, and the other way round
+--   asked-free          without rights every kind is allowed
 --   Paired n b w        the pair w is one of a job with n requests, and rises from the pair b
-use mathlib.Core.Path.{_≡_, refl}
+use mathlib.Core.Path.{_≡_, refl, sym}
 use mathlib.Core.Bool.{Bool, true, false, cond, not}
+use mathlib.Core.List.{List, [], _∷_}
 use Prim.Native.Nat.{ℕ, suc, _^_, _≤_, _<_}
 use native.Mathlib.Omega.{arith}
 use lib.Dec.{eqb, ltb, leb}
+use lib.ListN.{length}
 use borrow.Author.Tests.{eqb-true, eqb-false, ltb-false, leb-false, not-false, eq-eqb, ne-eqb, le-ltb, lt-leb}
 use Rattle.basics.proofs.Conditions.{split}
 use Rattle.job.specs.declared.Wait.{Wait}
 use Rattle.job.specs.declared.Right.{Right}
 use Rattle.job.specs.Job.{mostNodes, mostHeads, kindOf, mayAsk}
 use Rattle.jobfile.specs.declared.Fields.{Fields}
-use Rattle.jobfile.specs.Format.{_then_, sizesRefusal, rightRefusal, fieldsRefusal, kindRefusal, risesTo, pairRefusal}
+use Rattle.jobfile.specs.Format.{_then_, sizesRefusal, rightRefusal, fieldsRefusal, kindRefusal, askedRefusal, risesTo}
+use Rattle.jobfile.specs.Format.{pairRefusal}
 use Rattle.jobfile.specs.Admitted.{Holds}
+use Rattle.jobfile.proofs.KindNumbers.{every-kind}
 
 pub record Passed (b : Bool) (n : ℕ) : Type 0 where
   pub test : b ≡ false
@@ -139,6 +144,14 @@ fit-passes nodes heads q f =
       lt-leb nodes (q .x) (f .x),
       lt-leb nodes (q .y) (f .y),
     )
+
+pub asked-free : (nodes heads : ℕ) (rights : List Right) (q : Fields) → length rights ≡ 0
+    → askedRefusal nodes heads rights q ≡ fieldsRefusal nodes heads q
+asked-free nodes heads (r ∷ rs) q none = absurd (omega arith)
+asked-free nodes heads [] q none =
+    split (eqb (fieldsRefusal nodes heads q) 0)
+    (λ fits. rw (fits, may-passes 3 (q .kind) (every-kind (kindOf (q .kind)))) (sym (eqb-true (fieldsRefusal nodes heads q) 0 fits)))
+    (λ wrong. rw wrong)
 
 pub record Paired (count : ℕ) (before w : Wait) : Type 0 where
   pub later : w .later < count

@@ -1,6 +1,7 @@
 -- The numbers of a record, by the bytes and words that they are read from.
 --
 --   right-read, fields-read, wait-read, run-read   a record of numbers is the one at that place, if each was read from its bytes
+--   no-rights              a file whose rights are counted to none has none
 --   right-stood, right-none   the right of a head in a file whose rights are counted: its record, or every right
 --   narrow, request-read   numbers read from bytes fit a request's fields, and give the request at that place
 --   asked-numbers, asked-kind   the refusal of a request that is whole and counted, by its numbers, and where only its kind is left
@@ -87,6 +88,10 @@ module _ {s : List ℕ} {rights : ℕ} (righted : Righted s rights) (head : ℕ)
   right-none l =
       sym (List·getD-eq-default (rightsIn s) (everyRight head)
       (omega (arith, righted .counted, length-map (rightRecords s) rightAt)))
+
+-- A file with none has none.
+pub no-rights : {s : List ℕ} {rights : ℕ} → Righted s rights → rights ≡ 0 → length (rightsIn s) ≡ 0
+no-rights {s} righted none = length-map (rightRecords s) rightAt ∙ sym (righted .counted) ∙ none
 
 -- The refusal of a request that is whole and counted, by its numbers,
 pub asked-numbers : (nodes heads : ℕ) (rights : List Right) (number : ℕ) (q : Fields) (t : List ℕ) → q ≡ fieldsAt t

@@ -150,6 +150,10 @@ pub fn request_refusal(
     if wrong != 0 {
         return wrong;
     }
+    // tested here, so that files without rights are read as fast as ever
+    if rights == 0 {
+        return 0;
+    }
     let right = right_of(file, rights, fields.head);
     kind_refusal(right.rights, fields.kind)
 }

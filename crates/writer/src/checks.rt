@@ -130,6 +130,10 @@ fn asked_refusal(nodes: u32, heads: u32, rights: &[u32], fields: Fields) -> u32
     if number != 0 {
         return number;
     }
+    // tested here, so that jobs without rights are written as fast as ever
+    if rights.len() < 3 {
+        return 0;
+    }
     let right = right_of(rights, fields.head);
     kind_refusal(right.rights, fields.kind)
 }

@@ -7,7 +7,8 @@ use borrow.Author.Needs.{needs}
 use borrow.Author.Tests.{lt-ltb, le-ltb, le-leb, ne-eqb}
 use Rattle.jobfile.specs.Format.{askedRefusal}
 use Rattle.jobfile.specs.Meaning.{rightsIn, requestRefusal}
-use Rattle.reader.proofs.Fields.{asked-numbers, asked-kind}
+use Rattle.jobfile.proofs.Refusals.{asked-free}
+use Rattle.reader.proofs.Fields.{asked-numbers, asked-kind, no-rights}
 use Rattle.reader.proofs.records.request_refusal.Statement.{statement}
 use Rattle.reader.proofs.records.request_refusal.Tie as tie
 
@@ -38,8 +39,18 @@ returns-3 c =
 
 returns-4 : tie.Need-returns-4
 returns-4 c =
+    let fit = c .before in
+    let fields = fit .before .before in
+    let begun = start fields in
+    let a = begun .args in
+    sym (numbers fields
+    ∙ asked-free (a .nodes) (a .heads) (rightsIn (now (a .file))) _ (no-rights (begun .pre .1 .1) (c .if4 .taken))
+    ∙ sym (fit .before .fields-refusal .ensures) ∙ fit .if3 .left)
+
+returns-5 : tie.Need-returns-5
+returns-5 c =
     let held = c .before in
-    let fit = held .before in
+    let fit = held .before .before in
     let fields = fit .before .before in
     let a = start fields .args in
     asked-kind (a .nodes) (a .heads) (rightsIn (now (a .file))) _ _ _ (sym (fit .before .fields-refusal .ensures) ∙ fit .if3 .left)
@@ -49,4 +60,4 @@ returns-4 c =
 pub request-refusal-spec : {M : Type 1} → statement M
 request-refusal-spec =
     tie.close (tie.spec (λ c. search needs) returns returns-2 (λ c κs. search needs) (λ c κs. search needs) returns-3
-    (λ c κs. search needs) (λ c κs. search needs) returns-4)
+    returns-4 (λ c κs. search needs) (λ c κs. search needs) returns-5)
