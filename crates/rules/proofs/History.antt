@@ -166,7 +166,7 @@ module _ (q : ℕ) (act : Action) (past : List Happening) where
   served-settled = first-settled (isOf q) (serving q act) past
 
 -- no grant of a row is beyond the present one
-last-bound : (f : Happening → Bool) (past : List Happening) → lastWhere f past ≤ length past
+pub last-bound : (f : Happening → Bool) (past : List Happening) → lastWhere f past ≤ length past
 last-bound f [] = omega arith
 last-bound f (a ∷ past) = split (f a) (λ t. rw t (omega arith)) (λ t. rw t (omega (arith, last-bound f past)))
 

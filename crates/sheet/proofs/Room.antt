@@ -30,8 +30,8 @@ use Rattle.rules.specs.Report.{rowAt}
 use Rattle.rules.specs.State.{requestAt}
 use Rattle.rules.specs.Run.{Happening}
 use Rattle.rules.specs.Run.Happening.{idle, serving}
-use Rattle.rules.specs.History.{lastWhere, countWhere, answerOf, rowOf, linkOf, pointOf, isOf, endsFindOf, linksFor}
-use Rattle.rules.proofs.History.{first-bound}
+use Rattle.rules.specs.History.{countWhere, answerOf, rowOf, linkOf, pointOf, isOf, endsFindOf, linksFor}
+use Rattle.rules.proofs.History.{last-bound, row-last-bound, row-first-bound}
 use Rattle.rules.proofs.Invariant.{Invariant}
 use Rattle.rules.proofs.Theorem.{invariant-linearized}
 use Rattle.stepper.proofs.Reached.{admitted-granted, after-now}
@@ -116,10 +116,6 @@ module _ (seen : ℕ → Bool) where
 
 -- ---- no number of a history is beyond its length
 
-last-bound : (f : Happening → Bool) (past : List Happening) → lastWhere f past ≤ length past
-last-bound f [] = omega arith
-last-bound f (a ∷ past) = cond-both (λ k. k ≤ suc (length past)) (f a) (omega arith) (omega (arith, last-bound f past))
-
 count-bound : (f : Happening → Bool) (past : List Happening) → countWhere f past ≤ length past
 count-bound f [] = omega arith
 count-bound f (a ∷ past) =
@@ -148,8 +144,8 @@ unfolding rowOf
 row-short q past l =
     record {
       answer = answer-bound q past;
-      first = omega (arith, first-bound (isOf q) past);
-      last = cond-both (λ k. k < grantLimit) (eqb (answerOf q past) 0) (omega arith) (omega (arith, last-bound (isOf q) past));
+      first = omega (arith, row-first-bound q past);
+      last = omega (arith, row-last-bound q past);
       used = omega (arith, count-bound (isOf q) past);
     }
 
