@@ -14,6 +14,7 @@
 --   count-mono            a weaker test counts no less
 --   count-same            tests that agree count the same
 --   count-less            one number ceases to pass
+--   count-strict          a weaker test that one more number passes counts more
 --   count-sum             two tests that exclude each other, within a third
 --   count-first           the first number apart instead of the last
 --   count-more            numbers that do not pass add nothing
@@ -24,6 +25,8 @@ use mathlib.Core.Bool.{Bool, true, false, cond, true≢false}
 use Prim.Native.Nat.{ℕ, zero, suc, _+_, _≤_, _<_}
 use native.Mathlib.Omega.{arith}
 use native.Mathlib.Decide.{ℕ-discrete, decLt}
+use lib.Dec.{eqb}
+use borrow.Author.Tests.{eqb-true, eq-eqb, ne-eqb}
 use Rattle.basics.specs.Count.{count}
 use Rattle.basics.proofs.Conditions.{split}
 
@@ -127,6 +130,15 @@ count-sum t u w (suc n) apart left right =
     split (u n)
     (λ f. omega (arith, below, count-out t n e, count-in u n f, count-in w n (right n (omega arith) f)))
     (λ f. omega (arith, below, count-out t n e, count-out u n f, count-next w n)))
+
+-- x passes the weaker test alone
+pub count-strict : (t u : ℕ → Bool) (n x : ℕ) → x < n → t x ≡ false → u x ≡ true → ((i : ℕ) → i < n → t i ≡ true → u i ≡ true)
+    → count t n < count u n
+count-strict t u n x l fails passes weaker =
+    let only : ℕ → Bool = λ i. eqb i x in
+    let both = count-sum t only u n (λ i k e. ne-eqb i x (λ is. true≢false (sym e ∙ ap t is ∙ fails)))
+    weaker (λ i k e. ap u (eqb-true i x e) ∙ passes) in
+    omega (arith, both, count-positive only n x l (eq-eqb x x refl))
 
 pub count-swap : (s t : Bool) (n : ℕ)
     → cond s (suc (cond t (suc n) n)) (cond t (suc n) n) ≡ cond t (suc (cond s (suc n) n)) (cond s (suc n) n)

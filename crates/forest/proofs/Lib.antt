@@ -9,4 +9,5 @@ pub mod Linking
 pub mod Raising
 pub mod Later
 pub mod Roots
+pub mod Low
 pub mod Groups
