@@ -60,7 +60,7 @@ module _ {head : Head} {past : List Happening} {times : ℕ} where
   phase-current (current e r c) b = c
   phase-current (waiting l r w) b = absurd (true≢false (sym (r refl) ∙ b))
 
-  phase-waiting : Phase head (head .task .request) past times → isResting head ≡ true → Waiting (head .task .request) past times
+  pub phase-waiting : Phase head (head .task .request) past times → isResting head ≡ true → Waiting (head .task .request) past times
   phase-waiting (over l o) b = absurd (omega arith)
   phase-waiting (current e r c) b = absurd (true≢false (sym b ∙ r))
   phase-waiting (waiting l r w) b = w
@@ -113,6 +113,16 @@ module _ {qs : List Request} {n : ℕ} {B : Labels} {roots₀ : ℕ} {S : State}
 
   -- ---- a grant that serves a head
 
+  -- no entry is beyond this grant
+  pub present-now : (p : ℕ) → p < length qs → Present (momentOf qs n B S) (requestAt qs p)
+  present-now p within =
+      record {
+        nodes = inv .nodes;
+        inside = inside p within;
+        sound = inv .sound;
+        latest = labelsTo-all _ (suc (S .now)) B (S .entries) (λ e m. omega (arith, replayed-fact (inv .entries) e m .until, inv .clock));
+      }
+
   module _ (h : ℕ) (present : h < length (S .heads)) where
     abbrev q : ℕ
     q = headAt S h .task .request
@@ -124,11 +134,16 @@ module _ {qs : List Request} {n : ℕ} {B : Labels} {roots₀ : ℕ} {S : State}
       own-phase : Phase (headAt S h) q past (occurrences q (S .entries))
       own-phase = phase-of inv h q within own-head
 
+      chosen : {b : Bool} → isResting (headAt S h) ≡ b → ready qs (headAt S h) ≡ cond b (begin (requestAt qs q) q) (headAt S h)
+      chosen t = ap (λ b. cond b (begin (requestAt qs q) q) (headAt S h)) t
+
       -- the head goes on
       serving-busy : isResting (headAt S h) ≡ false → Serving qs n B S past h (headAt S h)
       serving-busy busy =
           let c = phase-current own-phase busy in
           record {
+            present = present;
+            is = sym (chosen busy);
             within = within;
             own = own-head;
             position = refl;
@@ -146,6 +161,8 @@ module _ {qs : List Request} {n : ℕ} {B : Labels} {roots₀ : ℕ} {S : State}
           let w = phase-waiting own-phase rests in
           let unlinked = restart-unlinked (requestAt qs q .kind) in
           record {
+            present = present;
+            is = sym (chosen rests);
             within = within;
             own = own-head;
             position = refl;
@@ -167,19 +184,6 @@ module _ {qs : List Request} {n : ℕ} {B : Labels} {roots₀ : ℕ} {S : State}
           split (isResting (headAt S h))
           (λ t. subst (Serving qs n B S past h) (sym (chosen t)) (serving-begun t))
           (λ t. subst (Serving qs n B S past h) (sym (chosen t)) (serving-busy t))
-        where
-          chosen : {b : Bool} → isResting (headAt S h) ≡ b → ready qs (headAt S h) ≡ cond b (begin (requestAt qs q) q) (headAt S h)
-          chosen t = ap (λ b. cond b (begin (requestAt qs q) q) (headAt S h)) t
-
-    -- no entry is beyond this grant
-    present-now : (p : ℕ) → p < length qs → Present (momentOf qs n B S) (requestAt qs p)
-    present-now p within =
-        record {
-          nodes = inv .nodes;
-          inside = inside p within;
-          sound = inv .sound;
-          latest = labelsTo-all _ (suc (S .now)) B (S .entries) (λ e m. omega (arith, replayed-fact (inv .entries) e m .until, inv .clock));
-        }
 
     served-outcome : {head : Head} → Serving qs n B S past h head
         → Outcome (momentOf qs n B S) (touched (S .table) (accessOf head)) (requestAt qs (head .task .request)) (head .stage)
@@ -198,5 +202,5 @@ module _ {qs : List Request} {n : ℕ} {B : Labels} {roots₀ : ℕ} {S : State}
         split (isServed qs ws (S .report) (headAt S h))
         (λ t.
         let serving = serving-ready (served-within qs ws (S .report) (headAt S h) t) in
-        rw t (effect-invariant present inside inv serving (served-effect serving)))
+        rw t (effect-invariant inside inv serving (served-effect serving)))
         (λ t. rw t idle-invariant)

@@ -157,6 +157,10 @@ module _ (q : ℕ) (act : Action) (past : List Happening) where
   served-ended final =
       rw (of-itself, ne-eqb (answerNumber (act .event .answer)) 0 (final-number (act .event .answer) final))
 
+  pub served-used : rowOf q (serving q act ∷ past) .used ≡ suc (rowOf q past .used)
+  unfolding rowOf
+  served-used = rw of-itself
+
   pub served-first : rowOf q (serving q act ∷ past) .first ≢ 0
   unfolding rowOf
   served-first = first-positive (isOf q) (serving q act) past of-itself
@@ -191,6 +195,18 @@ finished-last q past d z = last-there q past d (rw (ne-eqb (answerOf q past) 0 d
 pub row-first-bound : (q : ℕ) (past : List Happening) → rowOf q past .first ≤ length past
 unfolding rowOf
 row-first-bound q past = first-bound (isOf q) past
+
+-- a request that has not begun has used no grant
+unbegun-count : (f : Happening → Bool) (past : List Happening) → firstWhere f past ≡ 0 → countWhere f past ≡ 0
+unbegun-count f [] none = refl
+unbegun-count f (a ∷ past) none =
+    split (f a)
+    (λ t. absurd (first-positive f a past t none))
+    (λ o. count-kept f a past o ∙ unbegun-count f past (sym (first-kept f a past o) ∙ none))
+
+pub unbegun-used : (q : ℕ) (past : List Happening) → rowOf q past .first ≡ 0 → rowOf q past .used ≡ 0
+unfolding rowOf
+unbegun-used q past = unbegun-count (isOf q) past
 
 -- ---- links and points
 

@@ -20,6 +20,9 @@ pub mod Effects
 pub mod Grant
 pub mod Theorem
 pub mod Layer
+pub mod StageLayer
+pub mod Spent
+pub mod Limits
 pub mod Laws
 pub mod Lowest
 pub mod Waits

@@ -37,7 +37,7 @@ use Rattle.rules.specs.declared.Row.{Row}
 use Rattle.rules.specs.Table.{parent, seen}
 use Rattle.rules.specs.Report.{noRow, isFinal, charge}
 use Rattle.rules.specs.State.{State, requestAt, seek, resting}
-use Rattle.rules.specs.Step.{headAt, advanced, settled, served}
+use Rattle.rules.specs.Step.{ready, headAt, advanced, settled, served}
 use Rattle.rules.specs.Action.{Agrees}
 use Rattle.rules.specs.Run.{Happening, actionOf}
 use Rattle.rules.specs.Run.Happening.{serving}
@@ -57,6 +57,9 @@ use Rattle.rules.proofs.Invariant.{Invariant}
 use Rattle.rules.proofs.Invariant.Phase.{over, current, waiting}
 
 pub record Serving (qs : List Request) (n : ℕ) (B : Labels) (S : State) (past : List Happening) (h : ℕ) (head : Head) : Type 0 where
+  -- it is that head as it stands, or as it begins its next request
+  pub present : h < length (S .heads)
+  pub is : head ≡ ready qs (headAt S h)
   pub within : head .task .request < length qs
   pub own : requestAt qs (head .task .request) .head ≡ h
   pub position : headAt S h .task .request ≡ head .task .request
@@ -111,8 +114,8 @@ pub record Effect (qs : List Request) (n : ℕ) (B : Labels) (roots₀ : ℕ) (S
 -- ---- the head that was served
 
 module _ {qs : List Request} {n : ℕ} {B : Labels} {roots₀ : ℕ} {S : State} {past : List Happening} {h : ℕ} {head : Head}
-    (present : h < length (S .heads)) (inside : (q : ℕ) → q < length qs → Inside n (requestAt qs q))
-    (inv : Invariant qs n B roots₀ S past) (serving : Serving qs n B S past h head)
+    (inside : (q : ℕ) → q < length qs → Inside n (requestAt qs q)) (inv : Invariant qs n B roots₀ S past)
+    (serving : Serving qs n B S past h head)
     (effect : Effect qs n B roots₀ S (served qs S h head) (more S head past) (head .task .request) (advanced S head)) where
   abbrev q : ℕ
   q = head .task .request
@@ -219,7 +222,7 @@ module _ {qs : List Request} {n : ℕ} {B : Labels} {roots₀ : ℕ} {S : State}
   seated-each : (k : ℕ) → Dec (k ≡ h) → Seated k (headAt S′ k)
   seated-each k (yes e) =
       subst (λ k. Seated k (headAt S′ k)) (sym e)
-      (subst (Seated h) (sym (getD-set-same (S .heads) h (settled qs h a) (resting 0) present)) (seated (effect .after)))
+      (subst (Seated h) (sym (getD-set-same (S .heads) h (settled qs h a) (resting 0) (serving .present))) (seated (effect .after)))
   seated-each k (no d) = subst (Seated k) (sym (getD-set-other (S .heads) h k (settled qs h a) (resting 0) d)) (seated-other k d)
 
   seats : (k : ℕ) → Seated k (headAt S′ k)

@@ -4,6 +4,7 @@
 --   Moment n            what stands between two grants of a run on n nodes
 --   Apart m q point     the request's two nodes were in two sets at that point
 --   Inside n q          the request's two nodes are nodes
+--   Within n k          so are the two of its task
 --   Finding kind x y    x and y stand for the request's two nodes, and the request is of that kind
 --   Linked x y          the union has linked x, and y is in its set
 --   Pair kind x y b     which of the two, by whether the request has linked
@@ -13,10 +14,11 @@
 --   Knows m q k stage   which of these a head with the task k knows at that stage
 --   Onward m m′         m′ is a later moment than m
 --
--- Main laws: finding-begin and restart-knows, at the start of a request; knows-later, what is known survives any later moment.
+-- Main laws: finding-begin and restart-knows, at the start of a request; knows-within, the two nodes of every task that serves a
+-- request are nodes; knows-later, what is known survives any later moment.
 use mathlib.Core.Path.{_≡_, refl, sym, subst}
 use mathlib.Core.Logic.{_≢_}
-use mathlib.Core.Bool.{Bool, true, false}
+use mathlib.Core.Bool.{Bool, true, false, true≢false}
 use mathlib.Core.List.{List}
 use Prim.Native.Nat.{ℕ, suc, _^_, _≤_, _<_}
 use native.Mathlib.Omega.{arith}
@@ -58,6 +60,11 @@ Apart m q point = m .labelsAt point (q .x) ≢ m .labelsAt point (q .y)
 pub record Inside (n : ℕ) (request : Request) : Type 0 where
   pub x : request .x < n
   pub y : request .y < n
+
+-- The two nodes that a task has come to are nodes.
+pub record Within (n : ℕ) (k : Task) : Type 0 where
+  pub x : k .x < n
+  pub y : k .y < n
 
 -- Every stage before the link.
 pub record Finding (n : ℕ) (B : ℕ → ℕ) (request : Request) (wanted : Kind) (x y : ℕ) : Type 0 where
@@ -138,16 +145,31 @@ pub restart-unlinked : (kind : Kind) → traitsOf (restart kind) .linked ≡ fal
 restart-unlinked Union = refl
 restart-unlinked SameSet = refl
 
--- the node that a find has come to is one
-pub find-node : {n : ℕ} {m : Moment n} {q : Request} {k : Task} {e : Errand} {s : Step} → Searching m q k e s → nodeAt k e < n
-find-node {n} {m} {q} {k} {e} a = go (tidies e) (a .pair)
-  where
-    go : (b : Bool) → Pair n (m .table) (m .labels) q (kindOf e) (k .x) (k .y) b → nodeAt k e < n
-    go false f = cond-both (λ v. v < n) (servesX e) (f .left) (f .right)
-    go true f = cond-both (λ v. v < n) (servesX e) (f .left) (f .right)
+-- ---- what every stage knows
 
--- a pending point is not beyond the present grant
 module _ {n : ℕ} (m : Moment n) (q : Request) (k : Task) where
+  finding-within : {kind : Kind} → Finding n (m .labels) q kind (k .x) (k .y) → Within n k
+  finding-within f = record { x = f .left; y = f .right }
+
+  linked-within : Linked n (m .table) (m .labels) q (k .x) (k .y) → Within n k
+  linked-within a = record { x = a .left; y = a .right }
+
+  pair-within : (kind : Kind) (b : Bool) → Pair n (m .table) (m .labels) q kind (k .x) (k .y) b → Within n k
+  pair-within kind false f = finding-within f
+  pair-within kind true a = linked-within a
+
+  pub knows-within : (st : Stage) → traitsOf st .resting ≡ false → Knows m q k st → Within n k
+  knows-within Resting busy a = absurd (true≢false busy)
+  knows-within (Find e s) busy a = pair-within (kindOf e) (tidies e) (a .pair)
+  knows-within (RereadX point) busy a = finding-within (a .finding)
+  knows-within ReadRankX busy a = finding-within (a .finding)
+  knows-within (ReadRankY rank) busy a = finding-within (a .finding)
+  knows-within (Link rank e) busy a = finding-within (a .finding)
+  knows-within (Raise rank) busy a = linked-within (a .linked)
+  knows-within ReadRankLinked busy a = linked-within a
+  knows-within (RaiseFound rank) busy a = linked-within (a .linked)
+
+  -- a pending point is not beyond the present grant
   pub pending-until : (st : Stage) → Knows m q k st → traitsOf st .pending ≤ m .now
   pending-until Resting a = omega arith
   pending-until (Find e s) a = omega arith
@@ -158,6 +180,12 @@ module _ {n : ℕ} (m : Moment n) (q : Request) (k : Task) where
   pending-until (Raise rank) a = omega arith
   pending-until ReadRankLinked a = omega arith
   pending-until (RaiseFound rank) a = omega arith
+
+-- the node that a find has come to is one
+pub find-node : {n : ℕ} {m : Moment n} {q : Request} {k : Task} {e : Errand} {s : Step} → Searching m q k e s → nodeAt k e < n
+find-node {n} {m} {q} {k} {e} {s} a =
+    let within = knows-within m q k (Find e s) refl a in
+    cond-both (λ v. v < n) (servesX e) (within .x) (within .y)
 
 -- ---- what survives a later moment
 

@@ -73,7 +73,7 @@ module _ (qs : List Request) (m : ℕ) (t : List Node) where
   start-head : (h : ℕ) → h < m → headAt (start qs m t) h ≡ resting (seek qs h 0)
   start-head h l = let same : 0 + h ≡ h = omega arith in headsFrom-at qs 0 m h l ∙ ap (λ i. resting (seek qs i 0)) same
 
-  start-resting : (h : ℕ) → isResting (headAt (start qs m t) h) ≡ true
+  pub start-resting : (h : ℕ) → isResting (headAt (start qs m t) h) ≡ true
   start-resting h = go (decLt h m)
     where
       go : Dec (h < m) → isResting (headAt (start qs m t) h) ≡ true
