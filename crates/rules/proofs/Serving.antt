@@ -83,6 +83,11 @@ unfolding accessOf advanceOf
 served-agrees {qs} {n} {B} {S = S} {head = head} srv =
     stage-agrees (momentOf qs n B S) (head .task) (requestAt qs (head .task .request)) (head .stage) (srv .knows)
 
+-- no step changes the request of its head
+pub served-keeps : (S : State) (head : Head) → advanced S head .head .task .request ≡ head .task .request
+unfolding advanceOf
+served-keeps S head = advance-keeps (head .task) (seen (S .table) (accessOf head)) (suc (S .now)) (head .stage) .request
+
 -- the head before its next request
 abbrev next-head : List Request → ℕ → Advanced → Head
 next-head qs h a = queued (a .head) (seek qs h (suc (a .head .task .request)))
@@ -133,8 +138,7 @@ module _ {qs : List Request} {n : ℕ} {B : Labels} {roots₀ : ℕ} {S : State}
   times p = occurrences p (S′ .entries)
 
   keeps : a .head .task .request ≡ q
-  unfolding advanceOf
-  keeps = advance-keeps (head .task) (seen (S .table) (accessOf head)) (suc (S .now)) (head .stage) .request
+  keeps = served-keeps S head
 
   unserved : (p : ℕ) → p ≢ q → Other p (serving-of S head)
   unserved p d = other-served p q (actionOf S head) d

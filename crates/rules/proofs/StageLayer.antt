@@ -41,10 +41,9 @@ use Rattle.rules.specs.History.{rowOf}
 use Rattle.rules.proofs.History.{other-served, row-other, served-answer, served-used, unbegun-used}
 use Rattle.rules.proofs.Stages.{Moment, Inside, Within, Knows, knows-within}
 use Rattle.rules.proofs.Outcomes.{Present}
-use Rattle.rules.proofs.Steps.{advance-keeps}
 use Rattle.rules.proofs.Positions.{phase-of}
 use Rattle.rules.proofs.Invariant.{momentOf, Invariant}
-use Rattle.rules.proofs.Serving.{Serving, serving-of, more, After, Effect}
+use Rattle.rules.proofs.Serving.{Serving, serving-of, more, served-keeps, After, Effect}
 use Rattle.rules.proofs.Serving.After.{continues, finishes}
 use Rattle.rules.proofs.Grant.{phase-waiting, present-now}
 use Rattle.rules.proofs.Layer.{Layer}
@@ -154,16 +153,12 @@ module _ {Spent : Request → List Node → ℕ → Task → Stage → Type 0} {
         (law .later (effect .kept .later) (requestAt qs p) (rowOf p past .used) (now .task) (now .stage)
         (knows-within (momentOf qs n B S) (requestAt qs p) (now .task) (now .stage) busy (inv .knows k busy)) (holds .busy k busy))
 
-    keeps : a .head .task .request ≡ q
-    unfolding advanceOf
-    keeps = advance-keeps (head .task) (seen (S .table) (accessOf head)) (suc (S .now)) (head .stage) .request
-
     -- the head that goes on with its request
     busy-on : Knows (momentOf qs n B S′) (requestAt qs q) (a .head .task) (a .head .stage) → isResting (a .head) ≡ false
         → Spent (requestAt qs q) (S .table) (suc (rowOf q past .used)) (a .head .task) (a .head .stage)
         → UnderWay Spent qs (S′ .table) past′ (a .head)
     busy-on knows busy spent =
-        rw (keeps, served-used q (actionOf S head) past)
+        rw (served-keeps S head, served-used q (actionOf S head) past)
         (law .later (effect .kept .later) (requestAt qs q) (suc (rowOf q past .used)) (a .head .task) (a .head .stage)
         (knows-within (momentOf qs n B S′) (requestAt qs q) (a .head .task) (a .head .stage) busy knows) spent)
 
