@@ -154,7 +154,7 @@ module _ {n : ℕ} (qs : List Request) (ws : List Wait) (m : ℕ) {s : Start} (b
   granted-start : {gs : List ℕ} → Playable n m qs gs → (h : ℕ) → List·Memᴰ h gs → h < length (first .heads)
   granted-start playable h k = omega (arith, playable .granted h k, length-heads qs 0 m)
 
-  granted-later : (gs hs : List ℕ) → Playable n m qs (gs ++ hs) → (h : ℕ) → List·Memᴰ h hs → h < length (run qs ws first gs .heads)
+  pub granted-later : (gs hs : List ℕ) → Playable n m qs (gs ++ hs) → (h : ℕ) → List·Memᴰ h hs → h < length (run qs ws first gs .heads)
   granted-later gs hs playable h k = omega (arith, granted-start playable h (Memᴰ·append-right gs k), run-heads qs ws first gs)
 
   -- m heads are played with, of which `heads` have requests

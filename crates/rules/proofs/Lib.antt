@@ -24,6 +24,7 @@ pub mod StageLayer
 pub mod Spent
 pub mod Limits
 pub mod Laws
+pub mod Bounds
 pub mod Lowest
 pub mod Waits
 pub mod Heads

@@ -32,6 +32,7 @@ use Rattle.rules.specs.Run.{Happening, actionOf, run, happened}
 use Rattle.rules.specs.Run.Happening.{idle, serving}
 use Rattle.rules.specs.History.{rowOf}
 use Rattle.rules.specs.Linearized.{Playable}
+use Rattle.rules.specs.Bounds.{limit}
 use Rattle.rules.proofs.History.{other-served, row-other, served-used, unbegun-used}
 use Rattle.rules.proofs.Stages.{Inside}
 use Rattle.rules.proofs.Invariant.{Phase, Invariant}
@@ -41,7 +42,7 @@ use Rattle.rules.proofs.Grant.{present-now}
 use Rattle.rules.proofs.Theorem.{Startable, length-heads, start-resting, start-invariant, playable-inside, started-invariant}
 use Rattle.rules.proofs.Layer.{Layer, run-layer}
 use Rattle.rules.proofs.StageLayer.{Spending, stage-layer}
-use Rattle.rules.proofs.Spent.{limit, Spent, Ends, spent-law, under-limit}
+use Rattle.rules.proofs.Spent.{Spent, Done, spent-law, under-limit}
 
 pub record Limited (n levels : ℕ) (kind : Kind) (row : Row) : Type 0 where
   pub most : row .used ≤ limit kind n levels
@@ -55,7 +56,7 @@ some-limit SameSet n levels some = omega arith
 
 module _ {qs : List Request} {n levels : ℕ} (logarithm : (i : ℕ) → 2 ^ i ≤ n → i ≤ levels)
     (inside : (q : ℕ) → q < length qs → Inside n (requestAt qs q)) {B : Labels} {roots₀ : ℕ} {S : State} {past : List Happening}
-    (inv : Invariant qs n B roots₀ S past) (holds : Spending (Spent n levels) (Ends n levels) qs S past) where
+    (inv : Invariant qs n B roots₀ S past) (holds : Spending (Spent n levels) (Done n levels) qs S past) where
   busy-below : (h : ℕ) → isResting (headAt S h) ≡ false
       → rowOf (headAt S h .task .request) past .used < limit (requestAt qs (headAt S h .task .request) .kind) n levels
   busy-below h busy =
@@ -79,10 +80,10 @@ module _ {qs : List Request} {n levels : ℕ} (logarithm : (i : ℕ) → 2 ^ i �
 
 -- ---- every run
 
-start-spending : (Said : Request → List Node → ℕ → Task → Stage → Type 0) (Done : Request → ℕ → ℕ → Type 0) (qs : List Request) (m : ℕ)
-    (t : List Node) → Spending Said Done qs (start qs m t) []
+start-spending : (Said : Request → List Node → ℕ → Task → Stage → Type 0) (Ended : Request → ℕ → ℕ → Type 0) (qs : List Request) (m : ℕ)
+    (t : List Node) → Spending Said Ended qs (start qs m t) []
 unfolding rowOf
-start-spending Said Done qs m t =
+start-spending Said Ended qs m t =
     record {
       busy = λ h busy. absurd (true≢false (sym (start-resting qs m t h) ∙ busy));
       over = λ q l finished. absurd (finished refl);
@@ -96,7 +97,7 @@ run-limited {n} {m} {qs} {gs} playable ws {s} begin levels logarithm q l =
     let first = start qs m (s .table) in
     let holds = run-layer inside (stage-layer (spent-law n levels logarithm) inside) first [] gs
     (λ h k. omega (arith, playable .granted h k, length-heads qs 0 m)) (start-invariant qs m begin)
-    (start-spending (Spent n levels) (Ends n levels) qs m (s .table)) in
+    (start-spending (Spent n levels) (Done n levels) qs m (s .table)) in
     invariant-limited logarithm inside (started-invariant playable ws begin) holds q l
 
 -- ---- a finished request stays so

@@ -2,14 +2,13 @@
 -- try has seen one more such node, or a higher rank; of both there are few. Everywhere n is the number of nodes and `levels` is
 -- not below the base-2 logarithm of n.
 --
---   limit kind n levels    what a request of that kind uses at most
 --   made s                 the grants of a find's round before step s
 --   low-x, low-y           how many nodes that are no roots come before x, and before y
 --   high-x, high-y         the same, with x or y itself where it is none
 --   climbed t k e          the grants that a request has used at most where a find on errand e starts a round
 --   compares, links        the same where both finds have ended: of a same-set, and of a union with the rank that was read of x
 --   joins                  the same where a union has linked
---   Spent, Ends            the statements for each stage and for the end
+--   Spent, Done            the statements for each stage and for the end
 --   Climbs n t v u         the node u stands higher than v
 --   StepsOn q t used a     the step a leads on to what is said with one grant more
 --
@@ -46,16 +45,12 @@ use Rattle.forest.proofs.Low.{beneath, reached, beneath-later, reached-later, b
 use Rattle.forest.proofs.Low.{reached-root, low-few}
 use Rattle.linearization.specs.Partition.{Labels}
 use Rattle.rules.specs.Table.{at, parent, rank, seen}
+use Rattle.rules.specs.Bounds.{limit}
 use Rattle.rules.proofs.Finds.{Above, above-parent}
 use Rattle.rules.proofs.Stages.{Moment, Within, Searching, Knows, knows-within, find-node}
 use Rattle.rules.proofs.Outcomes.{Present}
 use Rattle.rules.proofs.StageLayer.{Stepped, StageLaw}
 use Rattle.rules.proofs.StageLayer.Stepped.{goes, ends}
-
--- document 02, A7
-abbrev pub limit : Kind → ℕ → ℕ → ℕ
-limit Union n levels = 22 * n + 10 * levels
-limit SameSet n levels = 11 * n
 
 record Climbs (n : ℕ) (t : List Node) (v u : ℕ) : Type 0 where
   low : beneath n (parent t) (rank t) v < beneath n (parent t) (rank t) u
@@ -123,8 +118,8 @@ module _ (n levels : ℕ) where
   Spent q t used k ReadRankLinked = used + 2 ≤ limit Union n levels
   Spent q t used k (RaiseFound r) = used + 1 ≤ limit Union n levels
 
-  abbrev pub Ends : Request → ℕ → ℕ → Type 0
-  Ends q answer used = used ≤ limit (q .kind) n levels
+  abbrev pub Done : Request → ℕ → ℕ → Type 0
+  Done q answer used = used ≤ limit (q .kind) n levels
 
   -- ---- where a request begins
 
@@ -169,7 +164,7 @@ module _ (n levels : ℕ) where
   -- ---- grants of its own
 
   abbrev StepsOn : Request → List Node → ℕ → Advanced → Type 0
-  StepsOn q t used a = Stepped Spent Ends q t (suc used) a
+  StepsOn q t used a = Stepped Spent Done q t (suc used) a
 
   module _ {m : Moment n} {q : Request} (present : Present m q) (logarithm : (i : ℕ) → 2 ^ i ≤ n → i ≤ levels) where
     abbrev t : List Node
@@ -323,7 +318,7 @@ module _ (n levels : ℕ) where
         spent-below (RaiseFound r) busy a spent = rw (a .linked .kind) (omega (arith, spent))
 
   module _ (logarithm : (i : ℕ) → 2 ^ i ≤ n → i ≤ levels) where
-    pub spent-law : StageLaw n Spent Ends
+    pub spent-law : StageLaw n Spent Done
     spent-law =
         record {
           begins = λ q t k. begins (q .kind) q t k;

@@ -1,9 +1,9 @@
 -- One induction over the run, for what the grants that a request has used say of its stage: a bound on them is an instance.
 --
 --   Spent q t used k st     what is said of the request q under way: the table, the grants used, its task and its stage
---   Ends q answer used      what is said of it once it is finished
+--   Done q answer used      what is said of it once it is finished
 --   Stepped q t used a      the head's step a leads on to what is said with that many grants used, on the table t
---   StageLaw n Spent Ends   what is to be shown of each stage
+--   StageLaw n Spent Done   what is to be shown of each stage
 --   UnderWay qs t past head what is said of the request that a head serves, its grants told by the history
 --   Spending qs S past      it holds of every head that serves a request, and of every finished request
 --
@@ -48,12 +48,12 @@ use Rattle.rules.proofs.Serving.After.{continues, finishes}
 use Rattle.rules.proofs.Grant.{phase-waiting, present-now}
 use Rattle.rules.proofs.Layer.{Layer}
 
-pub data Stepped (Spent : Request → List Node → ℕ → Task → Stage → Type 0) (Ends : Request → ℕ → ℕ → Type 0)
+pub data Stepped (Spent : Request → List Node → ℕ → Task → Stage → Type 0) (Done : Request → ℕ → ℕ → Type 0)
     (q : Request) (t : List Node) (used : ℕ) (a : Advanced) : Type 0 where
-  goes : a .event .answer ≡ Unfinished → Spent q t used (a .head .task) (a .head .stage) → Stepped Spent Ends q t used a
-  ends : isFinal (a .event .answer) ≡ true → Ends q (answerNumber (a .event .answer)) used → Stepped Spent Ends q t used a
+  goes : a .event .answer ≡ Unfinished → Spent q t used (a .head .task) (a .head .stage) → Stepped Spent Done q t used a
+  ends : isFinal (a .event .answer) ≡ true → Done q (answerNumber (a .event .answer)) used → Stepped Spent Done q t used a
 
-pub record StageLaw (n : ℕ) (Spent : Request → List Node → ℕ → Task → Stage → Type 0) (Ends : Request → ℕ → ℕ → Type 0) : Type 0 where
+pub record StageLaw (n : ℕ) (Spent : Request → List Node → ℕ → Task → Stage → Type 0) (Done : Request → ℕ → ℕ → Type 0) : Type 0 where
   -- it holds where a request begins
   pub begins : (q : Request) (t : List Node) (k : Task) → Spent q t 0 k (restart (q .kind))
   -- every grant of others leaves it
@@ -62,21 +62,21 @@ pub record StageLaw (n : ℕ) (Spent : Request → List Node → ℕ → Task �
   -- a grant of its own leads on, on the table as the grant finds it
   pub steps : {m : Moment n} {q : Request} → Present m q → (k : Task) (st : Stage) → traitsOf st .resting ≡ false → Knows m q k st
       → (used : ℕ) → Spent q (m .table) used k st
-      → Stepped Spent Ends q (m .table) (suc used) (advanceAt k (seen (m .table) (accessAt k st)) (suc (m .now)) st)
+      → Stepped Spent Done q (m .table) (suc used) (advanceAt k (seen (m .table) (accessAt k st)) (suc (m .now)) st)
 
 abbrev pub UnderWay : (Request → List Node → ℕ → Task → Stage → Type 0) → List Request → List Node → List Happening → Head → Type 0
 UnderWay Spent qs t past head =
     Spent (requestAt qs (head .task .request)) t (rowOf (head .task .request) past .used) (head .task) (head .stage)
 
-pub record Spending (Spent : Request → List Node → ℕ → Task → Stage → Type 0) (Ends : Request → ℕ → ℕ → Type 0)
+pub record Spending (Spent : Request → List Node → ℕ → Task → Stage → Type 0) (Done : Request → ℕ → ℕ → Type 0)
     (qs : List Request) (S : State) (past : List Happening) : Type 0 where
   pub busy : (h : ℕ) → isResting (headAt S h) ≡ false → UnderWay Spent qs (S .table) past (headAt S h)
-  pub over : (q : ℕ) → q < length qs → rowOf q past .answer ≢ 0 → Ends (requestAt qs q) (rowOf q past .answer) (rowOf q past .used)
+  pub over : (q : ℕ) → q < length qs → rowOf q past .answer ≢ 0 → Done (requestAt qs q) (rowOf q past .answer) (rowOf q past .used)
 
-module _ {Spent : Request → List Node → ℕ → Task → Stage → Type 0} {Ends : Request → ℕ → ℕ → Type 0} {qs : List Request} where
+module _ {Spent : Request → List Node → ℕ → Task → Stage → Type 0} {Done : Request → ℕ → ℕ → Type 0} {qs : List Request} where
   -- ---- an idle grant
 
-  idle-spending : {S : State} {past : List Happening} → Spending Spent Ends qs S past → Spending Spent Ends qs (passed S) (idle ∷ past)
+  idle-spending : {S : State} {past : List Happening} → Spending Spent Done qs S past → Spending Spent Done qs (passed S) (idle ∷ past)
   idle-spending {S} {past} holds =
       record {
         busy = λ h busy.
@@ -84,15 +84,15 @@ module _ {Spent : Request → List Node → ℕ → Task → Stage → Type 0} {
             subst (λ r. Spent (requestAt qs (now .task .request)) (S .table) (r .used) (now .task) (now .stage))
             (sym (row-other (now .task .request) idle past refl)) (holds .busy h busy);
         over = λ q l.
-            subst (λ r. r .answer ≢ 0 → Ends (requestAt qs q) (r .answer) (r .used)) (sym (row-other q idle past refl)) (holds .over q l);
+            subst (λ r. r .answer ≢ 0 → Done (requestAt qs q) (r .answer) (r .used)) (sym (row-other q idle past refl)) (holds .over q l);
       }
 
   -- ---- a grant that serves a head
 
-  module _ {n : ℕ} (law : StageLaw n Spent Ends) (inside : (q : ℕ) → q < length qs → Inside n (requestAt qs q)) {B : Labels} {roots₀ : ℕ}
+  module _ {n : ℕ} (law : StageLaw n Spent Done) (inside : (q : ℕ) → q < length qs → Inside n (requestAt qs q)) {B : Labels} {roots₀ : ℕ}
       {S : State} {past : List Happening} {h : ℕ} {head : Head} (inv : Invariant qs n B roots₀ S past) (srv : Serving qs n B S past h head)
       (effect : Effect qs n B roots₀ S (served qs S h head) (more S head past) (head .task .request) (advanced S head))
-      (holds : Spending Spent Ends qs S past) where
+      (holds : Spending Spent Done qs S past) where
     abbrev q : ℕ
     q = head .task .request
 
@@ -116,7 +116,7 @@ module _ {Spent : Request → List Node → ℕ → Task → Stage → Type 0} {
         (law .begins (requestAt qs (now .task .request)) (S .table) _))
         (λ busy. rw busy (holds .busy h busy)))
 
-    stepped : Stepped Spent Ends (requestAt qs q) (S .table) (suc (rowOf q past .used)) a
+    stepped : Stepped Spent Done (requestAt qs q) (S .table) (suc (rowOf q past .used)) a
     unfolding accessOf advanceOf
     stepped =
         law .steps (present-now inside inv q (srv .within)) (head .task) (head .stage) (srv .busy) (srv .knows) (rowOf q past .used)
@@ -124,20 +124,20 @@ module _ {Spent : Request → List Node → ℕ → Task → Stage → Type 0} {
 
     -- ---- finished requests
 
-    over-own : rowOf q past′ .answer ≢ 0 → Ends (requestAt qs q) (rowOf q past′ .answer) (rowOf q past′ .used)
+    over-own : rowOf q past′ .answer ≢ 0 → Done (requestAt qs q) (rowOf q past′ .answer) (rowOf q past′ .used)
     over-own finished = go stepped
       where
-        go : Stepped Spent Ends (requestAt qs q) (S .table) (suc (rowOf q past .used)) a
-            → Ends (requestAt qs q) (rowOf q past′ .answer) (rowOf q past′ .used)
+        go : Stepped Spent Done (requestAt qs q) (S .table) (suc (rowOf q past .used)) a
+            → Done (requestAt qs q) (rowOf q past′ .answer) (rowOf q past′ .used)
         go (goes none spent) = absurd (finished (served-answer q (actionOf S head) past ∙ ap answerNumber none))
         go (ends final is) = rw (served-answer q (actionOf S head) past, served-used q (actionOf S head) past) is
 
     over-each : (p : ℕ) → p < length qs → Dec (p ≡ q) → rowOf p past′ .answer ≢ 0
-        → Ends (requestAt qs p) (rowOf p past′ .answer) (rowOf p past′ .used)
+        → Done (requestAt qs p) (rowOf p past′ .answer) (rowOf p past′ .used)
     over-each p l (yes e) =
-        subst (λ k. rowOf k past′ .answer ≢ 0 → Ends (requestAt qs k) (rowOf k past′ .answer) (rowOf k past′ .used)) (sym e) over-own
+        subst (λ k. rowOf k past′ .answer ≢ 0 → Done (requestAt qs k) (rowOf k past′ .answer) (rowOf k past′ .used)) (sym e) over-own
     over-each p l (no d) =
-        subst (λ r. r .answer ≢ 0 → Ends (requestAt qs p) (r .answer) (r .used))
+        subst (λ r. r .answer ≢ 0 → Done (requestAt qs p) (r .answer) (r .used))
         (sym (row-other p (serving-of S head) past (other-served p q (actionOf S head) d))) (holds .over p l)
 
     -- ---- heads
@@ -162,7 +162,7 @@ module _ {Spent : Request → List Node → ℕ → Task → Stage → Type 0} {
         (law .later (effect .kept .later) (requestAt qs q) (suc (rowOf q past .used)) (a .head .task) (a .head .stage)
         (knows-within (momentOf qs n B S′) (requestAt qs q) (a .head .task) (a .head .stage) busy knows) spent)
 
-    busy-own : After qs n B S′ past′ q a → Stepped Spent Ends (requestAt qs q) (S .table) (suc (rowOf q past .used)) a
+    busy-own : After qs n B S′ past′ q a → Stepped Spent Done (requestAt qs q) (S .table) (suc (rowOf q past .used)) a
         → isResting (settled qs h a) ≡ false → UnderWay Spent qs (S′ .table) past′ (settled qs h a)
     busy-own (continues none busy knows timed now) (goes _ spent) seated =
         let stays : settled qs h a ≡ a .head = rw none in
@@ -181,12 +181,12 @@ module _ {Spent : Request → List Node → ℕ → Task → Stage → Type 0} {
         subst (λ now. isResting now ≡ false → UnderWay Spent qs (S′ .table) past′ now)
         (sym (getD-set-other (S .heads) h k (settled qs h a) (resting 0) d)) (busy-other k d)
 
-    served-spending : Spending Spent Ends qs S′ past′
+    served-spending : Spending Spent Done qs S′ past′
     served-spending =
         record { busy = λ k. busy-each k (ℕ-discrete k h); over = λ p l. over-each p l (ℕ-discrete p q) }
 
-  pub stage-layer : {n : ℕ} → StageLaw n Spent Ends → ((q : ℕ) → q < length qs → Inside n (requestAt qs q))
-      → {ws : List Wait} {B : Labels} {roots₀ : ℕ} → Layer qs ws n B roots₀ (Spending Spent Ends qs)
+  pub stage-layer : {n : ℕ} → StageLaw n Spent Done → ((q : ℕ) → q < length qs → Inside n (requestAt qs q))
+      → {ws : List Wait} {B : Labels} {roots₀ : ℕ} → Layer qs ws n B roots₀ (Spending Spent Done qs)
   stage-layer law inside =
       record {
         idles = λ inv holds. idle-spending holds;

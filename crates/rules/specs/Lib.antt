@@ -11,4 +11,5 @@ pub mod Cases
 pub mod Linearized
 pub mod Laws
 pub mod Waits
+pub mod Bounds
 pub mod Heads
