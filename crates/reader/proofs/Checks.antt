@@ -32,7 +32,8 @@ use Rattle.jobfile.proofs.RoundTrip.{meaning-number, meaning-accepted, meaning-
 use Rattle.jobfile.proofs.Places.{runs-meant}
 use Rattle.reader.specs.declared.sections.Records.{Records}
 use Rattle.reader.specs.declared.sections.RunSection.{RunSection}
-use Rattle.reader.specs.Reader.{countsOf, Righted, recordsOf, rightSectionOf, requestSectionOf, waitSectionOf, runSectionOf}
+use Rattle.records.specs.Records.{Righted}
+use Rattle.reader.specs.Reader.{countsOf, recordsOf, rightSectionOf, requestSectionOf, waitSectionOf, runSectionOf}
 
 -- What is checked behind the runs,
 abbrev behindRuns : List ℕ → ℕ

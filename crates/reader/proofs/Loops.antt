@@ -28,7 +28,8 @@ use Rattle.jobfile.specs.Meaning.{requestsStart, waitAt, waitRefusal, runAt, ru
 use Rattle.jobfile.proofs.Records.{records-here, records-end, Layout, places, refusal}
 use Rattle.jobfile.proofs.Layouts.{rightLayout, waitLayout, runLayout}
 use Rattle.reader.specs.declared.sections.Records.{Records}
-use Rattle.reader.specs.Reader.{recordsOf, rightSectionOf, runSectionOf, isRecord}
+use Rattle.records.specs.Records.{isRecord}
+use Rattle.reader.specs.Reader.{recordsOf, rightSectionOf, runSectionOf}
 
 module _ {A S : Type 0} (k : Layout A S) (s : List ℕ) (start : ℕ) (none : S) where
   pub record ReadTo (at : ℕ) (before : S) (count : ℕ) : Type 0 where

@@ -19,7 +19,8 @@ use Rattle.jobfile.specs.Written.{longestRuns}
 use Rattle.jobfile.proofs.RoundTrip.{job-meant}
 use Rattle.jobfile.proofs.Places.{file-length, request-stands, wait-stands, run-stands}
 use Rattle.reader.specs.declared.Checked.{Checked}
-use Rattle.reader.specs.Reader.{Playing, Righted}
+use Rattle.records.specs.Records.{Righted}
+use Rattle.reader.specs.Reader.{Playing}
 
 module _ {file : List ℕ} {counts : Checked} (playing : Playing file counts) where
   pub playing-rights : counts .rights ≡ length (meaning file .job .rights)

@@ -2,22 +2,20 @@
 --
 --   countsOf m                  the number of a meaning and the counts of its job
 --   Playing file c              an accepted file, with its counts: what is asked where its records are read
---   Righted file r              r rights stand behind the first record of the file
 --   recordsOf n ts              the refusal n, or how many records stand at the places ts
 --   rightSectionOf h ts t       the refusal or the count of the rights at the places ts, in front of t
 --   requestSectionOf n h rs ts  the refusal or the count of the requests at the places ts, behind the rights rs
 --   waitSectionOf q ts          the refusal or the count of the pairs at the places ts, behind q requests
 --   runSectionOf h ts           the refusal, or the count and the grants, of the runs at the places ts
---   isRecord size m t           a whole record of that size, with the mark m, stands at the place t
 use mathlib.Core.Path.{_≡_}
-use mathlib.Core.Bool.{Bool, false, cond}
+use mathlib.Core.Bool.{cond}
 use mathlib.Core.List.{List, map}
-use Prim.Native.Nat.{ℕ, _≤_}
-use lib.Dec.{eqb, ltb}
+use Prim.Native.Nat.{ℕ}
+use lib.Dec.{eqb}
 use lib.ListN.{length}
 use Rattle.job.specs.declared.Right.{Right}
-use Rattle.jobfile.specs.Format.{rightPlace, word, _then_, noPair}
-use Rattle.jobfile.specs.Meaning.{Meaning, meaning, rightsRefusal, missingRefusal, rightRecords, requestsRefusal, waitsRefusal}
+use Rattle.jobfile.specs.Format.{_then_, noPair}
+use Rattle.jobfile.specs.Meaning.{Meaning, meaning, rightsRefusal, missingRefusal, requestsRefusal, waitsRefusal}
 use Rattle.jobfile.specs.Meaning.{runsRefusal, runAt, fullRun, granted}
 use Rattle.jobfile.specs.Admitted.{Bytes}
 use Rattle.jobfile.specs.Written.{longestRuns}
@@ -45,11 +43,6 @@ pub record Playing (file : List ℕ) (counts : Checked) : Type 0 where
   pub bytes : Bytes file
   pub checked : counts ≡ countsOf (meaning file)
 
--- The rights of a file (02, A5), counted and whole.
-pub record Righted (file : List ℕ) (rights : ℕ) : Type 0 where
-  pub counted : rights ≡ length (rightRecords file)
-  pub within : rightPlace rights ≤ length file
-
 -- The records of a section: its refusal, or how many there are.
 unfoldable pub recordsOf : ℕ → List (List ℕ) → Records
 recordsOf number ts = record { number = number; count = cond (eqb number 0) (length ts) 0 }
@@ -75,7 +68,3 @@ runSectionOf heads ts =
       count = cond (eqb number 0) (length ts) 0;
       grants = cond (eqb number 0) (length (granted (map runAt ts))) 0;
     }
-
--- The whole of a record, with its mark.
-abbrev pub isRecord : ℕ → ℕ → List ℕ → Bool
-isRecord size m t = cond (ltb (length t) size) false (eqb (word t) m)

@@ -1,12 +1,7 @@
 // The reader of job files: it checks a file, and reads the rights (02, A5), the requests, the pairs (02, A3) and the runs of an
 // accepted one where they stand.
-mod records;
 mod sections;
 
-use crate::records::request_here;
-use crate::records::right_of;
-use crate::records::run_here;
-use crate::records::wait_here;
 use crate::sections::close_refusal;
 use crate::sections::header_refusal;
 use crate::sections::read_requests;
@@ -22,6 +17,10 @@ use jobfile::bytes::word_at;
 use jobfile::request_place;
 use jobfile::run_place;
 use jobfile::wait_place;
+use records::request_here;
+use records::right_of;
+use records::run_here;
+use records::wait_here;
 ghost use mathlib.Core.Path.{_≡_};
 ghost use Prim.Native.Nat.{_<_, _≤_};
 ghost use lib.ListN.{length, getD};

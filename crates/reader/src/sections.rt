@@ -1,12 +1,5 @@
 // The sections of a file in order: the header, the rights (02, A5), the requests, the pairs (02, A3), the runs, the close. A
 // number of 0 is no refusal.
-use crate::records::is_record;
-use crate::records::request_refusal;
-use crate::records::right_record_refusal;
-use crate::records::run_here;
-use crate::records::run_refusal;
-use crate::records::wait_here;
-use crate::records::wait_refusal;
 use job::Wait;
 use jobfile::CLOSE_MARK;
 use jobfile::CLOSE_SIZE;
@@ -25,13 +18,21 @@ use jobfile::bytes::sum_words;
 use jobfile::bytes::word_at;
 use jobfile::right_place;
 use jobfile::sizes_refusal;
+use records::is_record;
+use records::request_refusal;
+use records::right_record_refusal;
+use records::run_here;
+use records::run_refusal;
+use records::wait_here;
+use records::wait_refusal;
 ghost use mathlib.Core.Path.{_≡_};
 ghost use Prim.Native.Nat.{_≤_};
 ghost use lib.ListN.{length, drop};
 ghost use Rattle.jobfile.specs.Format.{waitMark, runMark, jobSize, waitSize, runSize, mostBytes, _then_};
 ghost use Rattle.jobfile.specs.Meaning.{records, headerRefusal, missingRefusal, rightRecords, rightsIn, requestsStart, requestRecords};
 ghost use Rattle.jobfile.specs.Meaning.{closeRefusal, balanceRefusal};
-ghost use Rattle.reader.specs.Reader.{Righted, rightSectionOf, requestSectionOf, waitSectionOf, runSectionOf};
+ghost use Rattle.records.specs.Records.{Righted};
+ghost use Rattle.reader.specs.Reader.{rightSectionOf, requestSectionOf, waitSectionOf, runSectionOf};
 
 // The rights, the requests or the pairs of a file: how many there are, or their refusal.
 pub struct Records {

@@ -8,7 +8,7 @@ use lib.ListN.{length, drop}
 use denote.Ref.{now}
 use borrow.Author.Needs.{needs}
 use Rattle.jobfile.specs.Format.{runMark, runSize, word}
-use Rattle.reader.specs.Reader.{isRecord}
+use Rattle.records.specs.Records.{isRecord}
 use Rattle.reader.proofs.Loops.{record-whole, record-marked, RunsTo, runs-start, run-short, runs-next, runs-refused, runs-end}
 use Rattle.reader.proofs.sections.read_runs.Statement.{statement}
 use Rattle.reader.proofs.sections.read_runs.Tie as tie

@@ -9,7 +9,7 @@ use denote.Ref.{now}
 use borrow.Author.Needs.{needs}
 use Rattle.jobfile.specs.Format.{waitMark, waitSize, word, noPair}
 use Rattle.jobfile.proofs.Layouts.{waitLayout}
-use Rattle.reader.specs.Reader.{isRecord}
+use Rattle.records.specs.Records.{isRecord}
 use Rattle.reader.proofs.Loops.{ReadTo, read-start, record-whole, record-marked, wait-short, waits-next}
 use Rattle.reader.proofs.Loops.{records-refused, records-told}
 use Rattle.reader.proofs.sections.read_waits.Statement.{statement}
