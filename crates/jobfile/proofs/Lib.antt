@@ -1,8 +1,7 @@
--- The laws of job files: words and their sum, what a refusal of 0 says, what a higher limit of heads keeps, how records follow
--- one another, runs, and the round trips.
+-- The laws of job files: what a refusal of 0 says, what a higher limit of heads keeps, how records follow one another, runs,
+-- and the round trips.
 pub mod KindNumbers
 pub mod Refusals
-mod Sums
 pub mod Records
 pub mod Kept
 pub mod Chains

@@ -1,5 +1,9 @@
 // The sections of a file in order: the header, the rights (02, A5), the requests, the pairs (02, A3), the runs, the close. A
 // number of 0 is no refusal.
+use fields::bytes::sum_words;
+use fields::bytes::word_at;
+use fields::right_place;
+use fields::sizes_refusal;
 use job::Wait;
 use jobfile::CLOSE_MARK;
 use jobfile::CLOSE_SIZE;
@@ -14,10 +18,6 @@ use jobfile::RUN_SIZE;
 use jobfile::Run;
 use jobfile::WAIT_MARK;
 use jobfile::WAIT_SIZE;
-use jobfile::bytes::sum_words;
-use jobfile::bytes::word_at;
-use jobfile::right_place;
-use jobfile::sizes_refusal;
 use records::is_record;
 use records::request_refusal;
 use records::right_record_refusal;

@@ -1,4 +1,12 @@
 // One record: the right, the request, the pair or the run at a place of the file, and its refusal, 0 for none.
+use fields::bytes::whole_word;
+use fields::bytes::word_at;
+use fields::does_extend;
+use fields::fields_refusal;
+use fields::kind_refusal;
+use fields::pair_refusal;
+use fields::right_place;
+use fields::right_refusal;
 use job::Kind;
 use job::MOST_REQUESTS;
 use job::Request;
@@ -11,14 +19,6 @@ use jobfile::RIGHT_SIZE;
 use jobfile::RUN_SIZE;
 use jobfile::Run;
 use jobfile::WAIT_SIZE;
-use jobfile::bytes::whole_word;
-use jobfile::bytes::word_at;
-use jobfile::does_extend;
-use jobfile::fields_refusal;
-use jobfile::kind_refusal;
-use jobfile::pair_refusal;
-use jobfile::right_place;
-use jobfile::right_refusal;
 ghost use mathlib.Core.Path.{_≡_};
 ghost use Prim.Native.Nat.{_+_, _≤_};
 ghost use lib.ListN.{length, drop};

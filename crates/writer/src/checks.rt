@@ -1,6 +1,13 @@
 // What the writer checks before it writes a byte, in document 01's order with the rights behind the heads (02, A5) and the
 // pairs behind the requests (02, A3), and the length of the file.
 use crate::Written;
+use fields::does_extend;
+use fields::fields_refusal;
+use fields::kind_refusal;
+use fields::pair_refusal;
+use fields::request_place;
+use fields::right_refusal;
+use fields::sizes_refusal;
 use job::MOST_REQUESTS;
 use job::Right;
 use job::Wait;
@@ -11,13 +18,6 @@ use jobfile::MOST_BYTES;
 use jobfile::RUN_SIZE;
 use jobfile::Run;
 use jobfile::WAIT_SIZE;
-use jobfile::does_extend;
-use jobfile::fields_refusal;
-use jobfile::kind_refusal;
-use jobfile::pair_refusal;
-use jobfile::request_place;
-use jobfile::right_refusal;
-use jobfile::sizes_refusal;
 ghost use mathlib.Core.Path.{_≡_};
 ghost use mathlib.Core.List.{_∷_};
 ghost use Prim.Native.Nat.{_+_, _≤_, _<_};

@@ -1,0 +1,2 @@
+-- The laws behind what reader and writer share: words and their sum.
+mod Sums
