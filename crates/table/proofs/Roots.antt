@@ -1,6 +1,9 @@
 -- The walk to a root, on words: each step goes on from the parent, and keys rise to a bound.
 --
---   height words i   how far the key of node i is below the bound
+--   height words i               how far the key of node i is below the bound
+--   Walked words node at above   the walk from node is at a node whose word, just read, names the parent above
+--
+-- Main laws: of a walk where its loop starts, goes on and ends.
 use mathlib.Core.Path.{_≡_, sym, ap, _∙_, subst}
 use mathlib.Core.Logic.{_≢_}
 use mathlib.Core.List.{List, map}
@@ -16,32 +19,47 @@ use Rattle.table.proofs.Words.{parent-decoded}
 abbrev pub height : List ℕ → ℕ → ℕ
 height words i = suc mostRank * nodeLimit - key (rank (map decode words) i) i
 
-module _ (words : List ℕ) (node : ℕ) (admitted : Admitted (length words) (map decode words)) (inside : node < length words)
-    (above : ℕ) (read : above ≡ parentOf (wordAt words node)) where
-  parent-read : parent (map decode words) node ≡ above
-  parent-read = parent-decoded words node inside ∙ sym read
+pub record Walked (words : List ℕ) (node at above : ℕ) : Type 0 where
+  pub inside : at < length words
+  pub read : above ≡ parentOf (wordAt words at)
+  -- where the way leads from here, it leads from the start
+  pub way : (end : ℕ) → Leads (parent (map decode words)) at end → Leads (parent (map decode words)) node end
+
+pub walk-starts : (words : List ℕ) (node above : ℕ) → node < length words → above ≡ parentOf (wordAt words node)
+    → Walked words node node above
+walk-starts words node above inside read = record { inside = inside; read = read; way = λ end way. way }
+
+module _ {words : List ℕ} {node at above : ℕ} (admitted : Admitted (length words) (map decode words))
+    (walked : Walked words node at above) where
+  parent-read : parent (map decode words) at ≡ above
+  parent-read = parent-decoded words at (walked .inside) ∙ sym (walked .read)
 
   pub walk-inside : above < length words
-  walk-inside = omega (arith, parent-read, admitted .inside node inside)
+  walk-inside = omega (arith, parent-read, admitted .inside at (walked .inside))
 
-  pub walk-ends : above ≡ node → Leads (parent (map decode words)) node node
-  walk-ends e = root node (parent-read ∙ e)
+  pub walk-ends : above ≡ at → Leads (parent (map decode words)) node at
+  walk-ends e = walked .way at (root at (parent-read ∙ e))
 
-  no-root : above ≢ node → parent (map decode words) node ≢ node
+  no-root : above ≢ at → parent (map decode words) at ≢ at
   no-root d e = d (sym parent-read ∙ e)
 
-  pub walk-falls : above ≢ node → height words above < height words node
+  pub walk-falls : above ≢ at → height words above < height words at
   walk-falls d =
       omega (
         arith,
         walk-inside,
         parent-read,
         ap (rank (map decode words)) parent-read,
-        admitted .rising node inside (no-root d),
+        admitted .rising at (walked .inside) (no-root d),
         admitted .ranks above walk-inside,
         admitted .few,
       )
 
-  pub walk-goes-on : above ≢ node → (end : ℕ) → Leads (parent (map decode words)) above end → Leads (parent (map decode words)) node end
-  walk-goes-on d end way =
-      up node end (no-root d) (subst (λ v. Leads (parent (map decode words)) v end) (sym parent-read) way)
+  pub walk-goes-on : above ≢ at → (next : ℕ) → next ≡ parentOf (wordAt words above) → Walked words node above next
+  walk-goes-on d next read =
+      record {
+        inside = walk-inside;
+        read = read;
+        way = λ end way. walked .way end
+            (up at end (no-root d) (subst (λ v. Leads (parent (map decode words)) v end) (sym parent-read) way));
+      }

@@ -71,9 +71,11 @@ pub fn root_of(table: &[Word], node: u32) -> u32
     requires { ⌜ node < length (now table) ⌝ }
     ensures { λ r. ⌜ Leads (parent (map decode (now (table .entry)))) node r ⌝ }
 {
-    let above = word::parent(table[node as usize]);
-    if above == node {
-        return node;
+    let mut at = node;
+    let mut above = word::parent(table[at as usize]);
+    while above != at {
+        at = above;
+        above = word::parent(table[at as usize]);
     }
-    root_of(table, above)
+    at
 }
