@@ -4,12 +4,12 @@ use Prim.Native.Nat.{_<_}
 use native.Mathlib.Omega.{arith}
 use borrow.Author.Needs.{needs}
 use Rattle.job.specs.Job.{mostNodes}
-use Rattle.table.proofs.Roots.{Walked, height, walk-starts, walk-inside, walk-ends, walk-falls, walk-goes-on}
+use Rattle.table.proofs.Roots.{Walking, height, walk-starts, walk-inside, walk-ends, walk-falls, walk-goes-on}
 use Rattle.table.proofs.admission.root_of.Statement.{statement}
 use Rattle.table.proofs.admission.root_of.Tie as tie
 
 abbrev Inv-loop : tie.InvT-loop
-Inv-loop table node at₀ above₀ at above = Walked table node at above
+Inv-loop table node at₀ above₀ at above = Walking table node at above
 
 abbrev μ-loop : tie.MeasureT-loop
 μ-loop table node at₀ above₀ at above = height table at
