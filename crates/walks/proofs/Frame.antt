@@ -1,7 +1,6 @@
 -- The locals of a walk by hand: allocated at entry, standing last in the context, freed at the exit.
 --
 --   after        the code after its first n statements
---   locals-at    the locals of a function at the blocks L 0, L 1, ..
 --   Frame        each local, the last first: its cell, which holds a value or is empty, and that it dies; then what stands behind them
 --   allocates    a function is entered: its locals stand last, empty
 --   frees-all    it returns: its locals, empty, are freed
@@ -19,6 +18,7 @@ use ghost.Atoms.{Atoms}
 use types.Kit.{Given, Item, Goal, Seq, Step, ‵, raw, prop, allocs, frees, aim, ⋆, ++⊢, _⊛_, _$_, _∵_, !, step, qed, by, move, use1, split}
 use types.Kit.{join, done, frame}
 use types.Run.{alloc1, alloc0}
+use Rattle.walks.specs.Laid.{locals-at}
 use Rattle.walks.proofs.Context.{swap}
 
 -- ---- the code after its first n statements
@@ -47,10 +47,6 @@ from-first b L zero = b
 from-first b L (suc k) = L k
 
 module _ {M : Type 1} (𝓤 : URA M) (H : Heap 𝓤) where
-  abbrev pub locals-at : List Local → (ℕ → ℕ) → Env 𝓤 H
-  locals-at [] L = []
-  locals-at (local τ h ∷ ls) L = (τ, L zero) ∷ locals-at ls (λ k. L (suc k))
-
   abbrev cell : Ty × ℕ → Option Val → Item 𝓤
   cell e none = ‵ (froom (e .0) (e .1) zero)
   cell e (some v) = ‵ (fat fullShare (e .0) (e .1) zero v)

@@ -21,8 +21,9 @@ use types.Tokens.{lft-new, lft-end}
 use denote.RattleType.{RattleType}
 use denote.Slice.{Room, finally}
 use denote.Steps.{nothing}
+use Rattle.walks.specs.Laid.{SliceLast}
 use Rattle.walks.proofs.Setting.{Setting, Lent, Loan, loan, token, loan-token}
-use Rattle.walks.proofs.Again.{SliceHeld, SliceLent, SliceKept, SliceLast, slice-lends, slice-comes}
+use Rattle.walks.proofs.Again.{SliceHeld, SliceLent, SliceKept, slice-lends, slice-comes}
 use Rattle.walks.proofs.Context.{flip, chain}
 
 pub record Slice : Type 2 where
@@ -48,7 +49,7 @@ entries (s ∷ ss) = (s .lent .entry, entries ss)
 
 abbrev pub Lasts : (ss : List Slice) → Loans ss → Lists ss → Lists ss → Fml
 Lasts [] n b b′ = ftrue
-Lasts (s ∷ ss) n b b′ = fsep (SliceLast (s .T) (n .0) (b .0) (b′ .0)) (Lasts ss (n .1) (b .1) (b′ .1))
+Lasts (s ∷ ss) n b b′ = fsep (SliceLast (s .T) (n .0 .name) (b .0) (b′ .0)) (Lasts ss (n .1) (b .1) (b′ .1))
 
 module _ {M : Type 1} {𝓤 : URA M} where
   abbrev pub Held : (ss : List Slice) → Lists ss → List (Item 𝓤)

@@ -41,7 +41,8 @@ use Rattle.lent.specs.Lent.{Addition}
 use Rattle.walks.proofs.Setting.{Setting, Lent, lent, passed, pointer, token}
 use Rattle.walks.proofs.Carried.{row, value, IsValue, by-value, typed, makes, opens-value, Returned, told-value, tells}
 use Rattle.walks.proofs.Context.{swap, flip, signed, as-signed}
-use Rattle.walks.proofs.Frame.{locals-at, allocates, frees-all}
+use Rattle.walks.specs.Laid.{locals-at}
+use Rattle.walks.proofs.Frame.{allocates, frees-all}
 use Rattle.walks.proofs.Places.{head, copied, behind, also, assigned, landed, answered, argument, forgets}
 use Rattle.lent.proofs.Structs.{tally-struct, progress-struct}
 use Rattle.lent.proofs.tally_after as tally-after

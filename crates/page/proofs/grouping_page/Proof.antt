@@ -46,7 +46,8 @@ use Rattle.walks.proofs.Again.{slice-value, SliceLent, SliceShared, SliceKept, 
 use Rattle.walks.proofs.Again.{slice-reads, slice-read-back}
 use Rattle.walks.proofs.Shared.{ValueShared, ValueKept, value-reads, value-read-back}
 use Rattle.walks.proofs.Context.{flip, becomes-given, becomes-such, taken-out, put-back}
-use Rattle.walks.proofs.Frame.{locals-at, Frame, allocates, frees-all}
+use Rattle.walks.specs.Laid.{locals-at}
+use Rattle.walks.proofs.Frame.{Frame, allocates, frees-all}
 use Rattle.walks.proofs.Places.{copied-field, behind-slice, slice-of, also, assigned, landed, answered, argument, forgets, unit-typed}
 use Rattle.page.specs.declared.Row.{Row}
 use Rattle.page.specs.declared.Paged.{Paged}

@@ -35,7 +35,8 @@ use Rattle.walks.proofs.Setting.{Setting, passed, token, pointer}
 use Rattle.walks.proofs.Carried.{row}
 use Rattle.walks.proofs.Again.{slice-value, SliceHeld}
 use Rattle.walks.proofs.Context.{swap, flip, chain, as-signed, unpaired}
-use Rattle.walks.proofs.Frame.{locals-at, Frame, frees-all}
+use Rattle.walks.specs.Laid.{locals-at}
+use Rattle.walks.proofs.Frame.{Frame, frees-all}
 use Rattle.lent.proofs.Structs.{tally-struct, played-struct}
 use Rattle.lent.proofs.grouping_play_lent as f
 use Rattle.lent.proofs.grouping_play_lent.Code.Mir as mir-of

@@ -49,7 +49,8 @@ use Rattle.walks.proofs.Setting.{Setting, lent, passed, token, needs-both}
 use Rattle.walks.proofs.Carried.{row, typed, sees}
 use Rattle.walks.proofs.Again.{slice-value, SliceHeld}
 use Rattle.walks.proofs.Stored.{element-stored}
-use Rattle.walks.proofs.Frame.{locals-at, Frame, allocates, frees-all}
+use Rattle.walks.specs.Laid.{locals-at}
+use Rattle.walks.proofs.Frame.{Frame, allocates, frees-all}
 use Rattle.walks.proofs.Places.{copied, copied-field, behind, assigned, landed, replaced-last, answered, argument}
 use Rattle.walks.proofs.Places.{forgets}
 use Rattle.page.proofs.Structs.{row-struct, numbers-type}

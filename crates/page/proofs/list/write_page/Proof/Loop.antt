@@ -49,7 +49,8 @@ use Rattle.walks.proofs.Carried.{row, typed}
 use Rattle.walks.proofs.Again.{slice-value, SliceHeld, slice-lends, slice-comes}
 use Rattle.walks.proofs.Places.{copied, copied-field, behind, behind-slice, assigned, landed, replaced-last}
 use Rattle.walks.proofs.Places.{answered, forgets}
-use Rattle.walks.proofs.Frame.{locals-at, Frame, frees-all}
+use Rattle.walks.specs.Laid.{locals-at}
+use Rattle.walks.proofs.Frame.{Frame, frees-all}
 use Rattle.walks.proofs.Copied.{element-out, element-back}
 use Rattle.page.proofs.Structs.{row-struct}
 use Rattle.page.proofs.list.write_page as f

@@ -1,0 +1,2 @@
+-- What walks by hand reckon with.
+pub mod Laid
