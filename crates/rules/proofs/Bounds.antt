@@ -1,7 +1,5 @@
 -- Document 02, A7: every request ends within its limit, at every moment and between any two.
 --
---   Advances q past past′ k   a request that is unfinished in past′ has used at least k grants more there than in past
---
 -- Main laws: levels-logarithm, `levels` is the logarithm; run-bounded, run-ends, of every run from every start.
 use mathlib.Core.Path.{_≡_, refl, sym, ap, _∙_}
 use mathlib.Core.Logic.{_≢_}
@@ -52,9 +50,6 @@ levels-above n few i low = go (decLt (levels n) i)
 
 -- ---- between two moments
 
-abbrev Advances : ℕ → List Happening → List Happening → ℕ → Type 0
-Advances q past past′ k = rowOf q past′ .answer ≡ 0 → rowOf q past .used + k ≤ rowOf q past′ .used
-
 -- a request that has begun stays so, and never gives a grant back
 begun-kept : (q : ℕ) (a : Happening) (past : List Happening) → rowOf q past .first ≢ 0 → rowOf q (a ∷ past) .first ≢ 0
 unfolding rowOf
@@ -74,15 +69,16 @@ module _ {qs : List Request} (ws : List Wait) {n : ℕ} {B : Labels} {roots₀ :
       go (yes e) = e
       go (no finished) = absurd (run-layer inside (finished-layer q) S past gs granted inv finished none)
 
-  run-advances : (S : State) (past : List Happening) (gs : List ℕ) → ((h : ℕ) → List·Memᴰ h gs → h < length (S .heads))
-      → Invariant qs n B roots₀ S past → rowOf q past .first ≢ 0
-      → Advances q past (history qs ws S past gs) (grantsOf (requestAt qs q .head) gs)
-  run-advances S past [] granted inv begun none = omega arith
-  run-advances S past (g ∷ gs) granted inv begun none =
+  -- of a request that has begun and is unfinished at the end, each grant of its head is used
+  run-used : (S : State) (past : List Happening) (gs : List ℕ) → ((h : ℕ) → List·Memᴰ h gs → h < length (S .heads))
+      → Invariant qs n B roots₀ S past → rowOf q past .first ≢ 0 → rowOf q (history qs ws S past gs) .answer ≡ 0
+      → rowOf q past .used + grantsOf (requestAt qs q .head) gs ≤ rowOf q (history qs ws S past gs) .used
+  run-used S past [] granted inv begun none = omega arith
+  run-used S past (g ∷ gs) granted inv begun none =
       let new = happened qs ws S g in
       let h = requestAt qs q .head in
       let unfinished = still-unfinished S past (g ∷ gs) granted inv none in
-      let rest = run-advances (step qs ws S g) (new ∷ past) gs (λ k m. rw (step-heads qs ws S g) (granted k (List·Memᴰ·tail m)))
+      let rest = run-used (step qs ws S g) (new ∷ past) gs (λ k m. rw (step-heads qs ws S g) (granted k (List·Memᴰ·tail m)))
       (step-invariant inside inv g (granted g (List·Memᴰ·head refl)) ws) (begun-kept q new past begun) none in
       split (eqb g h)
       (λ own.
@@ -110,7 +106,7 @@ module _ {n : ℕ} (qs : List Request) (ws : List Wait) (m : ℕ) {s : Start} (b
         let inv = started-invariant (playable-cut gs hs playable) ws begin in
         let row = inv .rows q l in
         let row′ = started-invariant playable ws begin .rows q l ∙ ap (rowOf q) (history-prefix qs ws first [] gs hs) in
-        let more = run-advances ws (playable-inside playable) q l (run qs ws first gs) (history qs ws first [] gs) hs
+        let more = run-used ws (playable-inside playable) q l (run qs ws first gs) (history qs ws first [] gs) hs
         (granted-later qs ws m begin gs hs playable) inv (λ z. begun (ap (λ r. r .first) row ∙ z))
         (sym (ap (λ r. r .answer) row′) ∙ none) in
         omega (

@@ -1,5 +1,5 @@
 -- Document 02, A7: within how many of its own grants a request ends: the numbers, and what holds of every run; the statements, over
--- plain lists. Words in quotation marks are the request's own.
+-- plain lists. Words in quotation marks are the document's own.
 --
 --   levels n              "the whole part of the base-2 logarithm of n"
 --   Logarithm n l         l is that number
