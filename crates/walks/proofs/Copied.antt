@@ -35,7 +35,9 @@ module _ (s : Carried) (x : Lent (List (s .type .D))) where
 
   module _ (i : ℕ) (default : s .type .D) (q : Share) where
     abbrev pub ElementCell : Fml
-    ElementCell = cellAt q (row s .mir) (value s (getD (x .entry) i default) ∷ []) (x .block) (element-offset (mem (row s) .size) (x .offset) i)
+    ElementCell =
+        cellAt q (row s .mir) (value s (getD (x .entry) i default) ∷ []) (x .block)
+        (element-offset (mem (row s) .size) (x .offset) i)
 
     abbrev pub Beside : Fml
     Beside =
