@@ -100,7 +100,7 @@ leaves words report entries tally = record { words = words; report = report; ent
 
 -- The starred cases in document 01's order, each with what document 02 makes of it; after them schedules that reach what they
 -- do not: wrong links that make a cycle, swaps that fail, ranks above 0, unions whose last swap writes; (02, A3) requests that wait;
--- (02, A4) more than sixteen heads.
+-- (02, A4) more than sixteen heads; (02, A7) requests that others keep long.
 abbrev pub cases : List Case
 cases =
     -- One place, union 0 0, two grants: already together; point 2.
@@ -262,4 +262,34 @@ cases =
     -- (02, A4) All 32 heads have work left.
     case 33 32 (neighbours 0 32) [] []
     (leaves (upFrom 0 33) (replicate 32 (row 0 0 0 0)) [] (tally 0 0 0 32))
+    ∷
+    -- (02, A7) A union links between a same-set's two finds, and makes it try again: 13 grants of the 22 that it may take,
+    case 2 2 (sameSet 0 0 0 ∷ union 1 0 1 ∷ []) [] (4 for 1 ++ 1 for 0 ++ 1 for 1 ++ 12 for 0)
+    (leaves (1 ∷ 1 ∷ []) (row 3 5 18 13 ∷ row 0 1 0 5 ∷ []) (entry 6 1 ∷ entry 18 0 ∷ []) (tally 0 0 1 1))
+    ∷
+    -- and the last one is needed.
+    case 2 2 (sameSet 0 0 0 ∷ union 1 0 1 ∷ []) [] (4 for 1 ++ 1 for 0 ++ 1 for 1 ++ 11 for 0)
+    (leaves (1 ∷ 1 ∷ []) (row 0 5 0 12 ∷ row 0 1 0 5 ∷ []) (entry 6 1 ∷ []) (tally 0 0 1 2))
+    ∷
+    -- (02, A7) The same twice, along a chain of three places: 24 grants of 33;
+    case 3 3 (sameSet 0 0 0 ∷ union 1 0 1 ∷ union 2 1 2 ∷ []) []
+    (4 for 1 ++ 4 for 2 ++ 1 for 0 ++ 1 for 1 ++ 11 for 0 ++ 1 for 2 ++ 12 for 0)
+    (leaves (1 ∷ 2 ∷ 2 ∷ []) (row 3 9 34 24 ∷ row 0 1 0 5 ∷ row 0 5 0 5 ∷ [])
+    (entry 10 1 ∷ entry 22 2 ∷ entry 34 0 ∷ []) (tally 0 0 2 2))
+    ∷
+    -- three times, of four places: 35 of 44.
+    case 4 4 (sameSet 0 0 0 ∷ union 1 0 1 ∷ union 2 1 2 ∷ union 3 2 3 ∷ []) []
+    (4 for 1 ++ 4 for 2 ++ 4 for 3 ++ 1 for 0 ++ 1 for 1 ++ 11 for 0 ++ 1 for 2 ++ 11 for 0 ++ 1 for 3 ++ 12 for 0)
+    (leaves (1 ∷ 2 ∷ 3 ∷ 3 ∷ []) (row 3 13 50 35 ∷ row 0 1 0 5 ∷ row 0 5 0 5 ∷ row 0 9 0 5 ∷ [])
+    (entry 14 1 ∷ entry 26 2 ∷ entry 38 3 ∷ entry 50 0 ∷ []) (tally 0 0 3 3))
+    ∷
+    -- (02, A7) A union in the same place: its link fails once, 15 grants of 54;
+    case 2 2 (union 0 0 0 ∷ union 1 0 1 ∷ []) [] (4 for 1 ++ 1 for 0 ++ 1 for 1 ++ 14 for 0)
+    (leaves (1 ∷ 1 ∷ []) (row 2 5 20 15 ∷ row 0 1 0 5 ∷ []) (entry 6 1 ∷ entry 20 0 ∷ []) (tally 0 1 1 1))
+    ∷
+    -- twice, 28 of 76.
+    case 3 3 (union 0 0 0 ∷ union 1 0 1 ∷ union 2 1 2 ∷ []) []
+    (4 for 1 ++ 4 for 2 ++ 1 for 0 ++ 1 for 1 ++ 13 for 0 ++ 1 for 2 ++ 14 for 0)
+    (leaves (1 ∷ 2 ∷ 2 ∷ []) (row 2 9 38 28 ∷ row 0 1 0 5 ∷ row 0 5 0 5 ∷ [])
+    (entry 10 1 ∷ entry 24 2 ∷ entry 38 0 ∷ []) (tally 0 2 2 2))
     ∷ []

@@ -50,4 +50,4 @@ pub record Shown : Type 0 where
   -- what the definitions leave of each case is what is expected of it
   pub holds : map outcome starred ≡ map wanted starred
   -- and no case is missing: the starred ones, and those that reach the traps
-  pub whole : length starred ≡ 50
+  pub whole : length starred ≡ 56
