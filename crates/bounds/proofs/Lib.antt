@@ -1,0 +1,2 @@
+-- The cases of limits hold.
+pub mod Cases
