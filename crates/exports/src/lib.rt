@@ -1,13 +1,16 @@
 // The core's functions for programs in C and Rust: each calls the function that it is named after and promises the same.
 // A slice is passed as a pointer and a length, and a result is returned by value.
+use bounds::Limits;
 use job::Played;
 use listing::Listed;
 use query::Queried;
 use word::Word;
 use writer::Written;
 ghost use mathlib.Core.Path.{_≡_};
+ghost use Rattle.rules.specs.Bounds.{levels, Logarithm};
+ghost use Rattle.bounds.specs.Bounds.{limitsOf};
 ghost use Rattle.player.specs.Player.{left, playedOf};
-ghost use Rattle.player.specs.Demand.{LinearizedHere, LawfulHere, WaitedHere};
+ghost use Rattle.player.specs.Demand.{LinearizedHere, LawfulHere, WaitedHere, BoundedHere};
 ghost use Rattle.writer.specs.Write.{given, writes};
 ghost use Rattle.query.specs.Query.{queried};
 ghost use Rattle.query.specs.Faithful.{Faithful};
@@ -27,6 +30,7 @@ pub extern "C" fn grouping_play(
         → LinearizedHere (now (file .entry)) r (now (table .exit)) (now (report .exit)) (now (linearization .exit))) ⌝ }
     ensures lawful { λ r. ⌜ (r .number ≡ 0 → LawfulHere (now (file .entry)) r (now (table .exit)) (now (report .exit))) ⌝ }
     ensures waited { λ r. ⌜ (r .number ≡ 0 → WaitedHere (now (file .entry)) r (now (report .exit)) (now (linearization .exit))) ⌝ }
+    ensures bounded { λ r. ⌜ (r .number ≡ 0 → BoundedHere (now (file .entry)) r (now (report .exit))) ⌝ }
 {
     player::play(file, table, report, linearization)
 }
@@ -74,4 +78,13 @@ pub extern "C" fn grouping_list(
         ≡ printed played (now (table .entry)) (now (report .entry)) (now (linearization .entry)) (now (out .entry)) ⌝ }
 {
     listing::list(played, table, report, linearization, out)
+}
+
+// Tells how many of its own grants a same-set and a union on that many nodes take at most, whatever the others do.
+#[no_mangle]
+pub extern "C" fn grouping_limits(nodes: u32) -> Limits
+    ensures exact { λ r. ⌜ r ≡ limitsOf nodes ⌝ }
+    ensures logarithm { λ r. ⌜ (r .number ≡ 0 → Logarithm nodes (levels nodes)) ⌝ }
+{
+    bounds::limits_of(nodes)
 }

@@ -39,10 +39,10 @@ use Rattle.player.specs.declared.Plan.{Plan}
 use Rattle.player.specs.Player.{left, leftAt, refusedWith, cutOf, originIn, playedOf, Roomy}
 use Rattle.player.specs.Plan.{idlePlan, acceptedPlan, laidOf, prepared, preparedOf}
 use Rattle.player.specs.Plan.{TurnableOn, TurnedOn, TurnsOn, closedOf}
-use Rattle.player.specs.Demand.{LinearizedHere, LawfulHere, WaitedHere}
+use Rattle.player.specs.Demand.{LinearizedHere, LawfulHere, WaitedHere, BoundedHere}
 use Rattle.player.proofs.Refusals.{refusal, accepted-roomy, refused-left, accepted-left}
 use Rattle.player.proofs.Prepared.{nodes-are, rows-are}
-use Rattle.player.proofs.Demand.{linearized-from, lawful-from, waited-from, origin-initial}
+use Rattle.player.proofs.Demand.{linearized-from, lawful-from, waited-from, bounded-from, origin-initial}
 
 -- ---- one turn on the lent buffers
 
@@ -87,6 +87,7 @@ module _ (E : Entry) where
     pub linearized : result .number ≡ 0 → LinearizedHere file result table report linearization
     pub lawful : result .number ≡ 0 → LawfulHere file result table report
     pub waited : result .number ≡ 0 → WaitedHere file result report linearization
+    pub bounded : result .number ≡ 0 → BoundedHere file result report
 
 module _ (E : Entry) (counts : Checked) where
   open Entry E using (file, table as table₀, report as report₀, linearization as linearization₀)
@@ -220,6 +221,7 @@ module _ (E : Entry) (counts : Checked) where
           linearized = λ z. linearized-from file (origin-initial file) admitted table₀ report₀ linearization₀ _ ended-cut;
           lawful = λ z. lawful-from file (origin-initial file) admitted table₀ report₀ linearization₀ _ ended-cut;
           waited = λ z. waited-from file (origin-initial file) admitted table₀ report₀ linearization₀ _ ended-cut;
+          bounded = λ z. bounded-from file (origin-initial file) admitted table₀ report₀ linearization₀ _ ended-cut;
         }
 
     pub along-end : (result : Played) → result ≡ answer → PlayEnded E (a .table) (a .report) (a .linearization) result
@@ -253,6 +255,7 @@ module _ (E : Entry) (table report linearization : List ℕ) (plan : Plan) (byte
           linearized = λ z. absurd (d (sym number-refused ∙ z));
           lawful = λ z. absurd (d (sym number-refused ∙ z));
           waited = λ z. absurd (d (sym number-refused ∙ z));
+          bounded = λ z. absurd (d (sym number-refused ∙ z));
         }
 
   -- ---- accepted

@@ -3,7 +3,7 @@
 -- Main law: cuts.
 use mathlib.Core.Path.{_≡_, refl, sym, ap, _∙_, subst₂}
 use mathlib.Core.List.{List, [], _∷_, _++_, map}
-use Prim.Native.Nat.{ℕ, zero, suc, _≤_, _<_}
+use Prim.Native.Nat.{ℕ, zero, suc, _*_, _≤_, _<_}
 use native.Mathlib.Omega.{arith}
 use lib.ListN.{length, getD, take, drop, take-append-drop}
 use lib.Seq.{take-all}
@@ -17,15 +17,19 @@ use Rattle.jobfile.proofs.RoundTrip.{written-meaning, admitted-meaning}
 use Rattle.jobfile.proofs.Places.{length-written}
 use Rattle.jobfile.proofs.Cuts.{runs-cut, written-bytes}
 use Rattle.rules.specs.Laws.{Follows}
+use Rattle.rules.specs.Bounds.{Ends}
 use Rattle.rules.specs.Start.{freshStart}
-use Rattle.rules.proofs.Theorem.{initial-startable}
+use Rattle.rules.specs.Linearized.{Playable}
+use Rattle.rules.proofs.Theorem.{Startable, initial-startable}
 use Rattle.rules.proofs.Laws.{run-follows}
+use Rattle.rules.proofs.Bounds.{run-ends}
+use Rattle.stepper.specs.Buffers.{rowsOf}
 use Rattle.stepper.specs.Shown.{stateAfter}
 use Rattle.stepper.proofs.Reached.{cut-granted, after-playable}
 use Rattle.player.specs.Player.{lentRefusal, originIn, leftAt, playedOf}
-use Rattle.player.specs.Cuts.{cut, fileCut, nodesLeft, LongEnough, Cuts}
+use Rattle.player.specs.Cuts.{cut, fileCut, nodesLeft, rowsLeft, LongEnough, Cuts}
 use Rattle.player.proofs.Refusals.{refusal, refusal-lent, accepted-left}
-use Rattle.player.proofs.Demand.{origin-initial, table-back}
+use Rattle.player.proofs.Demand.{origin-initial, table-back, report-back}
 
 -- ---- the grants of a cut
 
@@ -121,16 +125,39 @@ module _ (file : List ℕ) (bytes : Bytes file) (accepts : meaning file .number 
         ap (λ x. map decode (take (j .nodes) (x .table))) (cut-played k)
         ∙ table-back (cut k j) (origin-initial file) (cut-admitted j admitted k) (drop (j .nodes) table)
 
-    cut-follows : (k l : ℕ) → k ≤ l
-        → Follows (j .nodes) (nodesLeft k file table report linearization) (nodesLeft l file table report linearization)
-    cut-follows k l h =
-        let first = take k (j .schedule) in
-        let then = drop k (take l (j .schedule)) in
-        let all : first ++ then ≡ take l (j .schedule) = take-on k l (j .schedule) h in
-        let playable = after-playable j admitted (first ++ then) (λ g m. cut-granted j admitted l g (rw all at m)) in
-        subst₂ (Follows (j .nodes)) (sym (nodes-after k))
-        (sym (nodes-after l ∙ ap (λ gs. stateAfter (originIn file) j gs .table) (sym all)))
-        (run-follows (j .requests) (j .waits) mostHeads (initial-startable (playable .few) (origin-initial file)) first then playable)
+    rows-after : (k : ℕ) → rowsLeft k file table report linearization ≡ stateAfter (originIn file) j (take k (j .schedule)) .report
+    rows-after k =
+        ap (λ x. rowsOf (take (4 * length (j .requests)) (x .report))) (cut-played k)
+        ∙ report-back (cut k j) (origin-initial file) (cut-admitted j admitted k) (drop (4 * length (j .requests)) report)
+
+    -- the grants of the one cut, then those up to the other
+    module _ (k l : ℕ) (h : k ≤ l) where
+      abbrev first : List ℕ
+      first = take k (j .schedule)
+
+      abbrev then : List ℕ
+      then = drop k (take l (j .schedule))
+
+      all : first ++ then ≡ take l (j .schedule)
+      all = take-on k l (j .schedule) h
+
+      playable : Playable (j .nodes) mostHeads (j .requests) (first ++ then)
+      playable = after-playable j admitted (first ++ then) (λ g m. cut-granted j admitted l g (rw all at m))
+
+      startable : Startable (j .nodes) (originIn file)
+      startable = initial-startable (playable .few) (origin-initial file)
+
+      cut-follows : Follows (j .nodes) (nodesLeft k file table report linearization) (nodesLeft l file table report linearization)
+      cut-follows =
+          subst₂ (Follows (j .nodes)) (sym (nodes-after k))
+          (sym (nodes-after l ∙ ap (λ gs. stateAfter (originIn file) j gs .table) (sym all)))
+          (run-follows (j .requests) (j .waits) mostHeads startable first then playable)
+
+      cut-ends : Ends (j .nodes) (j .requests) (rowsLeft k file table report linearization) (rowsLeft l file table report linearization) then
+      cut-ends =
+          subst₂ (λ r r′. Ends (j .nodes) (j .requests) r r′ then) (sym (rows-after k))
+          (sym (rows-after l ∙ ap (λ gs. stateAfter (originIn file) j gs .report) (sym all)))
+          (run-ends (j .requests) (j .waits) mostHeads startable first then playable)
 
   pub cuts : Cuts file
   cuts =
@@ -143,4 +170,5 @@ module _ (file : List ℕ) (bytes : Bytes file) (accepts : meaning file .number 
         whole = λ k all. ap written (whole-cut k all) ∙ written-meaning file bytes accepts;
         played = λ k table report linearization room. cut-played table report linearization room k;
         follows = λ k l h table report linearization room. cut-follows table report linearization room k l h;
+        ends = λ k l h table report linearization room. cut-ends table report linearization room k l h;
       }

@@ -1,7 +1,7 @@
--- Demand 3, the laws of every moment and those of waiting on the buffers: what they hold is what the rules' run leaves, and of
--- that all three hold.
+-- Demand 3, the laws of every moment, those of waiting and the limits of requests on the buffers: what they hold is what the rules'
+-- run leaves, and of that all four hold.
 --
--- Main laws: linearized-from, lawful-from and waited-from; origin-initial, a run may start from what a play starts from.
+-- Main laws: linearized-from, lawful-from, waited-from and bounded-from; origin-initial, a run may start from what a play starts from.
 use mathlib.Core.Path.{_≡_, sym, ap, _∙_, subst, subst₂, subst₃}
 use mathlib.Core.List.{List, _++_, map}
 use Prim.Native.Nat.{ℕ, _*_}
@@ -21,10 +21,12 @@ use Rattle.rules.specs.Start.Initial.{alone}
 use Rattle.rules.specs.Linearized.{Playable, Linearized}
 use Rattle.rules.specs.Laws.{Lawful}
 use Rattle.rules.specs.Waits.{Waited}
+use Rattle.rules.specs.Bounds.{Bounded}
 use Rattle.rules.proofs.Invariant.{Invariant}
 use Rattle.rules.proofs.Theorem.{Startable, initial-startable, linearized}
 use Rattle.rules.proofs.Laws.{run-lawful}
 use Rattle.rules.proofs.Waits.{run-waited}
+use Rattle.rules.proofs.Bounds.{run-bounded}
 use Rattle.stepper.specs.Buffers.{flatRows, rowsOf}
 use Rattle.table.proofs.Words.{decode-words}
 use Rattle.stepper.proofs.Lists.{length-rows, rows-back}
@@ -32,7 +34,7 @@ use Rattle.stepper.proofs.Served.{invariant-worded}
 use Rattle.stepper.proofs.Reached.{admitted-granted, after-playable, after-invariant, after-now}
 use Rattle.turns.specs.Turns.{runOf}
 use Rattle.player.specs.Player.{Left, cutOf, originIn}
-use Rattle.player.specs.Demand.{historyOf, LinearizedFrom, LawfulFrom, WaitedHere}
+use Rattle.player.specs.Demand.{historyOf, LinearizedFrom, LawfulFrom, WaitedHere, BoundedHere}
 
 -- ---- from buffers back to lists
 
@@ -55,7 +57,7 @@ module _ {origin : Start} (j : Job) (initial : Initial (j .nodes) origin) (admit
       ap (map decode) (take-at (map encode (end .table)) lent (j .nodes) (length-map (end .table) encode ∙ run-ended .nodes))
       ∙ decode-words (end .table) (invariant-worded run-ended)
 
-  report-back : (lent : List ℕ) → rowsOf (take (4 * length (j .requests)) (flatRows (end .report) ++ lent)) ≡ end .report
+  pub report-back : (lent : List ℕ) → rowsOf (take (4 * length (j .requests)) (flatRows (end .report) ++ lent)) ≡ end .report
   report-back lent =
       ap rowsOf (take-at (flatRows (end .report)) lent (4 * length (j .requests))
       (length-rows (end .report) ∙ ap (λ k. 4 * k) (run-ended .reports)))
@@ -101,6 +103,11 @@ module _ {origin : Start} (j : Job) (initial : Initial (j .nodes) origin) (admit
       subst₂ (Waited (j .waits)) (sym (report-back report)) (sym (entries-back linearization))
       (run-waited (j .requests) (j .waits) mostHeads startable playable)
 
+  left-bounded : (report : List ℕ)
+      → Bounded (j .nodes) (j .requests) (rowsOf (take (4 * length (j .requests)) (flatRows (end .report) ++ report)))
+  left-bounded report =
+      subst (Bounded (j .nodes) (j .requests)) (sym (report-back report)) (run-bounded (j .requests) (j .waits) mostHeads startable playable)
+
 -- ---- of a file
 
 pub origin-initial : (file : List ℕ) → Initial (meaning file .job .nodes) (originIn file)
@@ -126,3 +133,8 @@ module _ {origin : Start} (file : List ℕ) (initial : Initial (meaning file .jo
   waited-from =
       subst (λ x. WaitedHere file (x .result) (x .report) (x .linearization)) (sym is)
       (left-waited j initial admitted (drop (4 * length (j .requests)) report) (drop (2 * length (runOf origin j .entries)) linearization))
+
+  pub bounded-from : BoundedHere file (left .result) (left .report)
+  bounded-from =
+      subst (λ x. BoundedHere file (x .result) (x .report)) (sym is)
+      (left-bounded j initial admitted (drop (4 * length (j .requests)) report))

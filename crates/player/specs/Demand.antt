@@ -1,10 +1,11 @@
--- Demand 3, the laws of every moment and those of waiting, on what a play leaves in the lent buffers.
+-- Demand 3, the laws of every moment, those of waiting and the limits of requests, on what a play leaves in the lent buffers.
 --
 --   historyOf origin j    what the grants of the job j were, by the rules, from that start
 --   LinearizedFrom        the linearization theorem from a start, of the exit buffers cut to what counts
 --   LawfulFrom            the laws of every moment from a start, of the same and of the play's own counts
 --   LinearizedHere, LawfulHere   the two from what the play starts from
 --   WaitedHere            (02, A3) what holds of the requests that wait, of the same buffers
+--   BoundedHere           (02, A7) no request has used more grants than its limit, of the same report
 use mathlib.Core.List.{List, map}
 use Prim.Native.Nat.{ℕ, _*_}
 use lib.ListN.{take}
@@ -18,6 +19,7 @@ use Rattle.rules.specs.Run.{Happening}
 use Rattle.rules.specs.Linearized.{Linearized}
 use Rattle.rules.specs.Laws.{Lawful}
 use Rattle.rules.specs.Waits.{Waited}
+use Rattle.rules.specs.Bounds.{Bounded}
 use Rattle.stepper.specs.Buffers.{rowsOf}
 use Rattle.stepper.specs.Shown.{historyAfter}
 use Rattle.player.specs.Player.{originIn}
@@ -51,3 +53,7 @@ abbrev pub WaitedHere : List ℕ → Played → List ℕ → List ℕ → Type 0
 WaitedHere file played report linearization =
     Waited (meaning file .job .waits) (rowsOf (take (4 * played .requests) report))
     (entriesOf (take (2 * played .entries) linearization))
+
+abbrev pub BoundedHere : List ℕ → Played → List ℕ → Type 0
+BoundedHere file played report =
+    Bounded (played .nodes) (meaning file .job .requests) (rowsOf (take (4 * played .requests) report))

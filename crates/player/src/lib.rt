@@ -26,7 +26,7 @@ ghost use Rattle.stepper.specs.Index.{Indexes};
 ghost use Rattle.turns.specs.Turns.{buffersOf};
 ghost use Rattle.player.specs.Player.{refusedWith, left, admissionOf, playedOf};
 ghost use Rattle.player.specs.Plan.{idlePlan, laidOf, preparedOf, TurnableOn, TurnsOn, closedOf};
-ghost use Rattle.player.specs.Demand.{LinearizedHere, LawfulHere, WaitedHere};
+ghost use Rattle.player.specs.Demand.{LinearizedHere, LawfulHere, WaitedHere, BoundedHere};
 
 // What is known before the first grant: the counts of the job or a refusal's number, and what the play carries.
 pub struct Plan {
@@ -182,6 +182,7 @@ pub fn play(
         → LinearizedHere (now (file .entry)) r (now (table .exit)) (now (report .exit)) (now (linearization .exit))) ⌝ }
     ensures lawful { λ r. ⌜ (r .number ≡ 0 → LawfulHere (now (file .entry)) r (now (table .exit)) (now (report .exit))) ⌝ }
     ensures waited { λ r. ⌜ (r .number ≡ 0 → WaitedHere (now (file .entry)) r (now (report .exit)) (now (linearization .exit))) ⌝ }
+    ensures bounded { λ r. ⌜ (r .number ≡ 0 → BoundedHere (now (file .entry)) r (now (report .exit))) ⌝ }
 {
     let plan = prepare(file, table, report, linearization);
     let counts = plan.counts;

@@ -82,7 +82,7 @@ returns c =
     let e =
     refused-end (lent made) _ _ _ (made .prepare .result) (made .prepare .ensures .1) (made .prepare .ensures .0) (c .before .if1 .taken)
     (c .refused .result) (c .refused .ensures) in
-    (e .exact, (e .linearized, (e .lawful, e .waited)))
+    (e .exact, (e .linearized, (e .lawful, (e .waited, e .bounded))))
 
 successors-requires : tie.Need-successors-requires Inv-loop μ-loop
 successors-requires c κs = begun c (firstTally _) refl .going .playing
@@ -134,7 +134,7 @@ returns-2 : tie.Need-returns-2 Inv-loop μ-loop
 returns-2 c =
     let e =
     along-end _ _ (along _ _ (here (looped (c .before .before)))) (c .before .if2 .left) (c .closed .result) (c .closed .ensures) in
-    (e .exact, (e .linearized, (e .lawful, e .waited)))
+    (e .exact, (e .linearized, (e .lawful, (e .waited, e .bounded))))
 
 pub play-spec : {M : Type 1} → statement M
 play-spec =
