@@ -1,7 +1,7 @@
 /* Every call of the core once: writes the job that docs/JOBFILE.md shows byte by byte, plays it, plays it again on a
  * lent tally, prints the listing and the page of its groups, and makes an enquiry on the table that it leaves. Then a
- * job in which a request waits for another one, and one whose heads have rights, with a sheet for each. A wrong result
- * ends it with the number of its check. */
+ * job in which a request waits for another one, one whose heads have rights, with a sheet for each, and how long
+ * requests on as many places can take. A wrong result ends it with the number of its check. */
 #include "grouping.h"
 
 #include <stdio.h>
@@ -125,8 +125,16 @@ static int sheets(void) {
     return nobody.number == GROUPING_REFUSED_GRANT && short_of_one.number == GROUPING_REFUSED_BUFFER ? 0 : 10;
 }
 
+/* How many of its own grants a request takes at most where there are four places, as in these jobs. */
+static int limits(void) {
+    struct grouping_limits told = grouping_limits(4);
+    printf("limits 4 %u %u\n", (unsigned)told.same_set_grants, (unsigned)told.union_grants);
+    struct grouping_limits refused = grouping_limits(GROUPING_MOST_PLACES + 1);
+    return told.number == GROUPING_ACCEPTED && refused.number == GROUPING_REFUSED_PLACES ? 0 : 11;
+}
+
 int main(void) {
-    int (*const parts[])(void) = {first_job, groups, waiting_job, sheets};
+    int (*const parts[])(void) = {first_job, groups, waiting_job, sheets, limits};
     for (size_t part = 0; part < sizeof parts / sizeof parts[0]; part++) {
         int wrong = parts[part]();
         if (wrong != 0) {

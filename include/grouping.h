@@ -1,5 +1,5 @@
 /* The grouping core for C and C++: play a job file, write one, make a counter enquiry, print a played job or the sheet
- * of one of its heads, put a table's groups on a page.
+ * of one of its heads, put a table's groups on a page, tell how long a head can be kept.
  *
  * Words. Heads take turns on one table of places, one grant at a time, and work through requests: a union joins the
  * groups of two places, a same-set asks whether two places are in one group. A request may wait for an earlier one:
@@ -62,7 +62,7 @@ enum {
     GROUPING_REFUSED_FILE_TOO_LONG = 1,     /* over 32,768 bytes */
     GROUPING_REFUSED_FILE_ENDS_EARLY = 2,   /* before a record is whole or before the close */
     GROUPING_REFUSED_MARK = 3,              /* a mark not allowed at that position */
-    GROUPING_REFUSED_PLACES = 4,            /* 0 or above 4,096 */
+    GROUPING_REFUSED_PLACES = 4,            /* 0 or above 4,096; also by the caller of grouping_limits */
     GROUPING_REFUSED_HEADS = 5,             /* 0 or above 32 */
     GROUPING_REFUSED_REQUEST_HEAD = 6,      /* not below the heads */
     GROUPING_REFUSED_REQUEST_KIND = 7,      /* neither 1 nor 2 */
@@ -114,7 +114,8 @@ enum {
     GROUPING_STACK_QUERY = 17408,
     GROUPING_STACK_LIST = 1536,
     GROUPING_STACK_SHEET = 36864,
-    GROUPING_STACK_PAGE = 245760
+    GROUPING_STACK_PAGE = 245760,
+    GROUPING_STACK_LIMITS = 128
 };
 
 /* The counters of a play: idle grants, failed swaps, links, and the heads with work left, up to 32. */
@@ -171,6 +172,14 @@ struct grouping_paged {
     uint32_t bytes;
 };
 
+/* number is 0, and the others are the most grants of its own that a same-set and a union take; or the refusal's number
+ * (4) and zeros. */
+struct grouping_limits {
+    uint32_t number;
+    uint32_t same_set_grants;
+    uint32_t union_grants;
+};
+
 /* Plays a job file. table gets a word a place (rank * 65536 + parent), report four numbers a request (answer, first
  * grant, last grant, grants used), lineup two numbers an entry (point, request). */
 struct grouping_played grouping_play(const uint8_t *file, size_t file_length,
@@ -225,6 +234,11 @@ struct grouping_paged grouping_page(const uint32_t *table, size_t table_length,
                                     struct grouping_row *rows, size_t rows_length,
                                     uint8_t *page, size_t page_length);
 
+/* Tells how long a head can be kept, with n places: a same-set ends within 11 * n of its own grants, a union within
+ * 22 * n + 10 * L, L being the whole part of the base-2 logarithm of n. They count from the request's first grant, idle
+ * grants and waiting not included, and hold of every job of that many places, for every order of the others' grants. */
+struct grouping_limits grouping_limits(uint32_t places);
+
 /* The layout that the functions are compiled for. */
 #ifdef __cplusplus
 #define GROUPING_ASSERT(fact) static_assert(fact, #fact)
@@ -266,6 +280,10 @@ GROUPING_ASSERT(sizeof(struct grouping_paged) == 12);
 GROUPING_FIELD(grouping_paged, number, 0);
 GROUPING_FIELD(grouping_paged, rows, 4);
 GROUPING_FIELD(grouping_paged, bytes, 8);
+GROUPING_ASSERT(sizeof(struct grouping_limits) == 12);
+GROUPING_FIELD(grouping_limits, number, 0);
+GROUPING_FIELD(grouping_limits, same_set_grants, 4);
+GROUPING_FIELD(grouping_limits, union_grants, 8);
 
 #undef GROUPING_FIELD
 #undef GROUPING_ASSERT

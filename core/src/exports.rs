@@ -1,6 +1,6 @@
 //! The functions of include/grouping.h, in its order.
 
-use crate::{Listed, Paged, Played, Queried, Row, Tally, Written};
+use crate::{Limits, Listed, Paged, Played, Queried, Row, Tally, Written};
 
 extern "C" {
     pub fn grouping_play(
@@ -77,4 +77,6 @@ extern "C" {
         page: *mut u8,
         page_length: usize,
     ) -> Paged;
+
+    pub fn grouping_limits(places: u32) -> Limits;
 }

@@ -1,6 +1,6 @@
 //! Safe Rust over the proved grouping core: play a job file, with a tally of its own or on one that
 //! is lent, write one, make a counter enquiry, print a played job or the sheet of one of its heads,
-//! put a table's groups on a page.
+//! put a table's groups on a page, tell how long a head can be kept.
 //!
 //! Heads take turns on one table of places, one grant at a time, and work through requests: a union
 //! joins the groups of two places, a same-set asks whether two places are in one group. A request may
@@ -50,7 +50,7 @@ mod results;
 struct Readme;
 
 pub use numbers::*;
-pub use results::{Listed, Paged, Played, Queried, Row, Tally, Written};
+pub use results::{Limits, Listed, Paged, Played, Queried, Row, Tally, Written};
 
 // In all calls each pointer and length come from one slice, which is valid for the call and, where
 // it is written, held by nobody else; so is the tally. The functions keep no pointer.
@@ -329,4 +329,25 @@ pub fn page(table: &[u32], rows: &mut [Row], page: &mut [u8]) -> Paged {
             page.len(),
         )
     }
+}
+
+/// Tells how long a head can be kept, with n places: a same-set ends within 11 × n of its own grants,
+/// a union within 22 × n + 10 × L, L being the whole part of the base-2 logarithm of n. They count from
+/// the request's first grant, idle grants and waiting not included, and hold of every job of that many
+/// places, for every order of the others' grants. Refused with 4.
+///
+/// ```
+/// use grouping_core::{limits, Refusal};
+///
+/// // 64 is 2 to the power of 6.
+/// let told = limits(64).result()?;
+/// assert_eq!((told.same_set_grants, told.union_grants), (11 * 64, 22 * 64 + 10 * 6));
+///
+/// assert_eq!(limits(0).result(), Err(Refusal::Places));
+/// assert_eq!(limits(4_097).result(), Err(Refusal::Places));
+/// # Ok::<(), Refusal>(())
+/// ```
+pub fn limits(places: u32) -> Limits {
+    // SAFETY: one number.
+    unsafe { exports::grouping_limits(places) }
 }

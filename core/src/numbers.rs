@@ -60,6 +60,8 @@ pub mod stack {
     pub const SHEET: usize = 36_864;
     /// [`page`](crate::page)
     pub const PAGE: usize = 245_760;
+    /// [`limits`](crate::limits)
+    pub const LIMITS: usize = 128;
 }
 
 /// What a request was told: the first of its four numbers in the report.

@@ -101,6 +101,19 @@ pub struct Paged {
     pub bytes: u32,
 }
 
+/// The most grants of its own that a request takes, or a refusal's number (4) and zeros.
+#[must_use = "a refusal is told only here"]
+#[repr(C)]
+#[derive(Clone, Copy, Debug, Default, PartialEq, Eq)]
+pub struct Limits {
+    /// 0, or the refusal's.
+    pub number: u32,
+    /// Grants of a same-set.
+    pub same_set_grants: u32,
+    /// Grants of a union.
+    pub union_grants: u32,
+}
+
 impl Queried {
     /// Yes or no; none where the allowance was spent or the enquiry was refused.
     #[must_use]
@@ -124,7 +137,7 @@ macro_rules! result {
     )*};
 }
 
-result!(Played Written Queried Listed Paged);
+result!(Played Written Queried Listed Paged Limits);
 
 /// The layout that the functions are compiled for.
 macro_rules! layout {
@@ -144,4 +157,5 @@ layout! {
     Listed 16: number 0, bytes 8;
     Row 16: lowest 0, size 4, root 8, rank 12;
     Paged 12: number 0, rows 4, bytes 8;
+    Limits 12: number 0, same_set_grants 4, union_grants 8;
 }

@@ -43,6 +43,7 @@ fn of_the_crate() -> BTreeMap<String, u64> {
         ("LIST", stack::LIST),
         ("SHEET", stack::SHEET),
         ("PAGE", stack::PAGE),
+        ("LIMITS", stack::LIMITS),
     ] {
         put(format!("STACK_{name}"), number as u64);
     }
