@@ -8,6 +8,7 @@ use std::collections::VecDeque;
 
 use crate::head::{Access, Deed};
 use crate::job::{Job, Kind, Wait};
+use crate::limits;
 use crate::numbers::answer;
 use crate::player::Outcome;
 use crate::replay::Book;
@@ -30,6 +31,7 @@ pub fn check(job: &Job, trace: &[Access], outcome: &Outcome) -> Verdict {
     run.real_time_order()?;
     run.waited()?;
     run.idle_for_a_reason()?;
+    run.limits()?;
     run.replay()
 }
 
@@ -283,6 +285,19 @@ impl<'a> Run<'a> {
             let open = |wait: &Wait| !ended(wait.earlier as usize, now);
             let waits = self.job.waits.iter().filter(own).any(open);
             hold(waits, "a head with work left is idle only where it waits")?;
+        }
+        Ok(())
+    }
+
+    /// A request ends within so many of its own grants. That holds of every cut, too: a request has
+    /// fewer grants there, or is as it is here. Since it takes every grant of its head on its way,
+    /// it ends once its head has had them.
+    fn limits(&self) -> Verdict {
+        for (request, numbers) in self.job.requests.iter().zip(&self.report) {
+            let limit = limits::of(request.kind, self.job.nodes);
+            let finished = numbers.answer != answer::UNFINISHED;
+            hold(numbers.used <= limit, "no request uses more grants than its limit")?;
+            hold(finished || numbers.used < limit, "a request that used its limit is finished")?;
         }
         Ok(())
     }

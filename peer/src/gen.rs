@@ -168,6 +168,61 @@ pub fn held(random: &mut Random) -> Job {
     Job { waits: waits.into_iter().collect(), grants, ..job }
 }
 
+/// A job whose unions along a chain stand before their links. After each link, in any order, one
+/// of the other heads, whose requests are of any nodes of the chain and often of the first one with
+/// itself, has grants for a find or for a whole try.
+pub fn poised(random: &mut Random) -> Job {
+    let nodes = random.between(2, 8);
+    let links = nodes - 1;
+    let heads = random.between(links + 1, MAX_HEADS);
+    let mut requests: Vec<Request> =
+        (0..links).map(|head| Request::union(head as u8, head, head + 1)).collect();
+    for head in links as u8..heads as u8 {
+        let mut request = self::requests(random, nodes, 1, 1)[0];
+        if random.chance(50) {
+            (request.x, request.y) = (0, 0);
+        }
+        requests.push(Request { head, ..request });
+    }
+    // Two reads of roots and two of ranks come before a union's link.
+    let mut grants: Vec<u8> = (0..links as u8).flat_map(|head| [head; 4]).collect();
+    let kept = random.between(links, heads - 1) as u8;
+    grants.push(kept);
+    let mut order: Vec<u8> = (0..links as u8).collect();
+    if random.chance(50) {
+        order.sort_by_cached_key(|_| random.bits());
+    }
+    for linking in order {
+        let other = if random.chance(90) { kept } else { random.below(heads) as u8 };
+        grants.push(linking);
+        grants.extend(vec![other; random.pick(&[1, 5, 11, 11, 11, 13, 13, 13])]);
+    }
+    let rest = random.between(0, 4 * heads);
+    grants.extend(schedule(random, heads, rest));
+    Job { nodes, heads, rights: Vec::new(), requests, waits: Vec::new(), grants }
+}
+
+/// A request of the first node of a chain with itself is kept long: the unions along the chain
+/// stand before their links, and each links between the request's two finds, so that these end at
+/// two nodes and it tries again.
+pub fn kept_long(kind: Kind, nodes: u32) -> Job {
+    let links = 1..nodes as u8;
+    let mut requests = vec![Request { head: 0, kind, x: 0, y: 0 }];
+    requests
+        .extend(links.clone().map(|head| Request::union(head, u32::from(head) - 1, head.into())));
+    // Five grants for the find from y to the next node, as many as it takes to see that x is no
+    // root any more, and five for the find from x.
+    let a_try = match kind {
+        Kind::SameSet => 5 + 1 + 5,
+        Kind::Union => 5 + 3 + 5,
+    };
+    let mut runs: Vec<(u8, usize)> = links.clone().map(|head| (head, 4)).collect();
+    runs.push((0, 1));
+    runs.extend(links.flat_map(|head| [(head, 1), (0, a_try)]));
+    runs.push((0, 1));
+    Job::new(nodes, nodes, &requests, &runs)
+}
+
 /// Pairs of any requests, at most so many.
 fn pairs(random: &mut Random, requests: u32, most: u32) -> BTreeSet<Wait> {
     let mut pairs = BTreeSet::new();

@@ -1,7 +1,7 @@
 //! A second player of job files, from documents 01 and 02; it shares no code with the core.
 //!
-//! `play`, `job`, `query`, `listing`, `page` and `sheet` are the player; `replay` and `demand` say
-//! what a run must leave; `gen` makes jobs, tables and damage; `player` is how any player, this one
+//! `play`, `job`, `query`, `listing`, `page`, `sheet` and `limits` are the player; `replay` and
+//! `demand` say what a run must leave; `gen` makes jobs, tables and damage; `player` is how any player, this one
 //! or another, is called; `proved`, under the feature `core`, is the proved core as such a player.
 
 #![forbid(unsafe_code)]
@@ -10,6 +10,7 @@ pub mod demand;
 pub mod gen;
 pub mod head;
 pub mod job;
+pub mod limits;
 pub mod listing;
 pub mod numbers;
 pub mod page;

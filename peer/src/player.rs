@@ -2,6 +2,7 @@
 
 use crate::head::Access;
 use crate::job::{self, Draft, Job, Written, MAX_NODES, MAX_REQUESTS};
+use crate::limits::{self, Limits};
 use crate::listing;
 use crate::page::{self, Paged, Row};
 use crate::play::{self, Played};
@@ -20,6 +21,8 @@ pub type List = fn(&[u8]) -> String;
 pub type Page = fn(&[u32], &mut [Row], &mut [u8]) -> Paged;
 /// A file, head, buffer.
 pub type Sheet = fn(&[u8], u32, &mut [u8]) -> Listed;
+/// Nodes.
+pub type LimitsOf = fn(u32) -> Limits;
 
 /// A player as its calls. One that lives elsewhere, behind C functions say, is held against this
 /// crate's by giving its calls these types.
@@ -32,6 +35,7 @@ pub struct Player {
     pub list: List,
     pub page: Page,
     pub sheet: Sheet,
+    pub limits: LimitsOf,
 }
 
 impl Player {
@@ -50,6 +54,7 @@ pub const PEER: Player = Player {
     list: listing::listing,
     page: page::page,
     sheet: sheet::sheet,
+    limits: limits::limits,
 };
 
 /// How many numbers are lent for the table, the report and the line-up.

@@ -3,13 +3,14 @@
 use grouping_core as core;
 
 use crate::job::Written;
+use crate::limits::Limits;
 use crate::page::{Paged, Row};
 use crate::play::{Played, Tally};
 use crate::player::{Outcome, Player, AMPLE};
 use crate::query::Queried;
 use crate::sheet::Listed;
 
-pub const CORE: Player = Player { name: "core", play, write, query, list, page, sheet };
+pub const CORE: Player = Player { name: "core", play, write, query, list, page, sheet, limits };
 /// The core with a tally lent to it.
 pub const LENT: Player = Player { name: "core, tally lent", play: play_lent, ..CORE };
 
@@ -64,6 +65,11 @@ fn page(table: &[u32], rows: &mut [Row], page: &mut [u8]) -> Paged {
 fn sheet(file: &[u8], head: u32, out: &mut [u8]) -> Listed {
     let core::Listed { number, bytes } = core::sheet(file, head, out);
     Listed { number, bytes }
+}
+
+fn limits(nodes: u32) -> Limits {
+    let core::Limits { number, same_set_grants, union_grants } = core::limits(nodes);
+    Limits { number, same_set: same_set_grants, union: union_grants }
 }
 
 fn told(played: core::Played) -> Played {

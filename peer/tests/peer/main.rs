@@ -8,6 +8,7 @@ mod document;
 mod edges;
 mod enquiry;
 mod kept;
+mod limits;
 #[cfg(feature = "core")]
 mod listed;
 mod page;

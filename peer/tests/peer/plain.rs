@@ -11,6 +11,7 @@ use peer::word::{before, parent, rank, word};
 pub enum Turn {
     Right,
     NoWithoutReread,
+    NoTriedAgain,
     LinkAtAnyRank,
     LinkStoresRankOfY,
     NoAtLastGrant,
@@ -32,8 +33,9 @@ pub enum Turn {
     WaitingGrantNotIdle,
 }
 
-pub const WRONG_TURNS: [Turn; 20] = [
+pub const WRONG_TURNS: [Turn; 21] = [
     Turn::NoWithoutReread,
+    Turn::NoTriedAgain,
     Turn::LinkAtAnyRank,
     Turn::LinkStoresRankOfY,
     Turn::NoAtLastGrant,
@@ -219,7 +221,7 @@ impl Program<'_> {
             if self.turn == Turn::NoWithoutReread {
                 return Some(answer::NO);
             }
-            if parent(self.read(x)?) == x {
+            if parent(self.read(x)?) == x && self.turn != Turn::NoTriedAgain {
                 if self.turn == Turn::NoAtLastGrant {
                     self.work.point = self.now();
                 }

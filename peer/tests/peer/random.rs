@@ -5,7 +5,8 @@ use std::collections::BTreeSet;
 use peer::demand;
 use peer::gen::{self, Random};
 use peer::head::Access;
-use peer::job::{self, Job, MAX_HEADS};
+use peer::job::{self, Job, Kind, MAX_HEADS};
+use peer::limits;
 use peer::listing;
 use peer::numbers::answer;
 use peer::play;
@@ -97,6 +98,28 @@ fn jobs_of_which_a_tenth_waits() {
     }
 }
 
+/// The part of its limit that a request has used, in hundredths: the most of a job's requests of a
+/// kind.
+fn most_of_the_limit(job: &Job, kind: Kind) -> u32 {
+    let outcome = Outcome::traced(&job.file().expect("accepted"), AMPLE).0;
+    let rows = job.requests.iter().zip(outcome.report.chunks_exact(4));
+    let own = rows.filter(|(request, _)| request.kind == kind);
+    own.map(|(_, row)| 100 * row[3] / limits::of(kind, job.nodes)).max().unwrap_or(0)
+}
+
+/// Unions that are held before their links keep other requests long.
+#[test]
+fn jobs_that_keep_requests_long() {
+    let (mut of_same_set, mut of_union) = (0, 0);
+    for seed in 0..JOBS / 4 {
+        let job = gen::poised(&mut Random::new(seed));
+        of_same_set = of_same_set.max(most_of_the_limit(&job, Kind::SameSet));
+        of_union = of_union.max(most_of_the_limit(&job, Kind::Union));
+        assert_eq!(check(&job, (seed % 3) as usize), Ok(()), "seed {seed}");
+    }
+    assert!(of_same_set >= 80 && of_union >= 40, "{of_same_set} {of_union}");
+}
+
 #[test]
 fn larger_jobs() {
     for seed in 0..200 {
@@ -129,7 +152,9 @@ fn a_cut_leaves_what_the_grants_before_it_left() {
     let seeded = (0..1_000).map(|seed| gen::contended(&mut Random::new(seed)));
     let waiting = (0..1_000).map(|seed| gen::waiting(&mut Random::new(seed)));
     let held = (0..500).map(|seed| gen::held(&mut Random::new(seed)));
-    for job in seeded.chain(waiting).chain(held).chain(gen::built()).filter(small) {
+    let poised = (0..500).map(|seed| gen::poised(&mut Random::new(seed)));
+    let all = seeded.chain(waiting).chain(held).chain(poised).chain(gen::built());
+    for job in all.filter(small) {
         let (_, trace) = Outcome::traced(&job.file().expect("accepted"), AMPLE);
         for grants in 0..=job.grants.len() {
             let cut = job.cut(grants);

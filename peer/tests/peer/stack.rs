@@ -185,6 +185,13 @@ fn page() {
     measured("page", stack::PAGE, tables.into_iter().map(used));
 }
 
+#[test]
+fn limits() {
+    let mut painted = Painted::new();
+    let used = |places| painted.used(|| _ = core::limits(places));
+    measured("limits", stack::LIMITS, [0, 1, 4_096, 4_097, u32::MAX].into_iter().map(used));
+}
+
 /// A chain of all places: no enquiry that is known takes more grants than the one from its end.
 fn chain() -> Vec<u32> {
     (0..4_096).map(|place: u32| (place + 1).min(4_095)).collect()

@@ -129,3 +129,24 @@ fn demands_want_waits_kept() {
         assert_eq!(verdict(turn, &runs), told, "{turn:?} {runs:?}");
     }
 }
+
+/// A same-set that never says no is right about everything but its end.
+#[test]
+fn demands_want_requests_to_end() {
+    let verdict = |turn, grants| {
+        let job = Job::new(2, 1, &[Request::same_set(0, 0, 1)], &[(0, grants)]);
+        let (outcome, trace) = taking(turn, &job.file().expect("accepted"));
+        demand::check(&job, &trace, &outcome)
+    };
+    let (ends, most) =
+        ("a request that used its limit is finished", "no request uses more grants than its limit");
+    let cases = [
+        (Turn::Right, 23, Ok(())),
+        (Turn::NoTriedAgain, 21, Ok(())),
+        (Turn::NoTriedAgain, 22, Err(ends)),
+        (Turn::NoTriedAgain, 23, Err(most)),
+    ];
+    for (turn, grants, told) in cases {
+        assert_eq!(verdict(turn, grants), told, "{turn:?} {grants}");
+    }
+}
