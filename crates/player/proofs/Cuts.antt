@@ -153,7 +153,8 @@ module _ (file : List ℕ) (bytes : Bytes file) (accepts : meaning file .number 
           (sym (nodes-after l ∙ ap (λ gs. stateAfter (originIn file) j gs .table) (sym all)))
           (run-follows (j .requests) (j .waits) mostHeads startable first then playable)
 
-      cut-ends : Ends (j .nodes) (j .requests) (rowsLeft k file table report linearization) (rowsLeft l file table report linearization) then
+      cut-ends : Ends (j .nodes) (j .requests) (rowsLeft k file table report linearization)
+          (rowsLeft l file table report linearization) then
       cut-ends =
           subst₂ (λ r r′. Ends (j .nodes) (j .requests) r r′ then) (sym (rows-after k))
           (sym (rows-after l ∙ ap (λ gs. stateAfter (originIn file) j gs .report) (sym all)))

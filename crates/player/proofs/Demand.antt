@@ -106,7 +106,8 @@ module _ {origin : Start} (j : Job) (initial : Initial (j .nodes) origin) (admit
   left-bounded : (report : List ℕ)
       → Bounded (j .nodes) (j .requests) (rowsOf (take (4 * length (j .requests)) (flatRows (end .report) ++ report)))
   left-bounded report =
-      subst (Bounded (j .nodes) (j .requests)) (sym (report-back report)) (run-bounded (j .requests) (j .waits) mostHeads startable playable)
+      subst (Bounded (j .nodes) (j .requests)) (sym (report-back report))
+      (run-bounded (j .requests) (j .waits) mostHeads startable playable)
 
 -- ---- of a file
 

@@ -283,7 +283,7 @@ cases =
     (leaves (1 ∷ 2 ∷ 3 ∷ 3 ∷ []) (row 3 13 50 35 ∷ row 0 1 0 5 ∷ row 0 5 0 5 ∷ row 0 9 0 5 ∷ [])
     (entry 14 1 ∷ entry 26 2 ∷ entry 38 3 ∷ entry 50 0 ∷ []) (tally 0 0 3 3))
     ∷
-    -- (02, A7) A union in the same place: its link fails once, 15 grants of 54;
+    -- (02, A7) A union instead of the same-set: its link fails once, 15 grants of 54;
     case 2 2 (union 0 0 0 ∷ union 1 0 1 ∷ []) [] (4 for 1 ++ 1 for 0 ++ 1 for 1 ++ 14 for 0)
     (leaves (1 ∷ 1 ∷ []) (row 2 5 20 15 ∷ row 0 1 0 5 ∷ []) (entry 6 1 ∷ entry 20 0 ∷ []) (tally 0 1 1 1))
     ∷
