@@ -1,6 +1,9 @@
-//! The proved core as a player, through its library.
+//! The proved core as a player, through its library; as such a player too, the core on files that
+//! were text in between.
 
 use grouping_core as core;
+use workbench::draft::Draft;
+use workbench::text::text_of;
 
 use crate::job::Written;
 use crate::limits::Limits;
@@ -14,6 +17,15 @@ pub const CORE: Player = Player { name: "core", play, write, query, list, page, 
 /// The core with a tally lent to it.
 pub const LENT: Player = Player { name: "core, tally lent", play: play_lent, ..CORE };
 
+/// The core, each accepted file taken to the workbench's text and back.
+pub const TEXT: Player = Player {
+    name: "core, by way of text",
+    play: |file, table, report, lineup| play(&by_text(file), table, report, lineup),
+    list: |file| list(&by_text(file)),
+    sheet: |file, head, out| sheet(&by_text(file), head, out),
+    ..CORE
+};
+
 /// What stands in a lent tally before the call.
 const BEFORE: core::Tally = core::Tally {
     idle: 0xA5A5_0000,
@@ -21,6 +33,16 @@ const BEFORE: core::Tally = core::Tally {
     links: 0xA5A5_0002,
     working: 0xA5A5_0003,
 };
+
+/// The file that is written from an accepted file's text, which is the same file; a refused one as it
+/// is.
+fn by_text(file: &[u8]) -> Vec<u8> {
+    let Ok(job) = workbench::job::Job::read(file) else { return file.to_vec() };
+    let draft = Draft::parse(&text_of(&job)).expect("the text of a job can be read");
+    let again = draft.file().expect("and written");
+    assert_eq!(again, file);
+    again
+}
 
 fn play(file: &[u8], table: &mut [u32], report: &mut [u32], lineup: &mut [u32]) -> Played {
     told(core::play(file, table, report, lineup))

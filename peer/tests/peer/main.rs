@@ -29,4 +29,4 @@ mod wrong_turns;
 #[cfg(not(feature = "core"))]
 const PLAYERS: [Player; 1] = [PEER];
 #[cfg(feature = "core")]
-const PLAYERS: [Player; 3] = [PEER, peer::proved::CORE, peer::proved::LENT];
+const PLAYERS: [Player; 4] = [PEER, peer::proved::CORE, peer::proved::LENT, peer::proved::TEXT];
