@@ -5,6 +5,7 @@ use std::fs;
 
 use crate::commands::Command;
 use crate::files;
+use crate::text::decimal;
 
 /// Why a call did not do what it was asked for: what is said of it, on standard error.
 #[derive(Clone, Debug, PartialEq, Eq)]
@@ -52,7 +53,7 @@ impl<'a> Call<'a> {
         let mut call = Call { command, words: Vec::new(), options: Vec::new() };
         let mut rest = rest.iter();
         while let Some(&word) = rest.next() {
-            if !word.starts_with('-') || word == files::STANDARD_INPUT {
+            if !word.starts_with('-') || word == files::STANDARD {
                 call.words.push(word);
             } else if !command.options.contains(&word) {
                 return Err(call.wrong(&format!("there is no option {word}")));
@@ -90,8 +91,7 @@ impl<'a> Call<'a> {
     /// # Errors
     /// A wrong call where it is none, or above the most.
     pub fn number(&self, word: &str, most: u32) -> Result<u32, Failure> {
-        let in_digits = word.bytes().all(|byte| byte.is_ascii_digit());
-        let number = word.parse().ok().filter(|&number| in_digits && number <= most);
+        let number = decimal(word).filter(|&number| number <= most);
         number.ok_or_else(|| self.wrong(&format!("\"{word}\" is no number from 0 to {most}")))
     }
 
@@ -108,7 +108,7 @@ impl<'a> Call<'a> {
     /// # Errors
     /// A file that can't be read.
     pub fn input(&self, most: usize) -> Result<Vec<u8>, Failure> {
-        files::read(self.words[0], most).map_err(|said| Failure::File(format!("grouping: {said}")))
+        files::read(self.words[0], most)
     }
 
     /// The first word's file in what is said of it.
@@ -121,14 +121,15 @@ impl<'a> Call<'a> {
     /// # Errors
     /// A file that can't be written, or that is the one that was read.
     pub fn output(&self, bytes: &[u8]) -> Result<(), Failure> {
-        let path = self.option("-o");
-        if path.is_some_and(|path| is_one_file(path, self.words[0])) {
+        let path = self.option("-o").unwrap_or(files::STANDARD);
+        if is_one_file(path, self.words[0]) {
             return Err(self.wrong("-o names the file that is read"));
         }
-        files::write(path, bytes).map_err(|said| Failure::File(format!("grouping: {said}")))
+        files::write(path, bytes)
     }
 }
 
+/// Whether two names are of one file that is there.
 fn is_one_file(a: &str, b: &str) -> bool {
     matches!((fs::canonicalize(a), fs::canonicalize(b)), (Ok(a), Ok(b)) if a == b)
 }

@@ -157,7 +157,7 @@ impl Command {
 /// The longest text that is read: a file's worth of lines of one grant each, with comments.
 const MOST_TEXT: usize = 1 << 27;
 /// The most grants of a picture that are not idle.
-const MOST_SHOWN: usize = 2_000;
+pub const MOST_SHOWN: usize = 2_000;
 
 fn file(call: &Call) -> Result<(), Failure> {
     let bytes = call.input(MOST_TEXT)?;

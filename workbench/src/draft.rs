@@ -1,12 +1,13 @@
 //! A job's text read: a draft for the writer, and where its records stand.
 
+use std::iter::Peekable;
 use std::str::SplitWhitespace;
 
 use grouping_core::{MOST_GRANTS, MOST_HEADS};
 
 use crate::job::{Job, Request, Right, Wait, Words, KINDS, RIGHTS};
 use crate::refused::Refused;
-use crate::text::NOBODY;
+use crate::text::{decimal, NOBODY};
 
 /// A line that can't be read: what was found there, and what is expected.
 #[derive(Clone, Debug, PartialEq, Eq)]
@@ -21,8 +22,7 @@ impl Fault {
     }
 }
 
-/// Where the records of a text stand, a line number each; of the grants, each line's number and how
-/// many grants there are up to it.
+/// Where the records of a text stand, a line number each.
 #[derive(Clone, Debug, Default, PartialEq, Eq)]
 pub struct Lines {
     pub places: usize,
@@ -30,6 +30,7 @@ pub struct Lines {
     pub rights: Vec<usize>,
     pub requests: Vec<usize>,
     pub waits: Vec<usize>,
+    /// Of each line of grants its number, and how many grants there are up to its end.
     pub grants: Vec<(usize, usize)>,
 }
 
@@ -51,7 +52,7 @@ impl Draft {
         let mut end = 1;
         for (line, text) in (1..).zip(text.trim_start_matches('\u{FEFF}').lines()) {
             let record = text.split('#').next().unwrap_or_default();
-            let mut fields = Fields { line, words: record.split_whitespace() };
+            let mut fields = Fields { line, words: record.split_whitespace().peekable() };
             faults.extend(draft.take(&mut fields).err());
             end = line + 1;
         }
@@ -144,16 +145,21 @@ impl Draft {
 }
 
 const HOW_MANY: &str = "how many grants it has";
+/// How many characters of a word are told.
+const MOST_FOUND: usize = 40;
 
 /// The words of a line that have not been read.
 struct Fields<'a> {
     line: usize,
-    words: SplitWhitespace<'a>,
+    words: Peekable<SplitWhitespace<'a>>,
 }
 
 impl<'a> Fields<'a> {
+    /// A word that is not what is expected; of a long one its beginning, and nothing raw.
     fn fault(&self, found: &str, expected: &str) -> Fault {
-        Fault::new(self.line, &format!("\"{found}\""), expected)
+        let begun: String = found.chars().take(MOST_FOUND).collect();
+        let more = if begun.len() < found.len() { "..." } else { "" };
+        Fault::new(self.line, &format!("{begun:?}{more}"), expected)
     }
 
     fn next(&mut self, expected: &str) -> Result<&'a str, Fault> {
@@ -170,11 +176,8 @@ impl<'a> Fields<'a> {
     /// A decimal number of 32 bits.
     fn number(&mut self, expected: &str) -> Result<u32, Fault> {
         let found = self.next(expected)?;
-        let in_digits = found.bytes().all(|byte| byte.is_ascii_digit());
-        match found.parse() {
-            Ok(number) if in_digits => Ok(number),
-            _ => Err(self.fault(found, &format!("{expected}: a number from 0 to {}", u32::MAX))),
-        }
+        let expected = || format!("{expected}: a number from 0 to {}", u32::MAX);
+        decimal(found).ok_or_else(|| self.fault(found, &expected()))
     }
 
     /// The number that a word stands for.
@@ -187,22 +190,19 @@ impl<'a> Fields<'a> {
 
     /// All heads up to the line's end, a bit each, or that there is none.
     fn sight(&mut self) -> Result<u32, Fault> {
-        let expected = format!("\"{NOBODY}\" or the heads that it may see");
-        if self.words.clone().next() == Some(NOBODY) {
-            self.words.next();
+        if self.words.next_if_eq(&NOBODY).is_some() {
             return Ok(0);
         }
         let mut sight = 0;
         loop {
-            let found = self.words.clone().next().unwrap_or_default().to_owned();
-            let head = self.number(&expected)?;
-            // A head that has no bit in a file is none that the writer could be given.
+            let head = self.number(&format!("\"{NOBODY}\" or the heads that it may see"))?;
+            // A file has no bit for a higher one, so that the writer could not be given it.
             if head >= MOST_HEADS {
-                let below = format!("a head that it may see: a number below {MOST_HEADS}");
-                return Err(self.fault(&found, &below));
+                let expected = format!("a head that it may see: a number below {MOST_HEADS}");
+                return Err(self.fault(&head.to_string(), &expected));
             }
             sight |= 1 << head;
-            if self.words.clone().next().is_none() {
+            if self.words.peek().is_none() {
                 return Ok(sight);
             }
         }

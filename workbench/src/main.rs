@@ -18,7 +18,7 @@ usage: grouping COMMAND ...
        grouping --help | --version
 ";
 const ENDS: &str = "\
-A file's name may be -, which is standard input. Exit status: 0; 1 where the input is refused, with
+A file's name may be -, which is standard input or, behind -o, standard output. Exit status: 0; 1 where the input is refused, with
 the reason on standard error; 2 where the call is wrong; 3 where a file can't be read or written.
 ";
 
@@ -63,5 +63,5 @@ fn help() -> String {
 }
 
 fn say(text: &str) -> Result<(), Failure> {
-    files::write(None, text.as_bytes()).map_err(|said| Failure::File(format!("grouping: {said}")))
+    files::write(files::STANDARD, text.as_bytes())
 }

@@ -21,11 +21,12 @@ impl Refused {
     /// The lines of a draft that the writer has refused with this number.
     pub(crate) fn of(draft: &Draft, refusal: Refusal) -> Refused {
         let Draft { job, lines } = draft;
-        let search = Search { job, refusal };
+        let search = Search { draft, refusal };
         let (places, heads) = ((lines.places, "the places"), (lines.heads, "the heads"));
         let (line, others) = match refusal {
             Refusal::Places => (lines.places, vec![]),
             Refusal::Heads => (lines.heads, vec![]),
+            Refusal::Rights => (lines.rights[search.right()], vec![heads]),
             Refusal::TooManyRequests => (lines.requests[MOST_REQUESTS as usize], vec![]),
             Refusal::RequestHead => (lines.requests[search.request()], vec![heads]),
             Refusal::RequestPlace => (lines.requests[search.request()], vec![places]),
@@ -34,90 +35,78 @@ impl Refused {
                 let right = lines.rights[job.requests[request].head as usize];
                 (lines.requests[request], vec![(right, "its head's rights")])
             }
-            Refusal::Rights => match search.right() {
-                Some(right) => (lines.rights[right], vec![heads]),
-                None => (lines.rights[0], vec![heads]),
-            },
             Refusal::Wait => {
                 let wait = search.wait();
-                let before =
-                    wait.checked_sub(1).map(|before| (lines.waits[before], "the pair before it"));
+                let before = lines.waits[..wait].last().map(|&line| (line, "the pair before it"));
                 (lines.waits[wait], before.into_iter().collect())
             }
-            Refusal::Grant => (search.grant(draft), vec![heads]),
-            // The file is too long, and nothing else is left: the buffer is long enough for every
-            // file, and the text has no other kinds.
-            _ if search.without_grants() => (lines.waits[search.wait()], vec![]),
-            _ => (search.grant(draft), vec![]),
+            Refusal::Grant => (lines.grants[search.grant()].0, vec![heads]),
+            // A file that is too long is left: the text has no other kinds, and the buffer is long
+            // enough.
+            _ if search.is_long_without_grants() => (lines.waits[search.wait()], vec![]),
+            _ => (lines.grants[search.grant()].0, vec![]),
         };
         Refused { refusal, line, others }
     }
 }
 
-/// Shorter lists of a job, given to the writer.
+/// Shorter lists of a draft, given to the writer.
 struct Search<'a> {
-    job: &'a Job,
+    draft: &'a Draft,
     refusal: Refusal,
 }
 
 impl Search<'_> {
-    fn refuses(&self, shorter: &Job) -> bool {
+    fn is_refused(&self, shorter: &Job) -> bool {
         shorter.file() == Err(self.refusal)
     }
 
-    /// The places and heads, with no list.
-    fn bare(&self) -> Job {
-        Job { places: self.job.places, heads: self.job.heads, ..Job::default() }
+    /// The job with no pairs and no grants.
+    fn asked(&self) -> Job {
+        Job { waits: Vec::new(), grants: Vec::new(), ..self.draft.job.clone() }
     }
 
-    fn asked(&self, requests: usize) -> Job {
-        let (rights, requests) = (self.job.rights.clone(), self.job.requests[..requests].to_vec());
-        Job { rights, requests, ..self.bare() }
+    fn is_long_without_grants(&self) -> bool {
+        self.is_refused(&Job { waits: self.draft.job.waits.clone(), ..self.asked() })
     }
 
-    fn without_grants(&self) -> bool {
-        self.refuses(&Job { grants: Vec::new(), ..self.job.clone() })
-    }
-
-    fn request(&self) -> usize {
-        let requests = self.job.requests.len();
-        first(requests, |last| self.refuses(&self.asked(last + 1)))
-    }
-
-    fn wait(&self) -> usize {
-        let waits = &self.job.waits;
-        let asked = self.asked(self.job.requests.len());
-        first(waits.len(), |last| {
-            self.refuses(&Job { waits: waits[..=last].to_vec(), ..asked.clone() })
+    /// The record of rights, with good ones behind it; the last where one is missing behind it.
+    fn right(&self) -> usize {
+        let Job { rights, heads, .. } = &self.draft.job;
+        let good = |head| Right { head, rights: MAY_BOTH, sight: 0 };
+        first(rights.len(), |right| {
+            let behind = (right as u32 + 1..*heads).map(good);
+            let rights = rights[..=right].iter().copied().chain(behind).collect();
+            self.is_refused(&Job { rights, requests: Vec::new(), ..self.asked() })
         })
     }
 
-    /// The record of rights, with good ones behind it; none where they are too few or too many.
-    fn right(&self) -> Option<usize> {
-        let (rights, heads) = (&self.job.rights, self.job.heads);
-        let good = |head| Right { head, rights: MAY_BOTH, sight: 0 };
-        (rights.len() == heads as usize).then(|| {
-            first(rights.len(), |last| {
-                let behind = (last as u32 + 1..heads).map(good);
-                let rights = rights[..=last].iter().copied().chain(behind).collect();
-                self.refuses(&Job { rights, ..self.bare() })
-            })
+    fn request(&self) -> usize {
+        let requests = &self.draft.job.requests;
+        first(requests.len(), |request| {
+            self.is_refused(&Job { requests: requests[..=request].to_vec(), ..self.asked() })
+        })
+    }
+
+    fn wait(&self) -> usize {
+        let waits = &self.draft.job.waits;
+        first(waits.len(), |wait| {
+            self.is_refused(&Job { waits: waits[..=wait].to_vec(), ..self.asked() })
         })
     }
 
     /// The line of grants.
-    fn grant(&self, draft: &Draft) -> usize {
-        let lines = &draft.lines.grants;
-        let asked = Job { waits: self.job.waits.clone(), ..self.asked(self.job.requests.len()) };
-        let at = first(lines.len(), |last| {
-            let grants = self.job.grants[..lines[last].1].to_vec();
-            self.refuses(&Job { grants, ..asked.clone() })
-        });
-        lines[at].0
+    fn grant(&self) -> usize {
+        let Draft { job, lines } = self.draft;
+        first(lines.grants.len(), |line| {
+            let (_, grants) = lines.grants[line];
+            job.file_of(grants) == Err(self.refusal)
+        })
     }
 }
 
-/// The first number that passes, of so many of which the last does, and all behind one that does.
+/// The first number below the count that passes, where all behind one that does do too; the last is
+/// not tried.
 fn first(count: usize, passes: impl Fn(usize) -> bool) -> usize {
     let (mut low, mut high) = (0, count - 1);
     while low < high {

@@ -34,6 +34,11 @@ pub fn text_of(job: &Job) -> String {
     lines.join("\n")
 }
 
+/// The number of 32 bits that decimal digits stand for.
+pub fn decimal(word: &str) -> Option<u32> {
+    word.parse().ok().filter(|_| word.bytes().all(|byte| byte.is_ascii_digit()))
+}
+
 /// `1 grant`, `9 grants`.
 pub fn count(number: usize, name: &str) -> String {
     format!("{number} {name}{}", if number == 1 { "" } else { "s" })

@@ -17,10 +17,10 @@ pub struct Lineup<'a> {
     job: &'a Job,
     story: &'a Story,
     columns: &'a Columns,
-    entries: Vec<Entry>,
-    /// Entries with a point before the story's grants.
+    /// The entries whose points are among the story's grants, and the rows of their names.
+    entries: Vec<(Entry, usize)>,
+    /// How many stand before these.
     before: usize,
-    rows: Vec<usize>,
     middle: i32,
     pub foot: i32,
 }
@@ -29,35 +29,11 @@ impl<'a> Lineup<'a> {
     pub fn of(job: &'a Job, story: &'a Story, columns: &'a Columns, top: i32) -> Lineup<'a> {
         let (entries, before): (Vec<Entry>, Vec<Entry>) =
             story.left.entries().partition(|entry| story.window.has(entry.point));
-        let mut lineup = Lineup {
-            job,
-            story,
-            columns,
-            entries,
-            before: before.len(),
-            rows: Vec::new(),
-            middle: top + DROP,
-            foot: 0,
-        };
-        let spans = lineup.entries.iter().map(|entry| lineup.named_at(entry));
-        let (rows, count) = stacked(spans);
-        lineup.rows = rows;
-        lineup.foot = lineup.middle + DROP + LINE * count.max(1) as i32;
-        lineup
-    }
-
-    /// What an entry is called.
-    fn name(&self, entry: &Entry) -> String {
-        let row = self.story.left.row(entry.request);
-        // A listed request that is not finished has linked.
-        let told = if row.is_finished() { row.answer.to_string() } else { "joined".to_owned() };
-        format!("{}: {told}", entry.request)
-    }
-
-    fn named_at(&self, entry: &Entry) -> (i32, i32) {
-        let (wide, middle) = (width_of(&self.name(entry)), self.columns.middle(entry.point));
-        let left = (middle - wide / 2).max(self.columns.left);
-        (left, left + wide)
+        let (rows, count) = stacked(entries.iter().map(|entry| named_at(story, columns, entry)));
+        let (entries, before) = (entries.into_iter().zip(rows).collect(), before.len());
+        let middle = top + DROP;
+        let foot = middle + DROP + LINE * count.max(1) as i32;
+        Lineup { job, story, columns, entries, before, middle, foot }
     }
 
     /// Whether it went in at an earlier point than the grant that made it known.
@@ -68,7 +44,7 @@ impl<'a> Lineup<'a> {
 
     /// The ties, which the lanes cover.
     pub fn ties(&self, lanes: &Lanes) -> String {
-        let tie = |entry: &Entry| {
+        let tie = |(entry, _): &(Entry, usize)| {
             let (x, top) = (self.columns.middle(entry.point), lanes.bar_foot(entry.request));
             svg::line("tie", &format!("M{x} {top}V{}", self.middle))
         };
@@ -84,7 +60,7 @@ impl<'a> Lineup<'a> {
         }
         let axis = format!("M{} {}H{}", self.columns.left, self.middle, self.columns.right);
         drawn += &svg::line("rule", &axis);
-        for (entry, row) in self.entries.iter().zip(&self.rows) {
+        for (entry, row) in &self.entries {
             let title = format!(
                 "takes effect at grant {}: {}",
                 entry.point,
@@ -92,9 +68,9 @@ impl<'a> Lineup<'a> {
             );
             let (middle, earlier) = (self.columns.middle(entry.point), self.is_earlier(entry));
             drawn += &svg::entry(middle, self.middle, earlier, &title);
+            let (x, _) = named_at(self.story, self.columns, entry);
             let y = self.middle + DROP + 4 + LINE * *row as i32;
-            drawn +=
-                &svg::titled_words("told", self.named_at(entry).0, y, &self.name(entry), &title);
+            drawn += &svg::titled_words("told", x, y, &name(self.story, entry), &title);
             if earlier {
                 let last = self.story.left.row(entry.request).last;
                 let known = format!("known at grant {last}, {title}");
@@ -104,4 +80,19 @@ impl<'a> Lineup<'a> {
         }
         drawn
     }
+}
+
+/// What an entry is called.
+fn name(story: &Story, entry: &Entry) -> String {
+    let row = story.left.row(entry.request);
+    // A request that is listed and not finished has linked.
+    let told = if row.is_finished() { row.answer } else { Answer::Joined };
+    format!("{}: {told}", entry.request)
+}
+
+/// From where to where its name stands.
+fn named_at(story: &Story, columns: &Columns, entry: &Entry) -> (i32, i32) {
+    let (wide, middle) = (width_of(&name(story, entry)), columns.middle(entry.point));
+    let left = (middle - wide / 2).max(columns.left);
+    (left, left + wide)
 }

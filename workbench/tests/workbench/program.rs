@@ -62,6 +62,7 @@ fn a_text_becomes_a_file_and_a_text_again() {
     let written = grouping(&["file", "-"], TEXT.as_bytes());
     assert_eq!(written, Ended { status: 0, out: bytes.clone(), said: String::new() });
     let (text, job) = (own("there.txt"), own("there.job"));
+    assert_eq!(grouping(&["file", "-", "-o", "-"], TEXT.as_bytes()).out, bytes);
     assert_eq!(grouping(&["text", &sample(), "-o", &text], b"").text(), "");
     assert_eq!(grouping(&["file", &text, "-o", &job], b"").text(), "");
     assert_eq!(fs::read(&job).expect("written"), bytes);
@@ -292,6 +293,12 @@ fn help_and_version() {
         let options = command.options.iter().all(|option| command.arguments.contains(option));
         assert!(options, "{}", command.usage());
     }
+    let says = |command: &str, number: usize| {
+        let help = grouping(&[command, "--help"], b"").text();
+        assert!(help.contains(&format!(" {number} ")), "{help}");
+    };
+    says("show", workbench::commands::MOST_SHOWN);
+    says("ask", grouping_core::MOST_ALLOWANCE.into());
 }
 
 /// 2,000 grants that are not idle are drawn; of one more a part is asked for.

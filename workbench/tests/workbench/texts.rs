@@ -137,6 +137,15 @@ fn lines_that_cant_be_read() {
     }
 }
 
+/// A job file where a text is expected: nothing of it is printed raw, and no more than its beginning.
+#[test]
+fn words_are_told_in_part_and_never_raw() {
+    let faults = Draft::parse("DK\u{4}\u{1b}[1m").expect_err("no record");
+    assert!(faults[0].told.starts_with("found \"DK\\u{4}\\u{1b}[1m\", expected"), "{faults:?}");
+    let faults = Draft::parse(&"x".repeat(1_000)).expect_err("no record");
+    assert!(faults[0].told.starts_with(&format!("found {:?}..., expected", "x".repeat(40))));
+}
+
 /// All of them are told.
 #[test]
 fn every_line_that_cant_be_read() {
@@ -162,7 +171,9 @@ const REFUSED: &[(&str, u32, &[usize])] = &[
     ("places 2\nheads 1\nrequest 0 union 0 1\nrequest 0 union 0 1\nwait 1 0\nwait 1 0\nwait 2 0", 18, &[6, 5]),
     ("places 2\nheads 1\nrequest 0 union 0 1\nrequest 0 union 0 1\nwait 1 0\nwait 2 0", 18, &[6, 5]),
     ("places 2\nheads 2\nrights 0 both sees none", 19, &[3, 2]),
-    ("places 2\nheads 1\nrights 0 both sees 0\nrights 1 both sees 0", 19, &[3, 2]),
+    ("places 2\nheads 1\nrights 0 both sees 0\nrights 1 both sees 0", 19, &[4, 2]),
+    ("places 2\nheads 3\nrights 0 both sees 0\nrights 1 both sees 0", 19, &[4, 2]),
+    ("places 2\nheads 3\nrights 1 both sees 0\nrights 1 both sees 0", 19, &[3, 2]),
     ("places 2\nheads 2\nrights 0 both sees 0\nrights 0 both sees 0", 19, &[4, 2]),
     ("places 2\nheads 2\nrights 0 both sees 1\nrights 1 both sees 2", 19, &[4, 2]),
     ("places 2\nheads 2\nrights 0 both sees 2\nrights 0 both sees 2", 19, &[3, 2]),
