@@ -160,15 +160,16 @@ const MOST_TEXT: usize = 1 << 27;
 pub const MOST_SHOWN: usize = 2_000;
 
 fn file(call: &Call) -> Result<(), Failure> {
-    let bytes = call.input(MOST_TEXT)?;
+    let (bytes, name) = (call.input(MOST_TEXT)?, call.input_name());
     if bytes.len() > MOST_TEXT {
-        return Err(Failure::Refused(format!("{}: over {MOST_TEXT} bytes", call.input_name())));
+        return Err(Failure::Refused(format!("{name}: over {MOST_TEXT} bytes")));
     }
-    let draft = Draft::parse(&String::from_utf8_lossy(&bytes))
-        .map_err(|faults| Failure::Refused(faults_of(call.input_name(), &faults)))?;
-    let file = draft
-        .file()
-        .map_err(|refused| Failure::Refused(refused_lines(call.input_name(), &refused)))?;
+    let draft = Draft::parse(&String::from_utf8_lossy(&bytes)).map_err(|faults| {
+        let hint =
+            if Job::read(&bytes).is_ok() { "\nit is a job file: see grouping text" } else { "" };
+        Failure::Refused(faults_of(name, &faults) + hint)
+    })?;
+    let file = draft.file().map_err(|refused| Failure::Refused(refused_lines(name, &refused)))?;
     call.output(&file)
 }
 
@@ -197,21 +198,22 @@ fn refused(call: &Call, refusal: Refusal) -> Failure {
     Failure::Refused(format!("grouping: {}: {refusal}", call.input_name()))
 }
 
-fn job_of(call: &Call) -> Result<Job, Failure> {
-    Job::read(&call.input(MOST_FILE)?).map_err(|refusal| refused(call, refusal))
-}
-
-/// What a call's job leaves.
-fn left_of(call: &Call) -> Result<Cut, Failure> {
-    Cut::left_by(&call.input(MOST_FILE)?).map_err(|refusal| refused(call, refusal))
+/// What is made of a call's job file, or the core's refusal of it.
+fn of_file<T>(call: &Call, made: impl FnOnce(&[u8]) -> Result<T, Refusal>) -> Result<T, Failure> {
+    let file = call.input(MOST_FILE)?;
+    made(&file).map_err(|refusal| {
+        let is_text = Draft::parse(&String::from_utf8_lossy(&file)).is_ok();
+        let hint = if is_text { "\nit is a job's text: see grouping file" } else { "" };
+        Failure::Refused(refused(call, refusal).to_string() + hint)
+    })
 }
 
 fn text(call: &Call) -> Result<(), Failure> {
-    call.output(text_of(&job_of(call)?).as_bytes())
+    call.output(text_of(&of_file(call, Job::read)?).as_bytes())
 }
 
 fn play(call: &Call) -> Result<(), Failure> {
-    call.output(&left_of(call)?.listing())
+    call.output(&of_file(call, Cut::left_by)?.listing())
 }
 
 /// The part of a run that a call asks for.
@@ -232,7 +234,7 @@ fn window(call: &Call, job: &Job) -> Result<Window, Failure> {
 }
 
 fn explained(call: &Call) -> Result<(), Failure> {
-    let job = job_of(call)?;
+    let job = of_file(call, Job::read)?;
     let one_of = |option: &str, count: usize, name: &str| {
         let number = call.number_of(option, u32::MAX)?.map(|number| number as usize);
         match number.filter(|&number| number >= count) {
@@ -249,7 +251,7 @@ fn explained(call: &Call) -> Result<(), Failure> {
 }
 
 fn show(call: &Call) -> Result<(), Failure> {
-    let job = job_of(call)?;
+    let job = of_file(call, Job::read)?;
     let window = window(call, &job)?;
     let used = window.used(&job);
     if used > MOST_SHOWN {
@@ -266,7 +268,7 @@ fn ask(call: &Call) -> Result<(), Failure> {
     let (x, y) = (call.number(call.word(1), u32::MAX)?, call.number(call.word(2), u32::MAX)?);
     let allowance = call.number_of("--allowance", MOST_ALLOWANCE.into())?;
     let allowance = allowance.map_or(MOST_ALLOWANCE, |allowance| allowance as u16);
-    let mut left = left_of(call)?;
+    let mut left = of_file(call, Cut::left_by)?;
     let asked = query(&mut left.table, x, y, allowance);
     let asked = asked.result().map_err(|refusal| refused(call, refusal))?;
     let used = count(asked.used as usize, "grant");
@@ -279,7 +281,7 @@ fn ask(call: &Call) -> Result<(), Failure> {
 }
 
 fn page(call: &Call) -> Result<(), Failure> {
-    let left = left_of(call)?;
+    let left = of_file(call, Cut::left_by)?;
     let (_, text) = paged(&left.table).map_err(|refusal| refused(call, refusal))?;
     call.output(&text)
 }
@@ -287,8 +289,8 @@ fn page(call: &Call) -> Result<(), Failure> {
 fn head_sheet(call: &Call) -> Result<(), Failure> {
     let head = call.number(call.word(1), u32::MAX)?;
     let mut text = vec![0; MOST_SHEET];
-    let listed = sheet(&call.input(MOST_FILE)?, head, &mut text).result();
-    text.truncate(listed.map_err(|refusal| refused(call, refusal))?.bytes);
+    let listed = of_file(call, |file| sheet(file, head, &mut text).result())?;
+    text.truncate(listed.bytes);
     call.output(&text)
 }
 

@@ -170,6 +170,20 @@ fn texts_are_refused_by_their_lines() {
     );
 }
 
+/// A text where a job file is expected, and a job file where a text is.
+#[test]
+fn texts_and_files_taken_for_each_other() {
+    let refused = grouping(&["play", "-"], TEXT.as_bytes());
+    let mark = "grouping: standard input: refused 3: a mark is not allowed at its position\n";
+    assert_eq!(
+        (refused.status, refused.said),
+        (1, format!("{mark}it is a job's text: see grouping file\n"))
+    );
+    let refused = grouping(&["file", &sample()], b"");
+    assert_eq!(refused.status, 1);
+    assert!(refused.said.ends_with("\nit is a job file: see grouping text\n"), "{}", refused.said);
+}
+
 /// Wrong calls: exit status 2, what is wrong, and the usage.
 #[test]
 fn wrong_calls() {
