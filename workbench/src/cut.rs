@@ -1,5 +1,7 @@
 //! What the core leaves of a job, or of its first grants alone: table, report, line-up and counters.
 
+use std::fmt;
+
 use grouping_core::{list, play, Answer, Played, Refusal};
 use grouping_core::{MOST_LINEUP, MOST_LISTING, MOST_REPORT, MOST_TABLE};
 
@@ -10,6 +12,12 @@ use crate::job::Job;
 pub struct Word {
     pub rank: u32,
     pub parent: u32,
+}
+
+impl fmt::Display for Word {
+    fn fmt(&self, f: &mut fmt::Formatter<'_>) -> fmt::Result {
+        write!(f, "rank {}, parent {}", self.rank, self.parent)
+    }
 }
 
 /// A request's four numbers in the report.

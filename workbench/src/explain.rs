@@ -4,7 +4,7 @@ use grouping_core::Answer;
 
 use crate::cut::{Cut, Entry};
 use crate::job::Job;
-use crate::story::{Change, Happening, Idle, IdleHead, Story, Used};
+use crate::story::{Change, Happening, Idle, IdleHead, Story, Used, Window};
 use crate::text::count;
 
 const LEGEND: &str = "\
@@ -26,6 +26,13 @@ impl Filter {
         same_head && same_request
     }
 
+    /// What is left out, behind a heading.
+    fn words(self) -> String {
+        let head = self.head.map(|head| format!("; only head {head}"));
+        let request = self.request.map(|request| format!("; only request {request}"));
+        head.unwrap_or_default() + &request.unwrap_or_default()
+    }
+
     fn admits_request(self, job: &Job, request: usize) -> bool {
         self.admits(job.requests[request].head as u8, Some(request))
     }
@@ -34,7 +41,7 @@ impl Filter {
 /// The grants of a story, a line each, idle ones in a row in one line; then what became of the
 /// requests.
 pub fn explain(job: &Job, story: &Story, filter: Filter) -> String {
-    let mut text = format!("{}\n{LEGEND}\n", heading(job));
+    let mut text = format!("{}{}\n{LEGEND}\n", heading(job, story.window), filter.words());
     let width = "grant".len().max(2 * story.window.to.to_string().len() + 1);
     let mut line = |grants: &str, head: &str, request: &str, told: &str| {
         text += &format!("{grants:>width$}  {head:>4}  {request:>7}  {told}\n");
@@ -61,15 +68,20 @@ pub fn explain(job: &Job, story: &Story, filter: Filter) -> String {
     text + &outcome(job, &story.left, filter)
 }
 
-/// The job's sizes.
-pub fn heading(job: &Job) -> String {
-    [
+/// The job's sizes, and which of its grants are told or shown where these are not all.
+pub fn heading(job: &Job, window: Window) -> String {
+    let sizes = [
         count(job.places as usize, "place"),
         count(job.heads as usize, "head"),
         count(job.requests.len(), "request"),
         count(job.grants.len(), "grant"),
     ]
-    .join(", ")
+    .join(", ");
+    if window == Window::of(job) {
+        return sizes;
+    }
+    let Window { from, to } = window;
+    format!("{sizes}; grants {from} to {to}, and what stands after them")
 }
 
 /// `25`, or `25-317`.

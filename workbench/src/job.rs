@@ -35,6 +35,10 @@ pub struct Request {
 }
 
 impl Request {
+    pub fn places(&self) -> [usize; 2] {
+        [self.x as usize, self.y as usize]
+    }
+
     /// What it asks, in words: `union 2 3`.
     pub fn words(&self) -> String {
         format!("{} {} {}", word_for(self.kind, KINDS), self.x, self.y)

@@ -60,6 +60,8 @@ pub struct Used {
     pub entered: Option<(Entry, Option<Entry>)>,
     /// The request has its answer now, after so many grants of its own.
     pub ended: Option<(Answer, u32)>,
+    /// The words of the request's two places after it.
+    pub words: [Word; 2],
 }
 
 #[derive(Clone, Copy, Debug, PartialEq, Eq)]
@@ -208,5 +210,6 @@ fn difference(job: &Job, before: &Cut, after: &Cut) -> Used {
         linked: is.links > was.links,
         entered,
         ended: row.is_finished().then_some((row.answer, row.used)),
+        words: job.requests[request].places().map(|place| after.word(place)),
     }
 }

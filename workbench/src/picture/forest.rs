@@ -91,8 +91,7 @@ impl Forest {
                     svg::line("tree", &path)
                 });
                 above.push(y);
-                let title =
-                    format!("word of place {place}: rank {}, parent {}", word.rank, word.parent);
+                let title = format!("word of place {place}: {word}");
                 tie + &svg::titled_words("member", left, y + 4, &line.said(), &title)
             }
         }
@@ -106,8 +105,9 @@ fn lines_of(groups: &[Group]) -> Vec<Line> {
         lines.push(Line::Words("group", said));
         lines.extend(group.members.iter().copied().map(Line::Place));
     }
+    // A root has a rank only where it has joined others.
     let alone = groups.iter().filter(|group| group.row.size == 1);
-    let said = in_lines("alone:", &ranges(alone.map(|group| group.row.root)));
+    let said = in_lines("alone, rank 0:", &ranges(alone.map(|group| group.row.root)));
     lines.extend(said.into_iter().map(|said| Line::Words("faint", said)));
     lines
 }

@@ -169,21 +169,24 @@ impl<'a> Lanes<'a> {
     }
 
     fn mark(&self, used: &Used) -> String {
-        let Used { grant, head, request, change, .. } = used;
-        let mut title =
-            format!("grant {grant}, head {head}, request {request}: {}", deed(self.job, used));
-        if let Some(Change { place, before, after }) = change {
-            title += &format!(
-                "\nword of place {place}: rank {}, parent {}; now rank {}, parent {}",
-                before.rank, before.parent, after.rank, after.parent
-            );
-        }
         let draw = match used {
             Used { linked: true, .. } => svg::link,
             Used { failed: true, .. } => svg::failed,
             Used { change: Some(_), .. } => svg::wrote,
             _ => svg::tick,
         };
-        draw(self.columns.middle(*grant), self.middle(*head), &title)
+        draw(self.columns.middle(used.grant), self.middle(used.head), &self.mark_title(used))
+    }
+
+    /// What a grant did, the word that it changed, and how the request's places then stand.
+    fn mark_title(&self, used: &Used) -> String {
+        let Used { grant, head, request, .. } = used;
+        let mut title =
+            format!("grant {grant}, head {head}, request {request}: {}", deed(self.job, used));
+        if let Some(Change { place, before, after }) = used.change {
+            title += &format!("\nword of place {place}: {before}; now {after}");
+        }
+        let [x, y] = self.job.requests[*request].places();
+        title + &format!("\nthen place {x} has {}; place {y} has {}", used.words[0], used.words[1])
     }
 }

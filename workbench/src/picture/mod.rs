@@ -15,7 +15,7 @@ use svg::LINE;
 
 use crate::explain::heading;
 use crate::job::Job;
-use crate::story::{Story, Window};
+use crate::story::Story;
 
 const MARGIN: i32 = 16;
 /// The room of the lanes' names.
@@ -34,7 +34,7 @@ pub fn draw(job: &Job, story: &Story) -> String {
     let width = (columns.right + MARGIN + forest.width()).max(LEAST);
     let (legend, foot) = legend::drawn(MARGIN, lineup.foot.max(forest.foot) + LINE, width - MARGIN);
     let height = foot + MARGIN;
-    let title = svg::escaped(&title(job, story));
+    let title = svg::escaped(&heading(job, story.window));
     let sections: String = [
         ("axis", columns.axis(MARGIN, axis)),
         ("ties", lineup.ties(&lanes)),
@@ -62,13 +62,3 @@ const HATCH: &str = "\
 <rect class=\"paper\" width=\"6\" height=\"6\"/><path class=\"hatch\" d=\"M1 0V6\"/>
 </pattern>
 ";
-
-/// The job's sizes, and which of its grants are shown where these are not all.
-fn title(job: &Job, story: &Story) -> String {
-    let Window { from, to } = story.window;
-    if story.window == Window::of(job) {
-        heading(job)
-    } else {
-        format!("{}; grants {from} to {to}, and what stands after them", heading(job))
-    }
-}

@@ -136,10 +136,7 @@ fn entries_rise() {
     for job in seeded(50) {
         let job = Job::read(&file_of(&job)).expect("accepted");
         let elements = read(&drawn(&job, Window::of(&job)));
-        let place = |element: &Element| -> i32 {
-            let path = element.attribute("d").trim_start_matches('M');
-            path.split(' ').next().and_then(|x| x.parse().ok()).expect("a place")
-        };
+        let place = |element: &Element| begun(element).0;
         let entry = |element: &&Element| element.is_a("entry") || element.is_a("earlier");
         let of_lineup = elements.iter().filter(|element| element.is_within("line-up"));
         let entries: Vec<i32> = of_lineup.filter(entry).map(place).collect();
@@ -147,6 +144,61 @@ fn entries_rise() {
             elements.iter().filter(|element| element.is_a("tie")).map(place).collect();
         assert_eq!(entries, ties);
         assert!(entries.windows(2).all(|two| two[0] < two[1]), "{entries:?}");
+    }
+}
+
+/// Where a path begins.
+fn begun(element: &Element) -> (i32, i32) {
+    let path = element.attribute("d").trim_start_matches('M');
+    let (x, rest) = path.split_once(' ').expect("two numbers");
+    let y = rest.split(|c: char| !c.is_ascii_digit()).next().expect("a number");
+    (x.parse().expect("x"), y.parse().expect("y"))
+}
+
+/// Each bar is as long as its request's grants, whose marks stand in it, and a tie hangs from the bar
+/// of its entry's request.
+#[test]
+fn marks_stand_in_their_bars() {
+    for job in seeded(100) {
+        let file = file_of(&job);
+        let Outcome { played, report, lineup, .. } = Outcome::traced(&file, AMPLE).0;
+        let elements = read(&drawn(
+            &Job::read(&file).expect("accepted"),
+            Window { from: 1, to: job.grants.len() },
+        ));
+        let number = |element: &Element, name: &str| -> i32 {
+            element.attribute(name).parse().expect("a number")
+        };
+        let mut requests: Vec<usize> = (0..job.requests.len()).collect();
+        requests.retain(|&request| report[4 * request + 3] > 0);
+        requests.sort_by_key(|&request| job.requests[request].head);
+        let bars =
+            elements.iter().filter(|element| element.is_within("heads") && element.name == "rect");
+        let bars: Vec<[i32; 4]> =
+            bars.map(|bar| ["x", "y", "width", "height"].map(|name| number(bar, name))).collect();
+        assert_eq!(bars.len(), requests.len());
+        let marks: Vec<(i32, i32)> = elements
+            .iter()
+            .filter(|element| element.is_within("heads"))
+            .filter_map(|element| match element {
+                link if link.is_a("link") => Some((number(link, "cx"), number(link, "cy"))),
+                mark if mark.is_a("tick") || mark.is_a("failed") => Some(begun(mark)),
+                _ => None,
+            })
+            .collect();
+        for (&[left, top, width, height], &request) in bars.iter().zip(&requests) {
+            let inside = |&&(x, y): &&(i32, i32)| {
+                (left..left + width).contains(&x) && (top..top + height).contains(&y)
+            };
+            assert_eq!(marks.iter().filter(inside).count(), report[4 * request + 3] as usize);
+        }
+        let ties = elements.iter().filter(|element| element.is_a("tie")).map(begun);
+        let entries = lineup.chunks_exact(2).take(played.entries as usize);
+        for ((x, y), entry) in ties.zip(entries) {
+            let of = requests.iter().position(|&request| request == entry[1] as usize);
+            let [left, top, width, height] = bars[of.expect("a bar")];
+            assert!((left..left + width).contains(&x) && y == top + height, "{entry:?}");
+        }
     }
 }
 
