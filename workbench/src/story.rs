@@ -117,20 +117,18 @@ impl Story {
     }
 }
 
-/// The last of the idle grants in a row behind a cut, up to a grant: whole runs of one head, as far
-/// as they go, then the first grants of the next.
+/// The last of the idle grants in a row behind a cut, up to a grant; the first is known to be idle. It
+/// changes nothing, so that its head's next one is idle too: they go on to the end of a run of one
+/// head, or of several.
 fn last_idle(job: &Job, before: &Cut, to: usize) -> usize {
     let (grants, idle) = (before.played.grants as usize, before.played.tally.idle as usize);
-    let all_idle_up_to =
-        |last: usize| Cut::after(job, last).played.tally.idle as usize - idle == last - grants;
-    let mut ends = vec![grants];
-    for run in job.grants[grants..to].chunk_by(|a, b| a == b) {
+    let mut ends = vec![grants + 1];
+    for run in job.grants[grants + 1..to].chunk_by(|a, b| a == b) {
         ends.push(ends[ends.len() - 1] + run.len());
     }
-    let runs = passing(ends.len() - 1, |run| all_idle_up_to(ends[run + 1]));
-    let last = ends[runs];
-    let next = ends.get(runs + 1).unwrap_or(&last);
-    last + passing(next - last, |more| all_idle_up_to(last + more + 1))
+    let is_idle_up_to =
+        |end: usize| Cut::after(job, end).played.tally.idle as usize - idle == end - grants;
+    ends[passing(ends.len() - 1, |run| is_idle_up_to(ends[run + 1]))]
 }
 
 /// How many of so many numbers pass, where all behind the first that does not do not either: looks
