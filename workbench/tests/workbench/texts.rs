@@ -193,6 +193,77 @@ fn refusals_name_their_lines() {
     }
 }
 
+/// Changes one number of a text: the text, and the line that is another one now.
+fn changed(random: &mut Random, text: &str) -> (String, usize) {
+    let mut lines: Vec<String> =
+        text.lines().map(|line| line.split('#').next().unwrap_or_default().to_owned()).collect();
+    let at = random.below(lines.len() as u32) as usize;
+    let mut words: Vec<String> = lines[at].split_whitespace().map(str::to_owned).collect();
+    let numbers: Vec<usize> =
+        (1..words.len()).filter(|&word| words[word].parse::<u32>().is_ok()).collect();
+    if !numbers.is_empty() {
+        let word = &mut words[random.pick(&numbers)];
+        let number: u32 = word.parse().expect("a number");
+        let near =
+            [number.saturating_sub(1), number + 1, 0, 1, 31, 32, 33, 255, 256, 4_097, u32::MAX];
+        *word = random.pick(&near).to_string();
+    }
+    lines[at] = words.join(" ");
+    (lines.join("\n"), at + 1)
+}
+
+/// Where one number of a good text was changed, what is said of it names that line.
+#[test]
+fn a_changed_line_is_named() {
+    let (mut unread, mut refused) = (0, [0; 21]);
+    let entitled = (0..3_000).map(|seed| gen::entitled(&mut Random::new(seed)));
+    for (seed, job) in (0..).zip(seeded(2_000).chain(entitled)) {
+        let text = text_of(&Job::read(&file_of(&job)).expect("accepted"));
+        let (text, line) = changed(&mut Random::new(seed), &text);
+        match Draft::parse(&text).map(|draft| draft.file()) {
+            Ok(Ok(_)) => {}
+            Ok(Err(told)) => {
+                let named =
+                    told.line == line || told.others.iter().any(|&(other, _)| other == line);
+                assert!(named, "{told:?}, line {line}\n{text}");
+                refused[told.refusal as usize] += 1;
+            }
+            Err(faults) => {
+                assert_eq!(faults.iter().map(|fault| fault.line).collect::<Vec<_>>(), [line]);
+                unread += 1;
+            }
+        }
+    }
+    let often = [4, 5, 6, 8, 10, 18, 19, 20].map(|number: usize| refused[number]);
+    assert!(unread >= 10 && often.iter().all(|&times| times >= 10), "{unread} {refused:?}");
+}
+
+/// A damaged file is refused with the second player's number, or means what it means there.
+#[test]
+fn damaged_files() {
+    let mut refused = 0;
+    for seed in 0..4_000 {
+        let random = &mut Random::new(seed);
+        let job = gen::varied(random);
+        let (file, _) = gen::damaged(random, &job);
+        match (Job::read(&file), peer::job::read(&file)) {
+            (Ok(job), Ok(expected)) => {
+                assert_eq!(
+                    (job.places, job.heads, job.grants),
+                    (expected.nodes, expected.heads, expected.grants)
+                );
+                there_and_back(&file);
+            }
+            (Err(refusal), Err(number)) => {
+                assert_eq!(refusal as u32, number);
+                refused += 1;
+            }
+            (read, expected) => panic!("seed {seed}: {read:?} {expected:?}"),
+        }
+    }
+    assert!(refused > 2_000, "{refused}");
+}
+
 /// The 513th request, and the first pair and the first grants for which a file has no room.
 #[test]
 fn too_many_records_are_refused_at_the_first() {
