@@ -6,6 +6,7 @@ mod cases;
 mod damage;
 mod document;
 mod edges;
+mod edits;
 mod enquiry;
 mod kept;
 mod limits;
