@@ -30,8 +30,14 @@ pub struct Lines {
     pub rights: Vec<usize>,
     pub requests: Vec<usize>,
     pub waits: Vec<usize>,
-    /// Of each line of grants its number, and how many grants there are up to its end.
-    pub grants: Vec<(usize, usize)>,
+    pub grants: Vec<GrantLine>,
+}
+
+/// A line of grants, and how many grants there are up to its end.
+#[derive(Clone, Copy, Debug, PartialEq, Eq)]
+pub struct GrantLine {
+    pub line: usize,
+    pub up_to: usize,
 }
 
 /// What a text says: a job that the writer may still refuse.
@@ -139,7 +145,7 @@ impl Draft {
         let grants = &mut self.job.grants;
         let room = (MOST_GRANTS as usize + 1).saturating_sub(grants.len());
         grants.extend(vec![head; (more as usize).min(room.max(1))]);
-        self.lines.grants.push((fields.line, grants.len()));
+        self.lines.grants.push(GrantLine { line: fields.line, up_to: grants.len() });
         Ok(())
     }
 }

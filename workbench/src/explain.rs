@@ -2,9 +2,9 @@
 
 use grouping_core::Answer;
 
-use crate::cut::{Cut, Entry};
+use crate::cut::Cut;
 use crate::job::Job;
-use crate::story::{Change, Happening, Idle, IdleHead, Story, Used, Window};
+use crate::story::{Change, Entered, Happening, Idle, IdleHead, Story, Used, Waiting, Window};
 use crate::text::count;
 
 const LEGEND: &str = "\
@@ -56,8 +56,9 @@ pub fn explain(job: &Job, story: &Story, filter: Filter) -> String {
                 }
             }
             Happening::Idle(idle) => {
-                let told =
-                    |own: &&IdleHead| filter.admits(own.head, own.waiting.map(|(next, _)| next));
+                let told = |own: &&IdleHead| {
+                    filter.admits(own.head, own.waiting.map(|waiting| waiting.request))
+                };
                 let heads: Vec<&IdleHead> = idle.heads.iter().filter(told).collect();
                 if !heads.is_empty() {
                     line(&span(idle), &only_head(&heads), "", &rest(&heads));
@@ -110,7 +111,9 @@ fn rest(heads: &[&IdleHead]) -> String {
 /// Why a head was idle, and for how many grants.
 pub fn idle_words(own: &IdleHead) -> String {
     let why = match own.waiting {
-        Some((next, earlier)) => format!("request {next} waits for request {earlier}"),
+        Some(Waiting { request, earlier }) => {
+            format!("request {request} waits for request {earlier}")
+        }
         None => "no request left".to_owned(),
     };
     format!("head {}: {why} ({})", own.head, count(own.grants, "grant"))
@@ -127,10 +130,10 @@ pub fn deed(job: &Job, used: &Used) -> String {
         None if used.failed => "its swap fails".to_owned(),
         None => "looks".to_owned(),
     });
-    if let Some((answer, grants)) = used.ended {
-        deeds.push(format!("ends after {}: {answer}", count(grants as usize, "grant")));
+    if let Some(row) = used.ended {
+        deeds.push(format!("ends after {}: {}", count(row.used as usize, "grant"), row.answer));
     }
-    deeds.extend(used.entered.map(|(entry, next)| effect(used, entry, next)));
+    deeds.extend(used.entered.map(|entered| effect(used, entered)));
     deeds.join("; ")
 }
 
@@ -149,7 +152,7 @@ fn change_words(change: &Change, linked: bool) -> String {
 }
 
 /// Where a request takes effect, as its grant makes known.
-fn effect(used: &Used, entry: Entry, next: Option<Entry>) -> String {
+fn effect(used: &Used, Entered { entry, next }: Entered) -> String {
     if entry.point == used.grant {
         return "takes effect here".to_owned();
     }

@@ -40,11 +40,11 @@ impl Refused {
                 let before = lines.waits[..wait].last().map(|&line| (line, "the pair before it"));
                 (lines.waits[wait], before.into_iter().collect())
             }
-            Refusal::Grant => (lines.grants[search.grant()].0, vec![heads]),
+            Refusal::Grant => (lines.grants[search.grant()].line, vec![heads]),
             // A file that is too long is left: the text has no other kinds, and the buffer is long
             // enough.
             _ if search.is_long_without_grants() => (lines.waits[search.wait()], vec![]),
-            _ => (lines.grants[search.grant()].0, vec![]),
+            _ => (lines.grants[search.grant()].line, vec![]),
         };
         Refused { refusal, line, others }
     }
@@ -98,10 +98,7 @@ impl Search<'_> {
     /// The line of grants.
     fn grant(&self) -> usize {
         let Draft { job, lines } = self.draft;
-        first(lines.grants.len(), |line| {
-            let (_, grants) = lines.grants[line];
-            job.file_of(grants) == Err(self.refusal)
-        })
+        first(lines.grants.len(), |line| job.file_of(lines.grants[line].up_to) == Err(self.refusal))
     }
 }
 

@@ -1,8 +1,6 @@
 //! What each grant of a run did, told by the difference of what stands before it and after it.
 
-use grouping_core::Answer;
-
-use crate::cut::{Cut, Entry, Word};
+use crate::cut::{Cut, Entry, Row, Word};
 use crate::job::Job;
 
 /// The grants from one to another, both of them included; grants count from 1. Where `to` is one
@@ -55,13 +53,19 @@ pub struct Used {
     pub failed: bool,
     /// Its swap was a union's link.
     pub linked: bool,
-    /// The entry that the line-up has now, and the request that it stands before, if it is not the
-    /// last.
-    pub entered: Option<(Entry, Option<Entry>)>,
-    /// The request has its answer now, after so many grants of its own.
-    pub ended: Option<(Answer, u32)>,
+    /// The entry that the line-up has now.
+    pub entered: Option<Entered>,
+    /// The request's row, if it has its answer now.
+    pub ended: Option<Row>,
     /// The words of the request's two places after it.
     pub words: [Word; 2],
+}
+
+/// A new entry, and the one that it stands before, if it is not the last.
+#[derive(Clone, Copy, Debug, PartialEq, Eq)]
+pub struct Entered {
+    pub entry: Entry,
+    pub next: Option<Entry>,
 }
 
 #[derive(Clone, Copy, Debug, PartialEq, Eq)]
@@ -83,9 +87,15 @@ pub struct Idle {
 pub struct IdleHead {
     pub head: u8,
     pub grants: usize,
-    /// Its next request and the lowest unfinished one that this waits for; none where it has no
-    /// request left.
-    pub waiting: Option<(usize, usize)>,
+    /// What it waits for; none where it has no request left.
+    pub waiting: Option<Waiting>,
+}
+
+/// A head's next request, and the lowest unfinished one that this waits for.
+#[derive(Clone, Copy, Debug, PartialEq, Eq)]
+pub struct Waiting {
+    pub request: usize,
+    pub earlier: usize,
 }
 
 /// The grants of a window, and what stands after them.
@@ -162,16 +172,14 @@ fn idle(job: &Job, before: &Cut, last: usize) -> Idle {
     Idle { window: Window { from: first + 1, to: last }, heads }
 }
 
-/// A resting head's next request, which is not finished, and the first of those that it waits for.
-fn waiting(job: &Job, now: &Cut, head: u8) -> Option<(usize, usize)> {
-    let unfinished = |request: usize| !now.row(request).is_finished();
-    let own = |request: &usize| job.requests[*request].head == u32::from(head);
-    let next = (0..job.requests.len()).filter(own).find(|&request| unfinished(request))?;
-    let pairs = job.waits.iter().filter(|wait| wait.later as usize == next);
-    pairs
-        .map(|wait| wait.earlier as usize)
-        .find(|&earlier| unfinished(earlier))
-        .map(|earlier| (next, earlier))
+/// What a resting head waits for.
+fn waiting(job: &Job, now: &Cut, head: u8) -> Option<Waiting> {
+    let is_unfinished = |&request: &usize| !now.row(request).is_finished();
+    let is_own = |&request: &usize| job.requests[request].head == u32::from(head);
+    let request = (0..job.requests.len()).filter(is_own).find(is_unfinished)?;
+    let pairs = job.waits.iter().filter(|wait| wait.later as usize == request);
+    let earlier = pairs.map(|wait| wait.earlier as usize).find(is_unfinished)?;
+    Some(Waiting { request, earlier })
 }
 
 /// What a grant that is not idle did.
@@ -193,7 +201,7 @@ fn difference(job: &Job, before: &Cut, after: &Cut) -> Used {
             .iter()
             .position(|entry| entry.request == request)
             .expect("an entry is that of the grant's request");
-        (entries[new], entries.get(new + 1).copied())
+        Entered { entry: entries[new], next: entries.get(new + 1).copied() }
     });
     let row = after.row(request);
     let grant = after.played.grants;
@@ -207,7 +215,7 @@ fn difference(job: &Job, before: &Cut, after: &Cut) -> Used {
         failed: is.failed > was.failed,
         linked: is.links > was.links,
         entered,
-        ended: row.is_finished().then_some((row.answer, row.used)),
+        ended: row.is_finished().then_some(row),
         words: job.requests[request].places().map(|place| after.word(place)),
     }
 }

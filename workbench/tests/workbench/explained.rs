@@ -36,7 +36,7 @@ fn same_deed(used: &Used, access: &Access, outcome: &Outcome) {
     let told =
         used.change.map(|change| (change.place, number(change.before), number(change.after)));
     assert_eq!(told, expected);
-    let ended = used.ended.map(|(answer, grants)| [answer as u32, grants]);
+    let ended = used.ended.map(|row| [row.answer as u32, row.used]);
     assert_eq!(ended, (row[2] == access.grant).then_some([row[0], row[3]]));
 }
 
@@ -48,7 +48,7 @@ fn same_rest(job: &peer::job::Job, idle: &Idle, trace: &[Access]) {
     for own in &idle.heads {
         let granted = job.grants[from - 1..to].iter().filter(|&&head| head == own.head).count();
         assert_eq!(own.grants, granted);
-        assert_eq!(own.waiting.map(|(_, earlier)| earlier), waits[usize::from(own.head)]);
+        assert_eq!(own.waiting.map(|waiting| waiting.earlier), waits[usize::from(own.head)]);
     }
     assert_eq!(idle.heads.iter().map(|own| own.grants).sum::<usize>(), idle.window.grants());
 }
