@@ -34,9 +34,9 @@ const BEFORE: core::Tally = core::Tally {
     working: 0xA5A5_0003,
 };
 
-/// The file that is written from an accepted file's text, which is the same file; a refused one as it
-/// is.
-fn by_text(file: &[u8]) -> Vec<u8> {
+/// The file that the workbench writes from an accepted file's text, which is the same file; a refused
+/// one as it is.
+pub fn by_text(file: &[u8]) -> Vec<u8> {
     let Ok(job) = workbench::job::Job::read(file) else { return file.to_vec() };
     let draft = Draft::parse(&text_of(&job)).expect("the text of a job can be read");
     let again = draft.file().expect("and written");

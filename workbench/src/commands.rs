@@ -193,9 +193,13 @@ fn refused_lines(name: &str, refused: &Refused) -> String {
     lines.join("\n")
 }
 
-/// The core's refusal of what a call was given.
+/// The core's refusal of what a call was given, and more to say of it.
+fn refused_with(call: &Call, refusal: Refusal, more: &str) -> Failure {
+    Failure::Refused(format!("grouping: {}: {refusal}{more}", call.input_name()))
+}
+
 fn refused(call: &Call, refusal: Refusal) -> Failure {
-    Failure::Refused(format!("grouping: {}: {refusal}", call.input_name()))
+    refused_with(call, refusal, "")
 }
 
 /// What is made of a call's job file, or the core's refusal of it.
@@ -204,7 +208,7 @@ fn of_file<T>(call: &Call, made: impl FnOnce(&[u8]) -> Result<T, Refusal>) -> Re
     made(&file).map_err(|refusal| {
         let is_text = Draft::parse(&String::from_utf8_lossy(&file)).is_ok();
         let hint = if is_text { "\nit is a job's text: see grouping file" } else { "" };
-        Failure::Refused(refused(call, refusal).to_string() + hint)
+        refused_with(call, refusal, hint)
     })
 }
 

@@ -6,7 +6,7 @@ use peer::job::{self, Job, Request};
 use peer::numbers::answer;
 use peer::query::Queried;
 
-use crate::PLAYERS;
+use crate::{Accepted, PLAYERS};
 
 fn union(head: u8, x: u32, y: u32) -> Request {
     Request::union(head, x, y)
@@ -505,7 +505,7 @@ fn enquiry() {
 
 #[test]
 fn tournament_reaches_rank_nine() {
-    let file = gen::tournament(512).file().expect("accepted");
+    let file = gen::tournament(512).accepted();
     for player in PLAYERS {
         let text = (player.list)(&file);
         assert!(text.contains("\nword 511 511 9\n"));

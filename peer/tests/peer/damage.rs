@@ -7,7 +7,7 @@ use peer::player::{Lengths, Outcome, Player, AMPLE, PEER};
 use peer::sheet::Listed;
 
 use crate::writer::written;
-use crate::PLAYERS;
+use crate::{Accepted, PLAYERS};
 
 const FILES: u64 = 20_000;
 
@@ -75,7 +75,7 @@ fn spoilt_pairs() {
         for seed in 0..1_000 {
             let mut random = Random::new(seed);
             let job = gen::waiting(&mut random);
-            let file = job.file().expect("accepted");
+            let file = job.accepted();
             let (file, expected) = gen::wait_spoilt(&mut random, file, &job, fault);
             let number = number(player, &file);
             assert_eq!(Expected::Number(number), expected, "{fault:?}, seed {seed}");
@@ -95,7 +95,7 @@ fn spoilt_rights() {
         for seed in 0..1_000 {
             let mut random = Random::new(seed);
             let job = gen::entitled(&mut random);
-            let file = job.file().expect("accepted");
+            let file = job.accepted();
             let (file, expected) = gen::right_spoilt(&mut random, file, &job, fault);
             let number = number(player, &file);
             assert_eq!(Expected::Number(number), expected, "{fault:?}, seed {seed}");
@@ -111,7 +111,7 @@ const NOTHING: Lengths = Lengths { table: 0, report: 0, lineup: 0 };
 fn short_buffers() {
     for (player, seed) in PLAYERS.iter().flat_map(|player| (0..2_000).map(move |n| (player, n))) {
         let job = gen::varied(&mut Random::new(seed));
-        let file = job.file().expect("accepted");
+        let file = job.accepted();
         let exact = Lengths::exact(&job);
         assert_eq!(Outcome::of(player.play, &file, exact).played.number, refusal::NONE);
         let table = Lengths { table: exact.table - 1, ..exact };
@@ -139,7 +139,7 @@ fn a_file_is_judged_before_buffers() {
 
 #[test]
 fn no_requests_need_no_report() {
-    let file = job::Job::new(1, 1, &[], &[(0, 3)]).file().expect("accepted");
+    let file = job::Job::new(1, 1, &[], &[(0, 3)]).accepted();
     for player in PLAYERS {
         let outcome = Outcome::of(player.play, &file, Lengths { table: 1, ..NOTHING });
         assert_eq!((outcome.played.number, outcome.table), (refusal::NONE, vec![0]));

@@ -1,5 +1,5 @@
-//! The wrong programs, crates/NAME/must-fail/*.edit: each finds the text that it changes, and docs/PROMISES.md names each.
-//! A gate says the first only after an hour.
+//! The wrong programs, crates/NAME/must-fail/*.edit: each finds the text that it changes, which a gate tells only after its
+//! proofs, and docs/PROMISES.md names each.
 
 use std::collections::BTreeMap;
 use std::fs;

@@ -7,7 +7,7 @@ use peer::player::{Outcome, AMPLE};
 use peer::query::Queried;
 use peer::word::{parent, rank, word};
 
-use crate::PLAYERS;
+use crate::{Accepted, PLAYERS};
 
 /// What an enquiry leaves of a table, and its result, the same with all players.
 fn queried(table: &[u32], x: u32, y: u32, budget: u16) -> (Vec<u32>, Queried) {
@@ -35,7 +35,7 @@ fn agrees_with_a_same_set_played_alone() {
         job.heads += 1;
         job.requests.push(Request::same_set(asking, x, y));
         let left = |job: &peer::job::Job| {
-            let outcome = Outcome::of(PLAYERS[0].play, &job.file().expect("accepted"), AMPLE);
+            let outcome = Outcome::of(PLAYERS[0].play, &job.accepted(), AMPLE);
             let numbers = outcome.report[4 * job.requests.len() - 4..][..4].to_vec();
             (outcome.table[..job.nodes as usize].to_vec(), numbers)
         };

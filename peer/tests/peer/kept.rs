@@ -11,7 +11,7 @@ use peer::job::{Job, Request, Wait};
 use peer::listing;
 use peer::player::{Outcome, Player, AMPLE};
 
-use crate::PLAYERS;
+use crate::{Accepted, PLAYERS};
 
 const JOBS: u64 = 400;
 
@@ -68,7 +68,7 @@ fn grants(random: &mut Random, heads: u32, length: usize) -> Vec<u8> {
 }
 
 fn file(number: u64) -> Vec<u8> {
-    job(number).file().expect("accepted")
+    job(number).accepted()
 }
 
 /// FNV-1a of 64 bits.

@@ -6,7 +6,7 @@ use peer::limits::{self, Limits};
 use peer::numbers::{answer, refusal};
 use peer::player::{Outcome, AMPLE};
 
-use crate::PLAYERS;
+use crate::{Accepted, PLAYERS};
 
 /// What all players tell of a number of nodes.
 fn limits_of(nodes: u32) -> Limits {
@@ -59,7 +59,7 @@ fn refused_numbers_of_places() {
 
 /// The row of request 0, the same with all players.
 fn row(job: &Job) -> [u32; 4] {
-    let file = job.file().expect("accepted");
+    let file = job.accepted();
     let rows = PLAYERS.map(|player| Outcome::of(player.play, &file, AMPLE).report[..4].to_vec());
     assert!(rows.iter().all(|row| *row == rows[0]), "{rows:?}");
     [0, 1, 2, 3].map(|number| rows[0][number])

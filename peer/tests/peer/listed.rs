@@ -6,6 +6,8 @@ use peer::numbers::refusal;
 use peer::player::{Lengths, Outcome, AMPLE};
 use peer::proved::{list_into, CORE};
 
+use crate::Accepted;
+
 const LENT: u8 = 0xEE;
 
 /// The bytes of a buffer of this length after the call, with its number and count.
@@ -25,11 +27,7 @@ fn fills_what_it_needs() {
     for seed in 0..2_000 {
         let mut random = Random::new(seed);
         let job = gen::varied(&mut random);
-        let file = if seed % 2 == 0 {
-            job.file().expect("accepted")
-        } else {
-            gen::damaged(&mut random, &job).0
-        };
+        let file = if seed % 2 == 0 { job.accepted() } else { gen::damaged(&mut random, &job).0 };
         let outcome = Outcome::of(CORE.play, &file, AMPLE);
         let text = text_of(&outcome);
         let refused = |length| (refusal::BUFFER_TOO_SHORT, 0, vec![LENT; length]);
@@ -48,7 +46,7 @@ fn fills_what_it_needs() {
 fn asks_for_the_numbers_it_prints() {
     for seed in 0..2_000 {
         let job = gen::varied(&mut Random::new(seed));
-        let exact = Outcome::of(CORE.play, &job.file().expect("accepted"), Lengths::exact(&job));
+        let exact = Outcome::of(CORE.play, &job.accepted(), Lengths::exact(&job));
         let text = text_of(&exact);
         let whole = (refusal::NONE, text.len(), text.clone());
         let refused = (refusal::BUFFER_TOO_SHORT, 0, vec![LENT; text.len()]);

@@ -1,5 +1,6 @@
 //! Tests of players: the cases of documents 01 and 02, edges, seeded jobs, damage and wrong turns.
 
+use peer::job::Job;
 use peer::player::{Player, PEER};
 
 mod cases;
@@ -31,3 +32,18 @@ mod wrong_turns;
 const PLAYERS: [Player; 1] = [PEER];
 #[cfg(feature = "core")]
 const PLAYERS: [Player; 4] = [PEER, peer::proved::CORE, peer::proved::LENT, peer::proved::TEXT];
+
+/// A job whose file is accepted.
+trait Accepted {
+    /// Its file, of which the workbench's text makes the same file again.
+    fn accepted(&self) -> Vec<u8>;
+}
+
+impl Accepted for Job {
+    fn accepted(&self) -> Vec<u8> {
+        let file = self.file().expect("accepted");
+        #[cfg(feature = "core")]
+        assert_eq!(peer::proved::by_text(&file), file);
+        file
+    }
+}

@@ -11,7 +11,7 @@ use peer::page::{Paged, Row, MAX_PAGE, MAX_ROWS};
 use peer::player::{Outcome, Player, AMPLE, PEER};
 use peer::word::{parent, rank, word};
 
-use crate::PLAYERS;
+use crate::{Accepted, PLAYERS};
 
 const LINE: usize = 33;
 
@@ -279,7 +279,7 @@ fn refusals() {
 
 /// The table that a job leaves.
 fn left_by(job: &Job) -> Vec<u32> {
-    let Outcome { mut table, .. } = Outcome::of(PEER.play, &job.file().expect("accepted"), AMPLE);
+    let Outcome { mut table, .. } = Outcome::of(PEER.play, &job.accepted(), AMPLE);
     table.truncate(job.nodes as usize);
     table
 }

@@ -16,6 +16,8 @@ use peer::numbers::refusal;
 
 use crate::damage::of_files;
 
+use crate::Accepted;
+
 const PROGRAM: &str = concat!(env!("CARGO_MANIFEST_DIR"), "/../target/bin/dock");
 const CANT_READ: &str = "dock: standard input can't be read\n";
 const CANT_WRITE: &str = "dock: standard output can't be written\n";
@@ -83,13 +85,13 @@ fn number(input: &[u8]) -> u32 {
 fn jobs() {
     for seed in 0..200 {
         let job = gen::varied(&mut Random::new(seed));
-        assert_eq!(number(&job.file().expect("accepted")), refusal::NONE, "seed {seed}");
+        assert_eq!(number(&job.accepted()), refusal::NONE, "seed {seed}");
     }
     for job in (0..20).map(|seed| gen::larger(&mut Random::new(seed))).chain(gen::built()) {
-        assert_eq!(number(&job.file().expect("accepted")), refusal::NONE);
+        assert_eq!(number(&job.accepted()), refusal::NONE);
     }
     for job in [gen::most_pairs(), gen::longest_wait()] {
-        assert_eq!(number(&job.file().expect("accepted")), refusal::NONE);
+        assert_eq!(number(&job.accepted()), refusal::NONE);
     }
 }
 
@@ -125,7 +127,7 @@ fn lengths_around_the_longest() {
         assert_eq!(number(&vec![0; length]), expected, "{length}");
     }
     // The longest file without pairs, and bytes after its close up to the limit and past it.
-    let longest = gen::full().file().expect("accepted");
+    let longest = gen::full().accepted();
     assert_eq!(longest.len(), MAX_BYTES - 2);
     for (more, expected) in [
         (0, refusal::NONE),
@@ -139,12 +141,12 @@ fn lengths_around_the_longest() {
 
 #[test]
 fn input_in_pieces() {
-    let longest = gen::full().file().expect("accepted");
+    let longest = gen::full().accepted();
     let too_long = [&longest[..], b"CL\0"].concat();
     for (input, piece) in [(&longest, 997), (&too_long, MAX_BYTES), (&too_long, 4_096)] {
         assert_eq!(printed(input, piece), listing(input), "{piece}");
     }
-    let small = gen::contended(&mut Random::new(0)).file().expect("accepted");
+    let small = gen::contended(&mut Random::new(0)).accepted();
     assert_eq!(printed(&small, 1), listing(&small));
 }
 
@@ -169,7 +171,7 @@ fn said(mut command: Command, input: &[u8]) -> String {
 
 #[test]
 fn output_that_cant_be_written() {
-    let job = gen::contended(&mut Random::new(0)).file().expect("accepted");
+    let job = gen::contended(&mut Random::new(0)).accepted();
     for input in [&job[..], b""] {
         let full = OpenOptions::new().write(true).open("/dev/full").expect("a device");
         let mut device = program();
@@ -188,7 +190,7 @@ fn output_that_cant_be_written() {
 /// the program.
 #[test]
 fn output_that_is_cut_short() {
-    let longest = gen::full().file().expect("accepted");
+    let longest = gen::full().accepted();
     for (ignored, script) in [(true, IGNORING_PIPES), (false, "exec \"$0\"")] {
         let mut command = by_shell(script);
         command.stdout(Stdio::piped()).stderr(Stdio::piped());

@@ -14,7 +14,7 @@ use peer::player::{Lengths, Outcome, AMPLE};
 
 use crate::plain::{self, Turn};
 use crate::writer::written;
-use crate::PLAYERS;
+use crate::{Accepted, PLAYERS};
 
 const JOBS: u64 = 20_000;
 
@@ -27,7 +27,7 @@ fn by_plain(file: &[u8], lengths: Lengths) -> Outcome {
 
 /// What a job must show, whatever it is.
 fn check(job: &Job, more: usize) -> demand::Verdict {
-    let file = job.file().expect("a generated job is accepted");
+    let file = job.accepted();
     assert_eq!((job::read(&file).as_ref(), job::check(&file)), (Ok(job), Ok(job.shape())));
     let lengths = Lengths::exact(job).and(more);
     let (outcome, trace) = Outcome::traced(&file, lengths);
@@ -65,7 +65,7 @@ fn jobs_with_rights() {
         let job = gen::entitled(&mut Random::new(seed));
         assert_eq!(job.rights.len(), job.heads as usize);
         assert_eq!(check(&job, (seed % 3) as usize), Ok(()), "seed {seed}");
-        let file = |job: &Job| job.file().expect("accepted");
+        let file = |job: &Job| job.accepted();
         let (with, without) = (file(&job), file(&Job { rights: Vec::new(), ..job }));
         for player in PLAYERS {
             let left = |file| Outcome::of(player.play, file, AMPLE);
@@ -76,7 +76,7 @@ fn jobs_with_rights() {
 
 /// The grants at which a head is idle though it has work left.
 fn waiting_grants(job: &Job) -> usize {
-    let (outcome, trace) = Outcome::traced(&job.file().expect("accepted"), AMPLE);
+    let (outcome, trace) = Outcome::traced(&job.accepted(), AMPLE);
     let busy = |now: u32| trace.binary_search_by_key(&now, |access| access.grant).is_ok();
     let works = |head: u8, now: u32| {
         let rows = job.requests.iter().zip(outcome.report.chunks_exact(4));
@@ -101,7 +101,7 @@ fn jobs_of_which_a_tenth_waits() {
 /// The part of its limit that a request has used, in hundredths: the most of a job's requests of a
 /// kind.
 fn most_of_the_limit(job: &Job, kind: Kind) -> u32 {
-    let outcome = Outcome::traced(&job.file().expect("accepted"), AMPLE).0;
+    let outcome = Outcome::traced(&job.accepted(), AMPLE).0;
     let rows = job.requests.iter().zip(outcome.report.chunks_exact(4));
     let own = rows.filter(|(request, _)| request.kind == kind);
     own.map(|(_, row)| 100 * row[3] / limits::of(kind, job.nodes)).max().unwrap_or(0)
@@ -139,7 +139,7 @@ fn built_jobs() {
 #[test]
 fn jobs_with_thousands_of_pairs() {
     for job in [gen::one_after_the_other(), gen::head_after_head()] {
-        let tally = Outcome::traced(&job.file().expect("accepted"), AMPLE).0.played.tally;
+        let tally = Outcome::traced(&job.accepted(), AMPLE).0.played.tally;
         assert_eq!(tally.working, 0);
         assert!(2 * tally.idle as usize > job.grants.len(), "most grants are idle");
         assert_eq!(check(&job, 0), Ok(()));
@@ -155,7 +155,7 @@ fn a_cut_leaves_what_the_grants_before_it_left() {
     let poised = (0..500).map(|seed| gen::poised(&mut Random::new(seed)));
     let all = seeded.chain(waiting).chain(held).chain(poised).chain(gen::built());
     for job in all.filter(small) {
-        let (_, trace) = Outcome::traced(&job.file().expect("accepted"), AMPLE);
+        let (_, trace) = Outcome::traced(&job.accepted(), AMPLE);
         for grants in 0..=job.grants.len() {
             let cut = job.cut(grants);
             let before: Vec<_> = trace
@@ -163,10 +163,10 @@ fn a_cut_leaves_what_the_grants_before_it_left() {
                 .copied()
                 .take_while(|access| access.grant as usize <= grants)
                 .collect();
-            let (outcome, of_cut) = Outcome::traced(&cut.file().expect("accepted"), AMPLE);
+            let (outcome, of_cut) = Outcome::traced(&cut.accepted(), AMPLE);
             assert_eq!(of_cut, before);
             for player in PLAYERS {
-                let played = Outcome::of(player.play, &cut.file().expect("accepted"), AMPLE);
+                let played = Outcome::of(player.play, &cut.accepted(), AMPLE);
                 assert_eq!(played, outcome, "{}", player.name);
             }
             assert_eq!(demand::check(&cut, &before, &outcome), Ok(()), "{cut:?}");
@@ -193,7 +193,7 @@ fn the_last_of_the_most_heads_works() {
             left += u32::from(!work_ends);
         }
         let job = gen::held(&mut Random::new(seed));
-        let at_first = play::waits_after(&job.cut(0).file().expect("accepted"));
+        let at_first = play::waits_after(&job.cut(0).accepted());
         let waits = |waits: Vec<Option<usize>>| waits.get(last).is_some_and(Option::is_some);
         waited += u32::from(at_first.is_ok_and(waits) && works_to_its_end(&job, last as u8));
     }
@@ -204,7 +204,7 @@ fn the_last_of_the_most_heads_works() {
 
 /// Whether every request of a head is finished.
 fn works_to_its_end(job: &Job, head: u8) -> bool {
-    let outcome = Outcome::traced(&job.file().expect("accepted"), AMPLE).0;
+    let outcome = Outcome::traced(&job.accepted(), AMPLE).0;
     let rows = job.requests.iter().zip(outcome.report.chunks_exact(4));
     rows.filter(|(request, _)| request.head == head).all(|(_, row)| row[0] != answer::UNFINISHED)
 }
@@ -216,7 +216,7 @@ fn jobs_contend() {
     let (mut last_wrote, mut last_failed) = (0, 0);
     for seed in 0..2_000 {
         let job = gen::contended(&mut Random::new(seed));
-        let (outcome, trace) = Outcome::traced(&job.file().expect("accepted"), AMPLE);
+        let (outcome, trace) = Outcome::traced(&job.accepted(), AMPLE);
         let tidies = |access: &&Access| {
             let row = &outcome.report[4 * access.request..];
             row[0] == answer::JOINED && row[2] == access.grant
@@ -251,7 +251,7 @@ fn jobs_contend() {
 fn a_listing_shows_the_outcome() {
     for seed in 0..JOBS {
         let job = gen::varied(&mut Random::new(seed));
-        let file = job.file().expect("accepted");
+        let file = job.accepted();
         let Outcome { played, table, report, lineup } = by_plain(&file, AMPLE);
         let text = listing::text(&played, &table, &report, &lineup);
         for player in PLAYERS {

@@ -10,7 +10,7 @@ use peer::player::{Outcome, Player, AMPLE, PEER};
 use peer::sheet::{Listed, MAX_SHEET};
 
 use crate::edges::bytes;
-use crate::PLAYERS;
+use crate::{Accepted, PLAYERS};
 
 /// What a call leaves: its result with every byte lent, used or not.
 #[derive(Debug, PartialEq, Eq)]
@@ -140,7 +140,7 @@ fn a_waiting_request_is_seen_alone() {
 fn the_most_heads() {
     let rights: Vec<(u32, u32)> = vec![(3, u32::MAX); 32];
     let job = Job::new(2, 32, &[Request::union(31, 0, 1)], &[(31, 13)]).entitled(&rights);
-    let file = job.file().expect("accepted");
+    let file = job.accepted();
     assert_eq!(file.len(), 278);
     for head in [0, 31] {
         gives(&file, head, "request 0 1 1 13 13\nline 5 0\n");
@@ -232,7 +232,11 @@ fn requests_outside_rights() {
         asked(rights, "52 51 02 01 02 00 03 00", 6);
         // Head 1 may ask for both, and grants are nobody's right.
         let rest = [ENQUIRE, "52 51 01 01 02 00 03 00", GRANTS, "="];
-        assert!(job::read(&file(&[&rights[..], &rest].concat())).is_ok());
+        let file = file(&[&rights[..], &rest].concat());
+        for player in PLAYERS {
+            let played = Outcome::of(player.play, &file, AMPLE).played;
+            assert_eq!(played.number, 0, "{}", player.name);
+        }
     }
     // The first request that is refused decides.
     refused(&[&enquires[..], &[JOIN, "52 51 00 01 02 00 04 00", CLOSE]].concat(), 20);
@@ -289,7 +293,7 @@ fn sheets_are_lines_of_the_listing() {
         gen::with_rights(&mut random, job)
     });
     for job in small.chain(larger) {
-        let file = job.file().expect("accepted");
+        let file = job.accepted();
         let listing = (PEER.list)(&file);
         for head in 0..job.heads {
             gives(&file, head, &from_listing(&listing, &job, head));
@@ -317,7 +321,7 @@ fn sight_of_every_head() {
         let entitled = job.clone().entitled(&rights);
         let own = |line: &&str| line.starts_with("request ") || line.starts_with("line ");
         for job in [job, entitled] {
-            let file = job.file().expect("accepted");
+            let file = job.accepted();
             for player in PLAYERS {
                 let listing = (player.list)(&file);
                 let text: String = listing.split_inclusive('\n').filter(own).collect();
@@ -332,7 +336,7 @@ fn sight_of_every_head() {
 /// What two runs have to agree on: of each request that a head sees, in file order, its kind and
 /// nodes, its four report numbers and its point.
 fn view(job: &Job, head: u32) -> Vec<(Request, [u32; 4], Option<u32>)> {
-    let outcome = Outcome::of(PEER.play, &job.file().expect("accepted"), AMPLE);
+    let outcome = Outcome::of(PEER.play, &job.accepted(), AMPLE);
     let entries = outcome.lineup.as_chunks::<2>().0[..outcome.played.entries as usize].iter();
     let point = |number: usize| {
         let mut own = entries.clone().filter(|entry| entry[1] as usize == number);
@@ -346,7 +350,7 @@ fn view(job: &Job, head: u32) -> Vec<(Request, [u32; 4], Option<u32>)> {
 
 /// Every player gives the same for both, of a buffer that is long enough, exact or too short.
 fn same_sheets(job: &Job, other: &Job, head: u32) {
-    let [file, of_other] = [job, other].map(|job| job.file().expect("accepted"));
+    let [file, of_other] = [job, other].map(|job| job.accepted());
     for player in PLAYERS {
         let left = Left::of(&player, &file, head, MAX_SHEET);
         assert_eq!(left.listed.number, refusal::NONE, "{}", player.name);
@@ -367,12 +371,10 @@ fn two_runs_that_agree() {
     let runs = [(0, 13), (1, 3), (2, 3)];
     let other = Job::new(4, 3, &[first, joins, asks], &runs).entitled(&rights);
     for job in [&job, &other] {
-        gives(&job.file().expect("accepted"), 0, "request 0 1 1 13 13\nline 5 0\n");
+        gives(&job.accepted(), 0, "request 0 1 1 13 13\nline 5 0\n");
     }
     same_sheets(&job, &other, 0);
-    let text = |player: &Player, job: &Job| {
-        Left::of(player, &job.file().expect("accepted"), 2, MAX_SHEET).out
-    };
+    let text = |player: &Player, job: &Job| Left::of(player, &job.accepted(), 2, MAX_SHEET).out;
     for player in PLAYERS {
         assert_ne!(text(&player, &job), text(&player, &other), "{}", player.name);
     }
@@ -412,7 +414,7 @@ fn reordered(random: &mut Random, job: Job, head: u32) -> Job {
 /// request each; what the head does not see and has not begun is asked of other nodes; the other
 /// heads may ask for more and see whom they like.
 fn elsewhere(random: &mut Random, job: &Job, head: u32) -> Job {
-    let report = Outcome::of(PEER.play, &job.file().expect("accepted"), AMPLE).report;
+    let report = Outcome::of(PEER.play, &job.accepted(), AMPLE).report;
     let mut other = job.clone();
     other.heads = random.between(job.heads, MAX_HEADS.min(job.heads + 3));
     for new in job.heads..other.heads {
@@ -449,8 +451,7 @@ fn what_is_not_seen_does_not_show() {
         assert_eq!(view(&job, head), view(&other, head), "seed {seed}");
         same_sheets(&job, &other, head);
         filled += u32::from(seen(&job, head) > 0);
-        differ +=
-            u32::from((PEER.list)(&job.file().unwrap()) != (PEER.list)(&other.file().unwrap()));
+        differ += u32::from((PEER.list)(&job.accepted()) != (PEER.list)(&other.accepted()));
         moved += u32::from(seen(&job, head) > 0 && job.requests[0] != other.requests[0]);
     }
     assert!(filled >= 500 && differ >= 500 && moved >= 100, "{filled} {differ} {moved}");
@@ -471,7 +472,7 @@ fn a_sheet_changes_with_what_is_seen() {
             let agree = view(&before, head) == view(&after, head);
             for player in PLAYERS {
                 let [before, after] = [&before, &after]
-                    .map(|job| Left::of(&player, &job.file().expect("accepted"), head, MAX_SHEET));
+                    .map(|job| Left::of(&player, &job.accepted(), head, MAX_SHEET));
                 assert_eq!(before == after, agree, "{}: seed {seed}, {grants}", player.name);
             }
             same += u32::from(agree);

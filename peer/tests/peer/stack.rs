@@ -10,6 +10,8 @@ use peer::gen::{self, Random};
 use peer::job::{Draft, Job, Request, MAX_HEADS};
 use peer::player::{Outcome, AMPLE};
 
+use crate::Accepted;
+
 /// A thread of this size makes the longest enquiry.
 const THREAD: usize = 64 << 10;
 
@@ -87,7 +89,7 @@ fn files() -> Vec<Vec<u8>> {
 }
 
 fn file(job: &Job) -> Vec<u8> {
-    job.file().expect("accepted")
+    job.accepted()
 }
 
 #[test]

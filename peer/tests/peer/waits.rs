@@ -7,7 +7,7 @@ use peer::numbers::{answer, refusal};
 use peer::play;
 use peer::player::{Outcome, AMPLE, PEER};
 
-use crate::PLAYERS;
+use crate::{Accepted, PLAYERS};
 
 fn union(head: u8, x: u32, y: u32) -> Request {
     Request::union(head, x, y)
@@ -55,7 +55,7 @@ fn bytes_of_a_pair() {
     ];
     lists("a pair", &file, &of_pair);
 
-    let without = sealed(&runs).waiting(&[]).file().expect("accepted");
+    let without = sealed(&runs).waiting(&[]).accepted();
     assert_eq!(without[without.len() - 4..], [0x43, 0x4C, 0xF7, 0xB5]);
     let of_none = [
         "job 2 2 2 22",
@@ -72,7 +72,7 @@ fn bytes_of_a_pair() {
 
 #[test]
 fn linked_is_not_finished() {
-    let file = sealed(&[(0, 12), (1, 2)]).file().expect("accepted");
+    let file = sealed(&[(0, 12), (1, 2)]).accepted();
     assert_eq!(file[file.len() - 4..], [0x43, 0x4C, 0xFD, 0xC9]);
     let linked = [
         "job 2 2 2 14",
@@ -93,7 +93,7 @@ fn linked_is_not_finished() {
         "line 5 0",
         "tally 0 1 1 1",
     ];
-    let file = sealed(&[(0, 13), (1, 2)]).file().expect("accepted");
+    let file = sealed(&[(0, 13), (1, 2)]).accepted();
     lists("a finished one no longer", &file, &finished);
 }
 
@@ -110,8 +110,8 @@ fn pairs_of_one_head() {
         "line 19 1",
         "tally 0 1 1 0",
     ];
-    lists("no pair", &job.file().expect("accepted"), &lines);
-    lists("no effect", &job.waiting(&[(1, 0)]).file().expect("accepted"), &lines);
+    lists("no pair", &job.accepted(), &lines);
+    lists("no effect", &job.waiting(&[(1, 0)]).accepted(), &lines);
 }
 
 /// Four nodes, three heads: two unions, and a same-set about both.
@@ -133,7 +133,7 @@ fn more_pairs() {
         "tally 2 2 2 1",
     ];
     let lines = [&["job 4 3 3 31"], &JOINED_TWICE[..], &after_both].concat();
-    lists("one waits for two", &both.file().expect("accepted"), &lines);
+    lists("one waits for two", &both.accepted(), &lines);
 
     let chain = three_heads(&[(2, 2), (1, 2), (0, 13), (1, 13), (2, 3)]);
     let after_chain = [
@@ -146,7 +146,7 @@ fn more_pairs() {
     ];
     let lines = [&["job 4 3 3 33"], &JOINED_TWICE[..], &after_chain].concat();
     let chain = chain.waiting(&[(1, 0), (2, 1)]);
-    lists("one after the other", &chain.file().expect("accepted"), &lines);
+    lists("one after the other", &chain.accepted(), &lines);
 }
 
 #[test]
@@ -165,7 +165,7 @@ fn a_head_waits_with_its_second_request() {
         "line 22 2",
         "tally 1 1 1 0",
     ];
-    lists("its first one ends", &job.file().expect("accepted"), &lines);
+    lists("its first one ends", &job.accepted(), &lines);
 }
 
 /// The longest files that there can be, which no file without pairs reaches.
@@ -174,7 +174,7 @@ fn longest_files() {
     let most = gen::most_pairs();
     assert_eq!((most.requests.len(), most.waits.len()), (512, 4_777));
     for job in [most, gen::longest_wait()] {
-        let file = job.file().expect("accepted");
+        let file = job.accepted();
         assert_eq!(file.len(), job::MAX_BYTES);
         for player in PLAYERS {
             let outcome = Outcome::of(player.play, &file, AMPLE);
@@ -295,7 +295,7 @@ fn what_heads_wait_for() {
     let mut most = 0;
     for job in waiting.chain(held).filter(small) {
         for grants in 0..=job.grants.len() {
-            let file = job.cut(grants).file().expect("accepted");
+            let file = job.cut(grants).accepted();
             let outcome = Outcome::of(play::play, &file, AMPLE);
             let waits = play::waits_after(&file).expect("accepted");
             assert_eq!(waits, waits_by_report(&job, &outcome.report), "{job:?} {grants}");
@@ -309,14 +309,14 @@ fn what_heads_wait_for() {
 #[test]
 fn the_lowest_is_waited_for() {
     let job = three_heads(&[(2, 1), (1, 13), (2, 1), (0, 13), (2, 3)]).waiting(&[(2, 0), (2, 1)]);
-    let waits = |grants| play::waits_after(&job.cut(grants).file().expect("accepted"));
+    let waits = |grants| play::waits_after(&job.cut(grants).accepted());
     for grants in 0..=31 {
         let of_last = if grants < 28 { Some(0) } else { None };
         assert_eq!(waits(grants), Ok(vec![None, None, of_last]), "{grants}");
     }
     // Once the lower one is finished, the other is left.
     let job = three_heads(&[(0, 13), (1, 13), (2, 1)]).waiting(&[(2, 0), (2, 1)]);
-    let waits = |grants| play::waits_after(&job.cut(grants).file().expect("accepted"));
+    let waits = |grants| play::waits_after(&job.cut(grants).accepted());
     for (grants, told) in [(12, Some(0)), (13, Some(1)), (25, Some(1)), (26, None), (27, None)] {
         assert_eq!(waits(grants).expect("accepted")[2], told, "{grants}");
     }

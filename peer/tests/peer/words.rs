@@ -10,6 +10,8 @@ use peer::page::{self, Row, MAX_PAGE, MAX_ROWS};
 use peer::player::{Outcome, AMPLE, PEER};
 use peer::sheet::MAX_SHEET;
 
+use crate::Accepted;
+
 /// What the program does with these words and this input: its status, output and errors.
 fn run(words: &[&str], input: &[u8]) -> (Option<i32>, String, String) {
     let mut child = Command::new(env!("CARGO_BIN_EXE_peer"))
@@ -48,7 +50,7 @@ fn page() {
     assert_eq!(printed(&["page"], b""), "refused 2\n");
     for seed in 0..20 {
         let job = gen::larger(&mut Random::new(seed));
-        let file = job.file().expect("accepted");
+        let file = job.accepted();
         let Outcome { table, .. } = Outcome::of(PEER.play, &file, AMPLE);
         let (mut rows, mut page) = (vec![Row::default(); MAX_ROWS], vec![0; MAX_PAGE]);
         let paged = page::page(&table[..job.nodes as usize], &mut rows, &mut page);
@@ -70,7 +72,7 @@ fn sheet() {
     for seed in 0..20 {
         let mut random = Random::new(seed);
         let job = gen::entitled(&mut random);
-        let (file, head) = (job.file().expect("accepted"), random.below(job.heads));
+        let (file, head) = (job.accepted(), random.below(job.heads));
         let mut out = vec![0; MAX_SHEET];
         let listed = (PEER.sheet)(&file, head, &mut out);
         out.truncate(listed.bytes);

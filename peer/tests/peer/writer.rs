@@ -5,7 +5,7 @@ use peer::job::{Draft, Job, Request, MAX_BYTES, MAX_HEADS};
 use peer::numbers::refusal;
 use peer::player::Player;
 
-use crate::PLAYERS;
+use crate::{Accepted, PLAYERS};
 
 /// What the writer gives for a buffer of this length, its bytes past the file as lent.
 pub fn written(player: &Player, draft: &Draft, length: usize) -> Result<Vec<u8>, u32> {
@@ -26,7 +26,7 @@ pub fn written(player: &Player, draft: &Draft, length: usize) -> Result<Vec<u8>,
 fn fills_what_it_needs() {
     for (player, seed) in PLAYERS.iter().flat_map(|player| (0..2_000).map(move |n| (player, n))) {
         let job = gen::varied(&mut Random::new(seed));
-        let (draft, file) = (job.draft(), job.file().expect("accepted"));
+        let (draft, file) = (job.draft(), job.accepted());
         assert_eq!(written(player, &draft, file.len()), Ok(file.clone()));
         assert_eq!(written(player, &draft, file.len() + 3), Ok(file.clone()));
         let short = written(player, &draft, file.len() - 1);
@@ -212,8 +212,8 @@ fn one_union() -> Job {
 
 #[test]
 fn writes_rights() {
+    let job = one_union().entitled(&[(2, 0), (1, 3)]);
     for player in PLAYERS {
-        let job = one_union().entitled(&[(2, 0), (1, 3)]);
         let file = [
             0x44, 0x4B, 0x04, 0x00, 0x02, 0x00, // four nodes, two heads
             0x52, 0x54, 0x00, 0x02, 0x00, 0x00, 0x00, 0x00, //
@@ -226,6 +226,7 @@ fn writes_rights() {
         assert_eq!(written(100).as_deref(), Ok(&file[..]), "{}", player.name);
         assert_eq!(written(file.len()).as_deref(), Ok(&file[..]));
         assert_eq!(written(file.len() - 1), Err(refusal::BUFFER_TOO_SHORT));
+        assert_eq!(job.accepted(), file);
     }
     // The sight's four bytes, low byte first.
     let rights: Vec<(u32, u32)> = (0..32).map(|head| (3, 0x8421_0000 + head)).collect();
@@ -234,6 +235,7 @@ fn writes_rights() {
         let file = written(&player, &job.draft(), MAX_BYTES).expect("accepted");
         assert_eq!(file[6 + 8 * 31..][..8], [0x52, 0x54, 0x1F, 0x03, 0x1F, 0x00, 0x21, 0x84]);
         assert_eq!(file.len(), 6 + 8 * 32 + 4);
+        assert_eq!(job.accepted(), file);
     }
 }
 

@@ -11,6 +11,8 @@ use peer::player::{Outcome, AMPLE};
 
 use crate::plain::{self, Turn, WRONG_TURNS};
 
+use crate::Accepted;
+
 fn taking(turn: Turn, file: &[u8]) -> (Outcome, Vec<Access>) {
     let trace = std::cell::RefCell::new(Vec::new());
     let play = |file: &[u8], table: &mut [u32], report: &mut [u32], lineup: &mut [u32]| {
@@ -30,7 +32,7 @@ fn jobs() -> impl Iterator<Item = Job> {
 fn jobs_tell_every_wrong_turn() {
     for turn in WRONG_TURNS {
         let told = |job: &Job| {
-            let file = job.file().expect("accepted");
+            let file = job.accepted();
             taking(turn, &file).0 != Outcome::of(play::play, &file, AMPLE)
         };
         assert!(jobs().filter(told).count() >= 5, "{turn:?}");
@@ -41,7 +43,7 @@ fn jobs_tell_every_wrong_turn() {
 fn demands_catch_wrong_results() {
     let caught = |turn| {
         jobs().any(|job| {
-            let (outcome, trace) = taking(turn, &job.file().expect("accepted"));
+            let (outcome, trace) = taking(turn, &job.accepted());
             demand::check(&job, &trace, &outcome).is_err()
         })
     };
@@ -71,7 +73,7 @@ type Change = fn(&mut Outcome);
 fn demands_name_what_is_wrong() {
     // As many grants as the union now takes, so that both requests end.
     let job = thirty_eight(13);
-    let (right, trace) = Outcome::traced(&job.file().expect("accepted"), AMPLE);
+    let (right, trace) = Outcome::traced(&job.accepted(), AMPLE);
     let sentence = |change: Change| {
         let mut wrong = right.clone();
         change(&mut wrong);
@@ -97,7 +99,7 @@ fn demands_name_what_is_wrong() {
 #[test]
 fn demands_want_unions_tidied_up() {
     let job = thirty_eight(6);
-    let (mut outcome, trace) = Outcome::traced(&job.file().expect("accepted"), AMPLE);
+    let (mut outcome, trace) = Outcome::traced(&job.accepted(), AMPLE);
     assert_eq!(demand::check(&job, &trace, &outcome), Ok(()));
     outcome.report[..4].copy_from_slice(&[answer::JOINED, 3, 8, 6]);
     outcome.played.tally.working = 0;
@@ -111,7 +113,7 @@ fn demands_want_waits_kept() {
     let requests = [Request::union(0, 0, 1), Request::same_set(1, 0, 1)];
     let verdict = |turn, runs: &[(u8, usize)]| {
         let job = Job::new(2, 2, &requests, runs).waiting(&[(1, 0)]);
-        let (outcome, trace) = taking(turn, &job.file().expect("accepted"));
+        let (outcome, trace) = taking(turn, &job.accepted());
         demand::check(&job, &trace, &outcome)
     };
     let before = "what waited stands after what it waited for";
@@ -135,7 +137,7 @@ fn demands_want_waits_kept() {
 fn demands_want_requests_to_end() {
     let verdict = |turn, grants| {
         let job = Job::new(2, 1, &[Request::same_set(0, 0, 1)], &[(0, grants)]);
-        let (outcome, trace) = taking(turn, &job.file().expect("accepted"));
+        let (outcome, trace) = taking(turn, &job.accepted());
         demand::check(&job, &trace, &outcome)
     };
     let (ends, most) =

@@ -9,7 +9,7 @@ use peer::player::{Outcome, AMPLE};
 use peer::word::word;
 use workbench::cut::Word;
 use workbench::draft::Draft;
-use workbench::explain::{explain, Filter};
+use workbench::explain::{deed, explain, Filter};
 use workbench::job::Job;
 use workbench::story::{Happening, Idle, Story, Used, Window};
 
@@ -19,8 +19,24 @@ fn whole(job: &Job) -> Story {
     Story::of(job, Window::of(job))
 }
 
-/// What the second player did with a grant is what the difference of two cuts tells.
-fn same_deed(used: &Used, access: &Access, outcome: &Outcome) {
+/// How a grant's deed is told.
+const DEEDS: [&str; 5] =
+    ["looks", "its swap fails", "links: ", "raises place ", "shortens the way: "];
+
+/// Which of them it is, by the second player's access.
+fn deed_of(access: &Access) -> usize {
+    match access.deed {
+        Deed::Read => 0,
+        Deed::Swap { .. } if access.failed() => 1,
+        Deed::Swap { new, .. } if new == access.seen => 0,
+        Deed::Swap { .. } if access.tries_link() => 2,
+        Deed::Swap { .. } if access.tries_raise() => 3,
+        Deed::Swap { .. } => 4,
+    }
+}
+
+/// What the second player did with a grant is what the difference of two cuts tells, in words too.
+fn same_deed(job: &Job, used: &Used, access: &Access, outcome: &Outcome) {
     let row = &outcome.report[4 * access.request..][..4];
     assert_eq!((used.grant, used.head, used.request), (access.grant, access.head, access.request));
     assert_eq!(used.begins, row[1] == access.grant);
@@ -38,6 +54,9 @@ fn same_deed(used: &Used, access: &Access, outcome: &Outcome) {
     assert_eq!(told, expected);
     let ended = used.ended.map(|row| [row.answer as u32, row.used]);
     assert_eq!(ended, (row[2] == access.grant).then_some([row[0], row[3]]));
+    let said = deed(job, used);
+    let told: Vec<usize> = (0..DEEDS.len()).filter(|&which| said.contains(DEEDS[which])).collect();
+    assert_eq!(told, [deed_of(access)], "{said}");
 }
 
 /// Nobody used these grants, and heads wait as the second player has it.
@@ -55,19 +74,21 @@ fn same_rest(job: &peer::job::Job, idle: &Idle, trace: &[Access]) {
 
 #[test]
 fn grants_are_told_as_the_second_player_made_them() {
-    let (mut deeds, mut waited) = (0, 0);
+    let (mut deeds, mut waited) = ([0; DEEDS.len()], 0);
     for job in seeded(400).chain(gen::built().into_iter().take(4)) {
         let file = file_of(&job);
         let (outcome, trace) = Outcome::traced(&file, AMPLE);
         let mut accesses = trace.iter();
         let mut next = 1;
-        for happening in whole(&Job::read(&file).expect("accepted")).happenings {
+        let read = Job::read(&file).expect("accepted");
+        for happening in whole(&read).happenings {
             match happening {
                 Happening::Used(used) => {
                     assert_eq!(used.grant as usize, next);
-                    same_deed(&used, accesses.next().expect("an access"), &outcome);
+                    let access = accesses.next().expect("an access");
+                    same_deed(&read, &used, access, &outcome);
+                    deeds[deed_of(access)] += 1;
                     next += 1;
-                    deeds += 1;
                 }
                 Happening::Idle(idle) => {
                     assert_eq!(idle.window.from, next);
@@ -79,7 +100,8 @@ fn grants_are_told_as_the_second_player_made_them() {
         }
         assert_eq!((next, accesses.next()), (job.grants.len() + 1, None));
     }
-    assert!(deeds > 10_000 && waited > 100, "{deeds} {waited}");
+    assert!(deeds.iter().sum::<u32>() > 10_000 && waited > 100, "{deeds:?} {waited}");
+    assert!(deeds.iter().all(|&times| times >= 20), "{deeds:?}");
 }
 
 /// Two stretches of idle grants never stand side by side, however long they are.
