@@ -13,12 +13,13 @@ fn main() {
     let folder = root.join("target");
     let library = folder.join("libgrouping.a");
     println!("cargo:rerun-if-changed={}", library.display());
-    println!("cargo:rerun-if-changed={}", root.join("crates").display());
     let Ok(made) = changed(&library) else {
         refuse(root, &format!("{} is missing", library.display()));
     };
     let sources = sources(&root.join("crates")).expect("crates/ can be read");
     for source in sources {
+        // Not crates/ as a whole: rt keeps its work in crates/NAME/out.
+        println!("cargo:rerun-if-changed={}", source.display());
         if changed(&source).is_ok_and(|time| time > made) {
             refuse(root, &format!("{} is older than {}", library.display(), source.display()));
         }

@@ -24,12 +24,11 @@ fn link_up(table: &mut [Word])
     }
 }
 
-fn main() {
+fn main(rt: HostRuntime) {
     let mut table = [0; MOST_NODES];
     link_up(&mut table);
     let told = query::query(&mut table, 0, 1, 65535);
-    io::print_decimal(1, told.answer as u64);
-    io::write_all(1, &[b' ']);
-    io::print_decimal(1, told.used as u64);
-    io::write_all(1, &[b'\n']);
+    let answer = told.answer;
+    let used = told.used;
+    let _ = println!(rt; "{answer} {used}");
 }

@@ -32,8 +32,7 @@ pub record Put (text before after : List ℕ) (bytes : ℕ) : Type 0 where
   -- bytes beyond what is written stay
   pub stored : after ≡ text ++ drop (length text) before
 
--- No contract can name the bytes that a read finds; what is known of them is that a read leaves the first of them in order,
--- and that it stops before the buffer is full only where the input ends.
+-- What reading leaves: the first bytes of the input in order, and fewer than the buffer has room for only where the input ends.
 abbrev pub Holds : List ℕ → List ℕ → ℕ → Type 0
 Holds input buffer bytes = take bytes buffer ≡ take (length buffer) input
 

@@ -3,14 +3,16 @@
 
 mod input;
 
-ghost use Rattle.std.specs.Prelude.{◌≤◌, ◌<◌, length};
-ghost use Rattle.io.specs.Counts.{IsPrefixLen};
+ghost use Rattle.std.specs.Prelude.{◌≡◌, ◌≤◌, ◌<◌, length, IfSome};
+ghost use Rattle.std.specs.Io.KnownBytes.{Appends, Keeps};
 ghost use Rattle.listing.specs.Listing.{listing};
 ghost use Rattle.jobfile.specs.Format.{most_bytes};
 ghost use Rattle.dock.specs.Dock.{output, longest, Put, PutInput, Printable};
+ghost use Rattle.dock.specs.declared.Ended.TheVariants.{Printed, Unread};
 
 use input::read_input;
 use job::{MOST_NODES, MOST_REQUESTS, Played};
+use std::io::{Read, Write};
 use word::Word;
 
 // Writes the text of a play into `out`, which has room for every text, and answers the text's length.
@@ -49,28 +51,116 @@ fn print_input(buffer: &[u8], bytes: usize, out: &mut [u8]) -> usize
     requires bytes_in_bounds { bytes ≤ length buffer.now }
     requires longest_in_bounds { longest ≤ length out.old }
     ensures put_input { PutInput buffer.now bytes out.old out.new result }
-    ensures prefix_len { IsPrefixLen result out.new }
+    ensures prefix_len { result ≤ length out.new }
 {
     print_job(&buffer[..bytes], out)
 }
 
-// One line on standard error for what standard output can't tell.
-fn complain(line: &[u8]) {
-    io::write_all(libc::STDERR_FILENO, line);
+// How a run of the program ended.
+#[derive(Clone, Copy)]
+pub enum Ended {
+    Printed,
+    Unread,
+    Unwritten,
 }
 
-// Where the input can't be read, nothing is printed; where the text can't be written whole, standard error says so.
-fn main() {
+// Reads a job file up to the input's end and prints its text. Where the input can't be read, nothing is printed. Of a reader
+// and a writer whose bytes are known: the text of what was left to read stands behind what was written.
+fn run<R: Read, W: Write>(reader: &mut R, writer: &mut W) -> Ended
+    ensures printed { result ≡ Printed → IfSome (R.remaining reader.old)
+        (λ file. Appends (W.contents writer.old) (W.contents writer.new) (output file)) }
+    ensures unread { result ≡ Unread → Keeps (W.contents writer.old) (W.contents writer.new) }
+{
     let mut buffer = [0u8; 32769];
-    let input = read_input(&mut buffer);
+    let input = read_input(reader, &mut buffer);
     if input.failed {
-        complain(b"dock: standard input can't be read\n");
-        return;
+        return Ended::Unread;
     }
     let bytes = input.bytes;
     let mut out = [0u8; 327808];
     let printed = print_input(&buffer, bytes, &mut out);
-    if !io::write_all(libc::STDOUT_FILENO, &out[..printed]) {
-        complain(b"dock: standard output can't be written\n");
+    match writer.write_all(&out[..printed]) {
+        Ok(()) => Ended::Printed,
+        Err(_) => Ended::Unwritten,
+    }
+}
+
+// One line on standard error for what standard output can't tell.
+fn complain(rt: &impl Eprint, line: &str) {
+    let _ = rt.eprintln(line);
+}
+
+// Where the input can't be read, nothing is printed; where the text can't be written whole, standard error says so.
+fn main(rt: HostRuntime) {
+    match run(&mut rt.stdin(), &mut rt.stdout()) {
+        Ended::Printed => {}
+        Ended::Unread => complain(&rt, "dock: standard input can't be read"),
+        Ended::Unwritten => complain(&rt, "dock: standard output can't be written"),
+    }
+}
+
+#[cfg(test)]
+mod tests {
+    use super::*;
+    use std::io;
+    use std::io::ErrorKind;
+    use std::test::Fail;
+
+    // Gives its bytes one at a time, and then an error in place of the input's end.
+    #[derive(Drop)]
+    struct Torn<'a> {
+        left: &'a [u8],
+    }
+
+    impl Read for Torn<'_> {
+        fn read(&mut self, buffer: &mut [u8]) -> io::Result<usize> {
+            match self.left.split_first() {
+                Some((first, rest)) if 0 < buffer.len() => {
+                    buffer[0] = *first;
+                    self.left = rest;
+                    Ok(1)
+                }
+                _ => Err(io::Error::from(ErrorKind::Other)),
+            }
+        }
+    }
+
+    // Takes one byte, and then nothing more.
+    #[derive(Drop)]
+    struct Full {
+        bytes: usize,
+    }
+
+    impl Write for Full {
+        fn write(&mut self, bytes: &[u8]) -> io::Result<usize> {
+            if self.bytes == 0 && 0 < bytes.len() {
+                self.bytes = 1;
+                return Ok(1);
+            }
+            Err(io::Error::from(ErrorKind::Other))
+        }
+
+        fn flush(&mut self) -> io::Result<()> {
+            Ok(())
+        }
+    }
+
+    // A file that ends early, told; the same with a read, and with a write, that fails in the middle.
+    #[test]
+    fn failures_in_the_middle(rt: HostRuntime) -> Result<(), Fail> {
+        let file = b"DK\x01\0";
+        let mut out = Vec::new(rt.alloc());
+        let mut whole = &file[..];
+        assert!(rt; matches!(run(&mut whole, &mut out), Ended::Printed));
+        assert!(rt; out.as_slice() == b"refused 2\n".as_slice());
+        let mut nothing = Vec::new(rt.alloc());
+        let mut torn = Torn { left: &file[..] };
+        assert!(rt; matches!(run(&mut torn, &mut nothing), Ended::Unread));
+        assert!(rt; nothing.is_empty());
+        let mut whole = &file[..];
+        let mut full = Full { bytes: 0 };
+        assert!(rt; matches!(run(&mut whole, &mut full), Ended::Unwritten));
+        assert_eq!(rt; full.bytes, 1);
+        Ok(())
     }
 }

@@ -18,7 +18,6 @@
 ghost use Rattle.std.specs.Prelude.{◌≤◌};
 
 use crate::text::{copies, decimal, find, first_bytes, hexadecimal};
-use std::num::wrapping_add_u16;
 
 // Stores a byte, and gives the position behind it.
 fn put_byte(file: &mut [u8], at: usize, byte: u8) -> usize {
@@ -175,7 +174,7 @@ struct Pair {
 
 // The pair behind a pair where every request waits for all before it.
 fn next_pair(pair: Pair) -> Pair {
-    let earlier = wrapping_add_u16(pair.earlier, 1);
+    let earlier = pair.earlier.wrapping_add(1);
     if earlier < pair.later {
         return Pair {
             later: pair.later,
@@ -183,7 +182,7 @@ fn next_pair(pair: Pair) -> Pair {
         };
     }
     Pair {
-        later: wrapping_add_u16(pair.later, 1),
+        later: pair.later.wrapping_add(1),
         earlier: 0,
     }
 }

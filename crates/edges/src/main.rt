@@ -9,7 +9,6 @@ mod play;
 mod score;
 mod text;
 
-use libc::STDOUT_FILENO;
 use score::{Score, print_score};
 
 // Two bytes for the mark (2), the mark (3), the whole record (2); and the file ends with its close (2).
@@ -738,10 +737,7 @@ buffer of 25 bytes       | 2 2 25 | / / V*2 |            | 14
 
 // Reads every file without pairs.
 fn read_files(score: Score) -> Score {
-    io::write_all(
-        STDOUT_FILENO,
-        b"reader: number places heads requests grants runs pairs rights\n",
-    );
+    let score = score.say(b"reader: number places heads requests grants runs pairs rights\n");
     let score = file_cuts(score);
     let score = file_marks(score);
     let score = file_sizes(score);
@@ -776,8 +772,7 @@ fn read_rights(score: Score) -> Score {
 
 // Writes every job without pairs.
 fn write_jobs(score: Score) -> Score {
-    io::write_all(
-        STDOUT_FILENO,
+    let score = score.say(
         b"writer: number bytes, then what the reader answers for the written file\n",
     );
     let score = job_samples(score);
@@ -805,8 +800,8 @@ fn write_rights(score: Score) -> Score {
     job_right_lengths(score)
 }
 
-fn main() {
-    let score = Score { cases: 0, wrong: 0 };
+fn main(rt: HostRuntime) {
+    let score = Score::none(rt.stdout());
     let score = read_files(score);
     let score = read_pairs(score);
     let score = read_rights(score);

@@ -133,7 +133,7 @@ fn play_file(score: Score, row: &[u8]) -> Score {
     let mut file = file_room();
     let end = put_words(&mut file, field(row, 1));
     let answer = reader::check(first_bytes(&file, end));
-    print_checked(answer);
+    print_checked(score.out, answer);
     judge(score, is_same_checked(answer, checked_in(field(row, 2))))
 }
 
@@ -171,24 +171,24 @@ fn rest_bytes(bytes: &[u8], from: usize) -> &[u8] {
 // Whether a buffer is as it was from a position on.
 fn is_kept(out: &[u8], from: usize) -> bool {
     let room = file_room();
-    check::same(rest_bytes(out, from), rest_bytes(&room, from))
+    rest_bytes(out, from) == rest_bytes(&room, from)
 }
 
 // Whether a buffer starts with the bytes of a field.
 fn is_file(out: &[u8], bytes: usize, text: &[u8]) -> bool {
     let mut file = file_room();
     let end = put_words(&mut file, text);
-    check::same(first_bytes(out, bytes), first_bytes(&file, end))
+    first_bytes(out, bytes) == first_bytes(&file, end)
 }
 
 // Reads the written file again, prints the answer, and gives whether the row expects it. A refusal has left no file.
-fn read_again(row: &[u8], answer: Written, out: &[u8]) -> bool {
+fn read_again(score: Score, row: &[u8], answer: Written, out: &[u8]) -> bool {
     let expected = checked_in(field(row, 5));
     if answer.bytes == 0 {
         return is_same_checked(checked_in(b""), expected);
     }
     let again = reader::check(first_bytes(out, answer.bytes as usize));
-    print_checked(again);
+    print_checked(score.out, again);
     is_same_checked(again, expected)
 }
 
@@ -231,8 +231,8 @@ fn play_job(score: Score, row: &[u8]) -> Score {
     print_label(score, field(row, 0));
     let mut out = file_room();
     let answer = write_within(row, &mut out, room_in(row));
-    print_written(answer);
-    if !read_again(row, answer, &out) {
+    print_written(score.out, answer);
+    if !read_again(score, row, answer, &out) {
         return judge(score, false);
     }
     judge(score, is_left(row, answer, &out))

@@ -48,7 +48,9 @@ fn declares(text: &str, name: &str) -> bool {
             .trim_start_matches("pub ")
             .trim_start_matches("record ")
             .trim_start_matches("data ");
-        line.strip_prefix(name).is_some_and(|rest| rest.starts_with(" :") || rest.starts_with(" ("))
+        line.strip_prefix(name).is_some_and(|rest| {
+            rest.starts_with(" :") || rest.starts_with(" (") || rest.starts_with(" {")
+        })
     })
 }
 

@@ -1,2 +1,0 @@
--- What the loops of the program keep.
-pub mod Loops
