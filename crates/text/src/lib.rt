@@ -29,6 +29,7 @@ fn put_last_two(out: &mut [u8], at: usize, n: u32) -> usize
 }
 
 // Writes a number's decimal digits, two a call of its own.
+#[tactic(auto, using(crate::proofs::Text::decimal_digit, crate::proofs::Text::decimal_two))]
 pub fn put_decimal(out: &mut [u8], at: usize, n: u32) -> usize
     ensures { Wrote (decimal n) at out.old out.new result }
 {
@@ -56,6 +57,7 @@ pub fn put_bytes(out: &mut [u8], at: usize, bytes: &[u8]) -> usize
 }
 
 // Writes numbers, a space before each.
+#[tactic(auto, unfolding(crate::specs::Text::fields))]
 pub fn put_fields(out: &mut [u8], at: usize, numbers: &[u32]) -> usize
     ensures { Wrote (fields numbers.now) at out.old out.new result }
 {
