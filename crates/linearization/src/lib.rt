@@ -33,6 +33,7 @@ fn move_up(part: &mut [u32])
 }
 
 // Inserts an entry at its point: the numbers from there to the end of the new last entry are lent and moved up.
+#[tactic(auto, using(crate::proofs::Buffer::position_within, crate::proofs::Buffer::insertion_made))]
 pub fn insert_entry(linearization: &mut [u32], entries: u32, point: u32, request: u32)
     requires { Insertable linearization.old entries }
     ensures { linearization.new ≡ inserted linearization.old entries point request }
