@@ -79,7 +79,8 @@ mask_at n t b l = rw (← drop-drop) (mask_front (drop n t) (bytes_drop n t b) (
 pub right_back : (r : Right) (t : List ℕ) → right_at (right_bytes r ++ t) ≡ r
 right_back r t = λ i. record { head = r.head; rights = r.rights; sight = mask_back r.sight t i }
 
-right_passes : (heads number : ℕ) (r : Right) (t : List ℕ) → Held heads number r → right_record_refusal heads number (right_bytes r ++ t) ≡ 0
+right_passes : (heads number : ℕ) (r : Right) (t : List ℕ) → Held heads number r
+    → right_record_refusal heads number (right_bytes r ++ t) ≡ 0
 unfolding right_record_refusal
 right_passes heads number r t h =
     let u : List ℕ = right_bytes r ++ t in

@@ -15,11 +15,13 @@ use Rattle.job.specs.declared.Wait.{Wait}
 use Rattle.job.specs.declared.Right.{Right}
 use Rattle.jobfile.specs.declared.Run.{Run}
 use Rattle.job.specs.Job.{most_requests, may_ask, kind_of, right_of}
-use Rattle.jobfile.specs.Format.{job_mark, close_mark, job_size, right_size, request_size, wait_size, run_size, close_size, most_bytes, word}
+use Rattle.jobfile.specs.Format.{job_mark, close_mark, job_size, right_size, request_size, wait_size, run_size, close_size, most_bytes}
+use Rattle.jobfile.specs.Format.{word}
 use Rattle.jobfile.specs.Format.{word_sum, fields_refusal, no_pair, extends, length_refusal}
 use Rattle.jobfile.specs.Meaning.{nodes_in, heads_in, header_refusal, right_at, right_record_refusal, rights_refusal, missing_refusal}
 use Rattle.jobfile.specs.Meaning.{right_records, rights_in, requests_start, fields_at, request_refusal}
-use Rattle.jobfile.specs.Meaning.{requests_refusal, wait_at, wait_refusal, waits_refusal, run_refusal, runs_refusal, full_run, close_refusal}
+use Rattle.jobfile.specs.Meaning.{requests_refusal, wait_at, wait_refusal, waits_refusal, run_refusal, runs_refusal, full_run}
+use Rattle.jobfile.specs.Meaning.{close_refusal}
 use Rattle.jobfile.specs.Meaning.{balance_refusal, request_records, wait_records, run_records, close_start, file_refusal}
 use Rattle.jobfile.specs.Admitted.{Holds}
 use Rattle.jobfile.proofs.Refusals.{passed, through, Sized, sized, held, Fit, fit, may, Paired, paired}

@@ -20,7 +20,8 @@ use Rattle.job.specs.declared.Wait.{Wait}
 use Rattle.job.specs.declared.Right.{Right}
 use Rattle.job.specs.Job.{Job}
 use Rattle.jobfile.specs.declared.Run.{Run}
-use Rattle.jobfile.specs.Format.{request_size, wait_size, run_size, right_place, request_place, wait_place, run_place, file_size, most_bytes}
+use Rattle.jobfile.specs.Format.{request_size, wait_size, run_size, right_place, request_place, wait_place, run_place, file_size}
+use Rattle.jobfile.specs.Format.{most_bytes}
 use Rattle.jobfile.specs.Meaning.{heads_in, right_at, request_at, wait_at, run_at, full_run, granted, right_records, requests_start}
 use Rattle.jobfile.specs.Meaning.{request_records, waits_start, wait_records, runs_start, run_records, runs_in, job_in, meaning}
 use Rattle.jobfile.specs.Written.{longest_runs, file_with, written}

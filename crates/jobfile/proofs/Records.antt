@@ -149,7 +149,9 @@ module _ {A S : Type 0} (k : Layout A S) where
     section_passes : (before : S) (l : List A) → Passes t before l → refusal before (places (records_bytes k.bytes l ++ t)) ≡ 0
     unfolding first_refusal
     section_passes before [] p = rw (records_end k.size k.mark k.some k.marked t other)
-    section_passes before (a ∷ l) p = rw (places_next a l t, p.0) (section_passes _ l p.1)
+    section_passes before (a ∷ l) p =
+        let next = k.next before (k.bytes a ++ (records_bytes k.bytes l ++ t)) in
+        rw (places_next a l t, p.0) (section_passes next l p.1)
 
   pub section_other : (m : ℕ) (l : List A) (t : List ℕ) → (k.mark ≡ m → ⊥) → (word t ≡ m → ⊥)
       → word (records_bytes k.bytes l ++ t) ≡ m → ⊥

@@ -287,7 +287,8 @@ rights =
     -- 32 heads and a mask of all bits; bit 31 stands for a head of 32, and for none of 31
     ∷ accept (header 2 32 ++ rights_bytes (every_sight 0xFFFFFFFF 0 32) ++ request 31 1 0 1 ++ run 31 13 ++ close 0xCA8F)
     (job_with 2 32 (every_sight 0xFFFFFFFF 0 32) (record { head = 31; kind = Union; x = 0; y = 1 } ∷ []) [] (replicate 13 31))
-    ∷ accept (header 2 32 ++ rights_bytes (every_sight 0x80000000 0 32) ++ close 0x7C27) (job_with 2 32 (every_sight 0x80000000 0 32) [] [] [])
+    ∷ accept (header 2 32 ++ rights_bytes (every_sight 0x80000000 0 32) ++ close 0x7C27)
+    (job_with 2 32 (every_sight 0x80000000 0 32) [] [] [])
     ∷ refuse (header 2 31 ++ right 0 3 0x80000000) 19
     -- once begun, one a head: another mark, or the file's end before a mark
     ∷ refuse (claimed (right 0 3 3) ++ request 0 1 2 3) 3

@@ -26,7 +26,8 @@
 --   no_pair                  what stands before the first pair
 --   extends r g             a grant for head g could still have joined the run r
 --   length_refusal s         the refusal of a file for its length
-use Rattle.std.specs.Prelude.{Bool, true, false, cond, not, List, [], ◌∷◌, ◌++◌, ℕ, ◌+◌, ◌*◌, ◌/◌, ◌%◌, ◌^◌, eqb, ltb, leb, length, get_or, drop}
+use Rattle.std.specs.Prelude.{Bool, true, false, cond, not, List, [], ◌∷◌, ◌++◌, ℕ, ◌+◌, ◌*◌, ◌/◌, ◌%◌, ◌^◌, eqb, ltb, leb, length}
+use Rattle.std.specs.Prelude.{get_or, drop}
 use Rattle.job.specs.declared.Request.{Request}
 use Rattle.job.specs.declared.Wait.{Wait}
 use Rattle.job.specs.declared.Right.{Right}
