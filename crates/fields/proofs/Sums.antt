@@ -3,7 +3,8 @@
 --   word_past, word_last    the word at a place past the end, and at the last byte
 --   Summed s sum at         sum is that of the words before the place `at`, without carries out of 16 bits
 --   sum_start, sum_next, sum_end   it holds at first, after a word, and what it gives at the end
-use Rattle.std.proofs.Common.{◌≡◌, ℕ, ◌+◌, ◌*◌, ◌%◌, ◌<◌, ◌≤◌, List, [], ◌∷◌, length, get_or, drop, refl, add-zero, arith, drop_of_length-le, get_or-drop, drop-drop}
+use Rattle.std.proofs.Common.{◌≡◌, ℕ, ◌+◌, ◌*◌, ◌%◌, ◌<◌, ◌≤◌, List, [], ◌∷◌, length, get_or, drop, refl, add-zero, arith}
+use Rattle.std.proofs.Common.{drop_of_length-le, get_or-drop, drop-drop}
 use lib.ListN.{get_or-eq_default}
 use Rattle.jobfile.specs.Format.{word, word_sum}
 

@@ -41,6 +41,7 @@ pub fn run_place(rights: u32, requests: u32, waits: u32, index: u32) -> usize
 }
 
 // The refusal of the number of nodes or of heads, 0 for none.
+#[tactic(auto, unfolding(jobfile::specs::Format::sizes_refusal))]
 pub fn sizes_refusal(nodes: u32, heads: u32) -> u32
     ensures { result ≡ sizes_refusal nodes heads }
 {
@@ -70,6 +71,7 @@ fn has_stray_bit(heads: u32, sight: u32) -> bool
 }
 
 // The refusal of right number `number` in a job of that many heads (02, A5), 0 for none.
+#[tactic(auto, unfolding(jobfile::specs::Format::right_refusal))]
 pub fn right_refusal(heads: u32, number: u32, right: Right) -> u32
     ensures { result ≡ right_refusal heads number right }
 {
@@ -89,6 +91,7 @@ pub fn right_refusal(heads: u32, number: u32, right: Right) -> u32
 }
 
 // The refusal of a request's numbers, in the order of the fields, 0 for none.
+#[tactic(auto, unfolding(jobfile::specs::Format::fields_refusal))]
 pub fn fields_refusal(nodes: u32, heads: u32, fields: Fields) -> u32
     ensures { result ≡ fields_refusal nodes heads fields }
 {
@@ -127,6 +130,7 @@ fn may_ask(rights: u32, kind: u32) -> bool
 }
 
 // The refusal of a request's kind where its head has these rights (02, A5), 0 for none.
+#[tactic(auto, unfolding(jobfile::specs::Format::kind_refusal))]
 pub fn kind_refusal(rights: u32, kind: u32) -> u32
     ensures { result ≡ kind_refusal rights kind }
 {
@@ -150,6 +154,7 @@ pub fn does_rise(before: Wait, wait: Wait) -> bool
 }
 
 // The refusal of a pair in a job of that many requests, 0 for none.
+#[tactic(auto, unfolding(jobfile::specs::Format::pair_refusal))]
 pub fn pair_refusal(count: u32, before: Wait, wait: Wait) -> u32
     ensures { result ≡ pair_refusal count before wait }
 {
