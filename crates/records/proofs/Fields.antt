@@ -20,7 +20,8 @@ use Rattle.job.specs.declared.Right.{Right}
 use Rattle.job.specs.Job.{most_requests, kind_of, every_right, right_of}
 use Rattle.jobfile.specs.declared.Fields.{Fields}
 use Rattle.jobfile.specs.declared.Run.{Run}
-use Rattle.jobfile.specs.Format.{job_size, right_size, request_size, run_size, right_place, word, fields_refusal, kind_refusal, asked_refusal}
+use Rattle.jobfile.specs.Format.{job_size, right_size, request_size, run_size, right_place, word, fields_refusal, kind_refusal}
+use Rattle.jobfile.specs.Format.{asked_refusal}
 use Rattle.jobfile.specs.Format.{extends}
 use Rattle.jobfile.specs.Meaning.{right_at, right_records, rights_in, fields_at, request_at, request_refusal, wait_at, run_at, run_refusal}
 use Rattle.jobfile.specs.Admitted.{Bytes}

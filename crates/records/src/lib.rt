@@ -26,6 +26,7 @@ pub fn is_record(file: &[u8], at: usize, size: usize, mark: u16) -> bool
 }
 
 // The right at a place (02, A5), whose record is whole.
+#[tactic(auto, using(crate::proofs::Fields::right_read))]
 fn right_here(file: &[u8], at: usize) -> Right
     requires { at + right_size ≤ length file.now }
     ensures { result ≡ right_at (drop at file.now) }
@@ -42,6 +43,7 @@ fn right_here(file: &[u8], at: usize) -> Right
 }
 
 // The refusal of right number `number` at a place: one more than the heads, the whole record, the fields.
+#[tactic(auto, unfolding(jobfile::specs::Meaning::right_record_refusal))]
 pub fn right_record_refusal(file: &[u8], at: usize, heads: u32, number: u32) -> u32
     requires { at ≤ length file.now }
     ensures { result ≡ right_record_refusal heads number (drop at file.now) }
@@ -78,6 +80,7 @@ fn kind_of(number: u32) -> Kind
 }
 
 // The numbers of the request at a place, whose record is whole.
+#[tactic(auto, using(crate::proofs::Fields::fields_read))]
 fn fields_here(file: &[u8], at: usize) -> Fields
     requires { at + request_size ≤ length file.now }
     ensures { result ≡ fields_at (drop at file.now) }
@@ -111,6 +114,7 @@ pub fn request_here(file: &[u8], at: usize) -> Request
 
 // The refusal of request number `number` at a place, behind so many rights: the whole record, the count, the fields, and what
 // its head may ask.
+#[tactic(auto, unfolding(jobfile::specs::Meaning::request_refusal))]
 pub fn request_refusal(
     file: &[u8],
     at: usize,
@@ -144,6 +148,7 @@ pub fn request_refusal(
 }
 
 // The pair at a place (02, A3), whose record is whole.
+#[tactic(auto, using(crate::proofs::Fields::wait_read))]
 pub fn wait_here(file: &[u8], at: usize) -> Wait
     requires { at + wait_size ≤ length file.now }
     ensures { result ≡ wait_at (drop at file.now) }
@@ -157,6 +162,7 @@ pub fn wait_here(file: &[u8], at: usize) -> Wait
 }
 
 // The refusal of the pair at a place, behind so many requests and the pair before it: the whole record, the pair.
+#[tactic(auto, unfolding(jobfile::specs::Meaning::wait_refusal))]
 pub fn wait_refusal(file: &[u8], at: usize, requests: u32, before: Wait) -> u32
     requires { at ≤ length file.now }
     ensures { result ≡ wait_refusal requests before (drop at file.now) }
@@ -181,6 +187,7 @@ pub fn run_here(file: &[u8], at: usize) -> Run
 }
 
 // The refusal of the run at a place, behind the run before it: the whole record, the head, the count, the run before.
+#[tactic(auto, unfolding(jobfile::specs::Meaning::run_refusal))]
 pub fn run_refusal(file: &[u8], at: usize, heads: u32, before: Run) -> u32
     requires at_in_bounds { at ≤ length file.now }
     requires file_len_bound { length file.now ≤ most_bytes }
