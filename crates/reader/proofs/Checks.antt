@@ -16,7 +16,8 @@ use Prim.Native.Nat.{ℕ, ◌+◌, ◌*◌, ◌≤◌, ◌<◌}
 use native.Mathlib.Omega.{arith}
 use lib.ListN.{length, drop, length-drop, length-map}
 use borrow.Author.Tests.{lt-ltb, le-ltb, ne_eqb}
-use Rattle.jobfile.specs.Format.{wait_mark, run_mark, job_size, wait_size, run_size, request_place, wait_place, run_place, most_bytes, ◌then◌}
+use Rattle.jobfile.specs.Format.{wait_mark, run_mark, job_size, wait_size, run_size, request_place, wait_place, run_place, most_bytes}
+use Rattle.jobfile.specs.Format.{◌then◌}
 use Rattle.jobfile.specs.Format.{no_pair, length_refusal}
 use Rattle.jobfile.specs.Meaning.{records, nodes_in, heads_in, header_refusal, right_at, right_records}
 use Rattle.jobfile.specs.Meaning.{rights_in, requests_start, requests_refusal, request_at, waits_refusal, wait_at, runs_refusal, run_at}

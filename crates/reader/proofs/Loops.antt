@@ -183,9 +183,13 @@ module _ {s : List ℕ} {heads start at : ℕ} {before : Run} {grants : ℕ} (h 
   runs_refused n m e z = rw (read_refused h.to m n e z, ne_eqb n 0 z)
 
   pub runs_end : (word (drop at s) ≡ run_mark → ⊥)
-      → record { number = 0; count = runs_between start at; grants = grants } ≡ run_section_of heads (records run_size run_mark (drop start s))
+      → record { number = 0; count = runs_between start at; grants = grants }
+      ≡ run_section_of heads (records run_size run_mark (drop start s))
   unfolding run_section_of
   runs_end m =
       let grant : length (granted (map run_at (records run_size run_mark (drop start s)))) ≡ grants =
       omega (arith, rw (none_left h.to m) at h.granting) in
       rw (read_passes h.to m, read_count h.to m, grant)
+
+-- What the ways out of `sections::read_rights` are shown by.
+pub ruleset rights_ends = (rights_refused, rights_missing, rights_told_lem)

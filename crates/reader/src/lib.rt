@@ -96,6 +96,7 @@ fn check_records(file: &[u8]) -> Checked
 }
 
 // Checks a file: any bytes.
+#[tactic(auto, using(crate::proofs::Checks::length_answers, crate::proofs::Checks::header_answers))]
 pub fn check(file: &[u8]) -> Checked
     ensures { result ≡ counts_of (meaning file.now) }
 {
@@ -110,6 +111,7 @@ pub fn check(file: &[u8]) -> Checked
 }
 
 // The right of a head of a file that is played: every right where it has no such records.
+#[tactic(auto, using(crate::proofs::Playing::playing_righted, crate::proofs::Playing::rights_read))]
 pub fn right_at(file: &[u8], counts: Checked, head: u32) -> Right
     requires { Playing file.now counts }
     ensures { result ≡ right_of (meaning file.now).job.rights head }
@@ -118,6 +120,7 @@ pub fn right_at(file: &[u8], counts: Checked, head: u32) -> Right
 }
 
 // Request q of a file that is played. Where a record stands is told by the counts.
+#[tactic(auto, using(crate::proofs::Playing::request_read))]
 pub fn request_at(file: &[u8], counts: Checked, q: u32) -> Request
     requires playing { Playing file.now counts }
     requires q_lt_requests { q < counts.requests }
@@ -127,6 +130,7 @@ pub fn request_at(file: &[u8], counts: Checked, q: u32) -> Request
 }
 
 // Pair number `index` of a file that is played.
+#[tactic(auto, using(crate::proofs::Playing::wait_read))]
 pub fn wait_at(file: &[u8], counts: Checked, index: u32) -> Wait
     requires playing { Playing file.now counts }
     requires index_lt_waits { index < counts.waits }
@@ -136,6 +140,7 @@ pub fn wait_at(file: &[u8], counts: Checked, index: u32) -> Wait
 }
 
 // Run number `index` of a file that is played.
+#[tactic(auto, using(crate::proofs::Playing::run_read))]
 pub fn run_at(file: &[u8], counts: Checked, index: u32) -> Run
     requires playing { Playing file.now counts }
     requires index_lt_runs { index < counts.runs }

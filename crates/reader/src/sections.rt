@@ -2,7 +2,8 @@
 // number of 0 is no refusal.
 ghost use Rattle.std.specs.Prelude.{◌≡◌, ◌≤◌, length, drop};
 ghost use Rattle.jobfile.specs.Format.{wait_mark, run_mark, job_size, wait_size, run_size, most_bytes, ◌then◌};
-ghost use Rattle.jobfile.specs.Meaning.{records, header_refusal, missing_refusal, right_records, rights_in, requests_start, request_records};
+ghost use Rattle.jobfile.specs.Meaning.{records, header_refusal, missing_refusal, right_records, rights_in, requests_start};
+ghost use Rattle.jobfile.specs.Meaning.{request_records};
 ghost use Rattle.jobfile.specs.Meaning.{close_refusal, balance_refusal};
 ghost use Rattle.records.specs.Records.{Righted};
 ghost use Rattle.reader.specs.Reader.{right_section_of, request_section_of, wait_section_of, run_section_of};
@@ -35,6 +36,7 @@ pub struct RunSection {
 }
 
 // The refusal of the header.
+#[tactic(auto, unfolding(jobfile::specs::Meaning::header_refusal))]
 pub fn header_refusal(file: &[u8]) -> u32
     ensures { result ≡ header_refusal file.now }
 {
@@ -51,6 +53,7 @@ pub fn header_refusal(file: &[u8]) -> u32
 }
 
 // The refusal of a place behind so many rights where another one is missing: once begun, there is one a head.
+#[tactic(auto, unfolding(jobfile::specs::Meaning::missing_refusal))]
 fn missing_refusal(file: &[u8], at: usize, heads: u32, count: u32) -> u32
     requires { at ≤ length file.now }
     ensures { result ≡ missing_refusal heads count (drop at file.now) }
@@ -68,6 +71,7 @@ fn missing_refusal(file: &[u8], at: usize, heads: u32, count: u32) -> u32
 }
 
 // Reads the rights behind the first record.
+#[tactic(auto, using(crate::proofs::Loops::rights_ends))]
 pub fn read_rights(file: &[u8], heads: u32) -> Records
     requires job_size_in_bounds { job_size ≤ length file.now }
     requires file_len_bound { length file.now ≤ most_bytes }
@@ -201,6 +205,7 @@ pub fn read_runs(file: &[u8], heads: u32, start: usize) -> RunSection
 }
 
 // The refusal of what stands behind the runs: the close, then the balance of the whole file.
+#[tactic(auto, unfolding(jobfile::specs::Meaning::close_refusal, jobfile::specs::Meaning::balance_refusal))]
 pub fn close_refusal(file: &[u8], at: usize) -> u32
     requires at_in_bounds { at ≤ length file.now }
     requires file_len_bound { length file.now ≤ most_bytes }

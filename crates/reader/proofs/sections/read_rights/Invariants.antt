@@ -1,0 +1,12 @@
+-- `sections::read_rights`: the rights that are left give what all of them give.
+use Rattle.std.proofs.Common.{length, ◌+◌, ◌-◌}
+use Rattle.jobfile.specs.Format.{job_size, right_size}
+use Rattle.jobfile.proofs.Layouts.{right_layout}
+use Rattle.reader.proofs.Loops.{ReadTo}
+use Rattle.reader.proofs.sections.read_rights.Given as goal
+
+abbrev pub invariant-loop-number : goal.invariant-loop-number
+invariant-loop-number l = ReadTo (right_layout l.fn.heads) l.fn.file job_size 0 l.at l.count l.count
+
+abbrev pub decreases-loop-number : goal.decreases-loop-number
+decreases-loop-number l = length l.fn.file + right_size - l.at
