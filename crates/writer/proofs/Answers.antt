@@ -69,7 +69,8 @@ unfolding job_of
 length_file d = length_written (job_of d) ∙ simp (length-map, rights_count, fields_count, pairs_count)
 
 module _ (d : Draft) (room : ℕ) where
-  in_order : write_refusal d room ≡ (numbers_refusal d then length_refusal (written (job_of d)) then buffer_refusal (written (job_of d)) room)
+  in_order : write_refusal d room
+      ≡ (numbers_refusal d then length_refusal (written (job_of d)) then buffer_refusal (written (job_of d)) room)
   unfolding write_refusal draft_refusal
   in_order = simp then_behind
 
@@ -166,3 +167,6 @@ ready d room passes =
       pairs = pairs_fit count no_pair (pairs_of d.waits) few rise;
       enough = ltb-false room (length (written (job_of d))) (passed (ltb room (length (written (job_of d)))) 13 0 a.second).test;
     }
+
+-- What the refusals of `checks::checked` are shown by.
+pub ruleset checked_lemmas = (length_file, few_rights, few_requests, answer_numbers, answer_length)

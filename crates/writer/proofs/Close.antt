@@ -1,7 +1,8 @@
 -- The close of a file: its mark, and the balance of the words before it.
 --
 -- Main law: close_stored, the mark, the sum up to it and the balance make the close.
-use Rattle.std.proofs.Common.{◌≡◌, ℕ, ◌+◌, ◌-◌, ◌%◌, ◌^◌, ◌<◌, ◌≤◌, List, ◌++◌, length, take, drop, ap, ◌∙◌, arith, length-append, length-take-le, take_at}
+use Rattle.std.proofs.Common.{◌≡◌, ℕ, ◌+◌, ◌-◌, ◌%◌, ◌^◌, ◌<◌, ◌≤◌, List, ◌++◌, length, take, drop, ap, ◌∙◌, arith, length-append}
+use Rattle.std.proofs.Common.{length-take-le, take_at}
 use lib.Seq.{sets, sets-eq}
 use Rattle.jobfile.specs.Format.{close_mark, close_size, word_bytes, word_sum}
 use Rattle.writer.specs.Write.{close_bytes}

@@ -5,12 +5,14 @@
 --   file_stored         the six parts, stored behind one another, are the file
 --   left_refused, left_written   what the writer leaves
 --   left_means          what it leaves means what it was given
-use Rattle.std.proofs.Common.{◌≡◌, ℕ, ◌+◌, ◌-◌, ◌*◌, ◌%◌, ◌≤◌, eqb, List, [], ◌++◌, map, length, take, drop, sym, refl, ap, ◌∙◌, append_assoc, arith, take_at, ne_eqb, eqb-true}
+use Rattle.std.proofs.Common.{◌≡◌, ℕ, ◌+◌, ◌-◌, ◌*◌, ◌%◌, ◌≤◌, eqb, List, [], ◌++◌, map, length, take, drop, sym, refl, ap, ◌∙◌}
+use Rattle.std.proofs.Common.{append_assoc, arith, take_at, ne_eqb, eqb-true}
 use lib.ListN.{length-map}
 use lib.Seq.{sets}
 use Rattle.basics.proofs.Conditions.{split}
 use Rattle.job.specs.Job.{Job}
-use Rattle.jobfile.specs.Format.{job_mark, close_mark, job_size, right_size, request_size, wait_size, run_size, word_bytes, word_sum, request_of}
+use Rattle.jobfile.specs.Format.{job_mark, close_mark, job_size, right_size, request_size, wait_size, run_size, word_bytes, word_sum}
+use Rattle.jobfile.specs.Format.{request_of}
 use Rattle.jobfile.specs.Written.{rights_bytes, requests_bytes, waits_bytes, runs_bytes, longest_runs, file_with, balance, written}
 use Rattle.jobfile.specs.Draft.{Draft, rights_given, fields_of, pairs_of, job_of, draft_refusal}
 use Rattle.jobfile.specs.Meaning.{accepted, meaning}
@@ -101,3 +103,8 @@ left_means d out none =
     let passes = sym (unfold write_refusal in answer_number_lem d (length out)) ∙ none in
     let draft = (through (draft_refusal d) _ passes).first in
     rw (passes, take_at file (drop (length file) out) (length file) refl) (written_draft d draft)
+
+-- What `write` and `records::put_file` are shown by.
+pub ruleset left_lemmas = (none_refused, left_refused, left_written)
+
+pub ruleset put_file_lemmas = (rights_count, fields_count, pairs_count, length_file, ready, file_stored)

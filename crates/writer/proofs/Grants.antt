@@ -5,7 +5,8 @@
 --   run_taken           the longest run at a grant lies within the grants
 --   runs_few            there are no more runs than grants
 --   Counted gs i runs   the runs of the grants before the i-th are counted
-use Rattle.std.proofs.Common.{◌≡◌, ℕ, suc, ◌+◌, ◌<◌, ◌≤◌, true, false, List, [], ◌∷◌, ◌++◌, length, get_or, drop, replicate, sym, refl, ap, ◌∙◌, add-one, arith, length-append, length-drop, drop_of_length-le, drop-cons, le-leb}
+use Rattle.std.proofs.Common.{◌≡◌, ℕ, suc, ◌+◌, ◌<◌, ◌≤◌, true, false, List, [], ◌∷◌, ◌++◌, length, get_or, drop, replicate, sym, refl}
+use Rattle.std.proofs.Common.{ap, ◌∙◌, add-one, arith, length-append, length-drop, drop_of_length-le, drop-cons, le-leb}
 use lib.ListN.{length-replicate}
 use borrow.Author.Tests.{lt-leb}
 use Rattle.basics.proofs.Conditions.{split}
@@ -62,7 +63,8 @@ module _ (gs : List ℕ) (at i : ℕ) (r : Run) (growing : Growing gs at i r) wh
         same = sym (rw (drop_next gs i l, e)) ∙ growing.same;
       }
 
-  pub growing_stops : i < length gs → extends r (get_or gs i 0) ≡ false → longest_runs (drop at gs) ≡ r ∷ longest_runs (drop (at + r.count) gs)
+  pub growing_stops : i < length gs → extends r (get_or gs i 0) ≡ false
+      → longest_runs (drop at gs) ≡ r ∷ longest_runs (drop (at + r.count) gs)
   growing_stops l e = rw (← growing.same, growing.reach, drop_next gs i l, e)
 
   pub growing_ends : length gs ≤ i → longest_runs (drop at gs) ≡ r ∷ longest_runs (drop (at + r.count) gs)
@@ -103,3 +105,6 @@ module _ (gs : List ℕ) (i runs : ℕ) (counted : Counted gs i runs) where
 
   pub counted_all : length gs ≤ i → runs ≡ length (longest_runs gs)
   counted_all done = omega (arith, counted.same, ap (λ gs. length (longest_runs gs)) (drop_of_length-le gs {i = i} done))
+
+-- What `checks::grants_refusal` is shown by.
+pub ruleset serving_steps = (serving_stops, serving_on, serving_all)

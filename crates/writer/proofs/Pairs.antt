@@ -4,7 +4,8 @@
 --   given_pairs              pairs in a list of numbers
 --   pairs_count             how many pairs there are
 --   pairs_fit               pairs that are not refused fit the largest job
-use Rattle.std.proofs.Common.{◌≡◌, ℕ, ◌+◌, ◌/◌, ◌<◌, ◌≤◌, List, [], ◌∷◌, length, drop, refl, ◌∙◌, add-zero, arith, length-drop, get_or-drop, drop-drop}
+use Rattle.std.proofs.Common.{◌≡◌, ℕ, ◌+◌, ◌/◌, ◌<◌, ◌≤◌, List, [], ◌∷◌, length, drop, refl, ◌∙◌, add-zero, arith, length-drop}
+use Rattle.std.proofs.Common.{get_or-drop, drop-drop}
 use Rattle.job.specs.declared.Wait.{Wait}
 use Rattle.job.specs.Job.{most_requests}
 use Rattle.jobfile.specs.Draft.{pairs_of, pairs_refusal}

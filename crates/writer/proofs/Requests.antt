@@ -6,7 +6,8 @@
 --   count_refuses, count_passes   the test of their number
 --   asked_fields, asked_kind  the refusal of a request, by what is told of its numbers and of its head
 --   each_fits                 requests that are not refused fit the largest job
-use Rattle.std.proofs.Common.{◌≡◌, ℕ, ◌+◌, ◌/◌, ◌<◌, ◌≤◌, List, [], ◌∷◌, length, drop, refl, ◌∙◌, add-zero, arith, length-drop, get_or-drop, drop-drop, le-ltb, lt-ltb, ne_eqb}
+use Rattle.std.proofs.Common.{◌≡◌, ℕ, ◌+◌, ◌/◌, ◌<◌, ◌≤◌, List, [], ◌∷◌, length, drop, refl, ◌∙◌, add-zero, arith, length-drop}
+use Rattle.std.proofs.Common.{get_or-drop, drop-drop, le-ltb, lt-ltb, ne_eqb}
 use Rattle.job.specs.declared.Right.{Right}
 use Rattle.job.specs.Job.{most_nodes, most_heads, most_requests, kind_of, right_of}
 use Rattle.jobfile.specs.declared.Fields.{Fields}

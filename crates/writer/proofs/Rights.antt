@@ -6,12 +6,14 @@
 --   rights_fit          rights that are not refused fit the largest job
 --   Narrow r            the numbers of the right r fit their bytes
 --   rights_narrow       those of the largest job's rights do
-use Rattle.std.proofs.Common.{◌≡◌, ℕ, zero, suc, ◌+◌, ◌*◌, ◌/◌, ◌<◌, ◌≤◌, List, [], ◌∷◌, length, get_or, drop, sym, refl, ap, ◌∙◌, add-zero, arith, length-drop, get_or-drop, drop-drop, pow_mono}
+use Rattle.std.proofs.Common.{◌≡◌, ℕ, zero, suc, ◌+◌, ◌*◌, ◌/◌, ◌<◌, ◌≤◌, List, [], ◌∷◌, length, get_or, drop, sym, refl, ap, ◌∙◌}
+use Rattle.std.proofs.Common.{add-zero, arith, length-drop, get_or-drop, drop-drop, pow_mono}
 use lib.ListN.{get_or-eq_default}
 use Rattle.job.specs.declared.Right.{Right}
 use Rattle.job.specs.Job.{most_heads, every_right, right_of}
 use Rattle.jobfile.specs.Draft.{rights_given, each_right_refusal}
-use Rattle.jobfile.proofs.Rights.{holds_checked, checked_holds}
+use Rattle.jobfile.proofs.Rights.{holds_checked, checked_holds, complete_few}
+use Rattle.jobfile.proofs.Drafts.{complete_given}
 use Rattle.writer.specs.Write.{right_from}
 use Rattle.writer.proofs.Lists.{Given}
 
@@ -71,9 +73,13 @@ rights_narrow rs few e k none l =
     let h = holds_checked most_heads rs e k none l in
     record { head = omega (arith, h.head); rights = h.few }
 
-pub rights_fit : (heads : ℕ) (rs : List Right) → heads ≤ most_heads → each_right_refusal heads 0 rs ≡ 0 → each_right_refusal most_heads 0 rs ≡ 0
+pub rights_fit : (heads : ℕ) (rs : List Right) → heads ≤ most_heads → each_right_refusal heads 0 rs ≡ 0
+    → each_right_refusal most_heads 0 rs ≡ 0
 rights_fit heads rs few e =
     checked_holds most_heads rs
     (λ k none l.
     let h = holds_checked heads rs e k none l in
     record { head = h.head; some = h.some; few = h.few; sight = omega (arith, h.sight, pow_mono few) })
+
+-- What `checks::rights_refusal` is shown by.
+pub ruleset rights_told = (complete_few, complete_given, rights_count)

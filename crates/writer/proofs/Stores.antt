@@ -10,7 +10,8 @@
 --   RequestsStored out₀ start l i at out   the requests before the position i are stored, up to the byte at
 --   ListStored k g Fits out₀ start l i at out   the rights or the pairs before the position i are stored, up to the byte at
 --   RunsStored out₀ start gs i at out      the runs of the grants before the i-th are stored, up to the byte at
-use Rattle.std.proofs.Common.{◌≡◌, ℕ, suc, ◌+◌, ◌*◌, ◌<◌, ◌≤◌, List, [], ◌∷◌, ◌++◌, map, length, get_or, drop, set, sym, ap, ◌∙◌, add-zero, mul-zero, mul-suc, arith, length-append, drop_of_length-le}
+use Rattle.std.proofs.Common.{◌≡◌, ℕ, suc, ◌+◌, ◌*◌, ◌<◌, ◌≤◌, List, [], ◌∷◌, ◌++◌, map, length, get_or, drop, set, sym, ap, ◌∙◌}
+use Rattle.std.proofs.Common.{add-zero, mul-zero, mul-suc, arith, length-append, drop_of_length-le}
 use lib.ListN.{length-map}
 use lib.Seq.{sets, sets-eq, length-sets}
 use Rattle.job.specs.declared.Request.{Request}
@@ -25,7 +26,9 @@ use Rattle.jobfile.proofs.Records.{Layout, length_records}
 use Rattle.jobfile.proofs.Layouts.{request_layout, run_layout}
 use Rattle.writer.specs.Write.{fields_from}
 use Rattle.writer.proofs.Lists.{Given}
+use Rattle.writer.proofs.Rights.{rights_end, rights_narrow}
 use Rattle.writer.proofs.Requests.{fields_next, fields_end}
+use Rattle.writer.proofs.Pairs.{pairs_end}
 
 pub sets_after : (l vs ws : List ℕ) (i k : ℕ) → k ≡ i + length vs → sets (sets l i vs) k ws ≡ sets l i (vs ++ ws)
 sets_after l [] ws i k e = let z : k ≡ i = omega arith in rw z
@@ -127,7 +130,8 @@ module _ {out₀ : List ℕ} {start : ℕ} {l : List ℕ} {i at : ℕ} {out : Li
     request_fits = (through (fields_refusal most_nodes most_heads q) _ next_fits.first).first
 
     pub request_room_lem : start + request_size * length (fields_of l) ≤ length out₀ → at + request_size ≤ length out
-    request_room_lem room = record_room h.storing (request_of q) (requests_of (drop (i + 4) l)) (ap (map request_of) next) (rw length-map room)
+    request_room_lem room =
+        record_room h.storing (request_of q) (requests_of (drop (i + 4) l)) (ap (map request_of) next) (rw length-map room)
 
     pub requests_stored_on : (after : List ℕ) → after ≡ sets out at (request_bytes (request_of q))
         → RequestsStored out₀ start l (i + 4) (at + request_size) after
@@ -179,3 +183,6 @@ pub record RunsStored (out₀ : List ℕ) (start : ℕ) (gs : List ℕ) (i at : 
 
 pub runs_over : (gs : List ℕ) (i : ℕ) → length gs ≤ i → longest_runs (drop i gs) ≡ []
 runs_over gs i done = ap longest_runs (drop_of_length-le gs {i = i} done)
+
+-- What the start and the end of a loop that stores rights, requests or pairs are shown by.
+pub ruleset storing_ends = (stored, stored_end, rights_narrow, rights_end, request_fits, requests_over, pairs_end)

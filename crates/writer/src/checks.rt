@@ -43,6 +43,7 @@ pub fn right_at(rights: &[u32], at: usize) -> Right
 }
 
 // The right of a head in a list of rights, which is empty or has one a head.
+#[tactic(auto, using(crate::proofs::Rights::right_given, crate::proofs::Rights::right_absent))]
 fn right_of(rights: &[u32], head: u32) -> Right
     ensures { result ≡ right_of (rights_given rights.now) head }
 {
@@ -54,6 +55,7 @@ fn right_of(rights: &[u32], head: u32) -> Right
 }
 
 // The refusal of so many rights in a job of that many heads, 0 for none.
+#[tactic(auto, unfolding(jobfile::specs::Draft::complete_refusal))]
 fn complete_refusal(heads: u32, count: usize) -> u32
     ensures { result ≡ complete_refusal heads count }
 {
@@ -85,6 +87,7 @@ fn each_right_refusal(heads: u32, rights: &[u32]) -> u32
 }
 
 // The refusal of the list of rights: their number, then each, 0 for none.
+#[tactic(auto, using(crate::proofs::Rights::rights_told))]
 fn rights_refusal(heads: u32, rights: &[u32]) -> u32
     ensures { result ≡ (complete_refusal heads (length (rights_given rights.now))
         then each_right_refusal heads 0 (rights_given rights.now)) }
@@ -110,6 +113,7 @@ pub fn fields_at(requests: &[u32], at: usize) -> Fields
 }
 
 // The refusal of a request's numbers, and of its kind where the heads have these rights, 0 for none.
+#[tactic(auto, using(jobfile::proofs::Refusals::asked_free, crate::proofs::Rights::rights_count))]
 fn asked_refusal(nodes: u32, heads: u32, rights: &[u32], fields: Fields) -> u32
     ensures { result ≡ asked_refusal nodes heads (rights_given rights.now) fields }
 {
@@ -173,6 +177,7 @@ fn waits_refusal(count: u32, waits: &[u32]) -> u32
 }
 
 // The refusal of a grant whose head is none of the job's, 0 for none.
+#[tactic(auto, using(crate::proofs::Grants::serving_steps))]
 fn grants_refusal(heads: u32, grants: &[u8]) -> u32
     ensures { result ≡ grants_refusal heads grants.now }
 {
@@ -187,6 +192,7 @@ fn grants_refusal(heads: u32, grants: &[u8]) -> u32
 }
 
 // The refusal of the numbers, before the length of their file is asked for, 0 for none.
+#[tactic(auto, using(crate::proofs::Requests::fields_count), unfolding(jobfile::specs::Draft::count_refusal))]
 fn numbers_refusal(
     nodes: u32,
     heads: u32,
@@ -259,6 +265,7 @@ fn run_count(grants: &[u8]) -> usize
 }
 
 // The writer's answer for a buffer of this length. Nothing is written before it stands.
+#[tactic(auto, using(crate::proofs::Answers::checked_lemmas))]
 pub fn checked(
     nodes: u32,
     heads: u32,

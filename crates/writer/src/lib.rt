@@ -22,6 +22,7 @@ pub struct Written {
 // no right; `requests` has four numbers a request (head, kind, x, y), where a rest of fewer than four is no request; `waits` (02,
 // A3) has two numbers a pair (later, earlier), where a rest of one is no pair; `grants` has one head number a grant. A refusal
 // writes nothing, and bytes behind the file stay.
+#[tactic(auto, using(crate::proofs::File::left_lemmas))]
 pub fn write(
     nodes: u32,
     heads: u32,

@@ -2,9 +2,11 @@
 ghost use Rattle.std.specs.Prelude.{◌≡◌, ◌+◌, ◌*◌, ◌<◌, ◌≤◌, [], ◌∷◌, ◌++◌, map, length, take};
 ghost use Rattle.std.proofs.lemmas.List.Edits.{sets};
 ghost use Rattle.job.specs.Job.{most_nodes, most_heads, most_requests};
-ghost use Rattle.jobfile.specs.Format.{job_mark, job_size, right_size, request_size, wait_size, run_size, close_size, word_bytes, fields_refusal};
+ghost use Rattle.jobfile.specs.Format.{job_mark, job_size, right_size, request_size, wait_size, run_size, close_size, word_bytes};
+ghost use Rattle.jobfile.specs.Format.{fields_refusal};
 ghost use Rattle.jobfile.specs.Format.{request_of, no_pair};
-ghost use Rattle.jobfile.specs.Written.{right_bytes, rights_bytes, request_bytes, requests_bytes, wait_bytes, waits_bytes, run_bytes, runs_bytes};
+ghost use Rattle.jobfile.specs.Written.{right_bytes, rights_bytes, request_bytes, requests_bytes, wait_bytes, waits_bytes, run_bytes};
+ghost use Rattle.jobfile.specs.Written.{runs_bytes};
 ghost use Rattle.jobfile.specs.Written.{longest_runs, written};
 ghost use Rattle.jobfile.specs.Draft.{rights_given, fields_of, pairs_of, each_right_refusal, each_refusal, pairs_refusal, job_of};
 ghost use Rattle.jobfile.specs.Admitted.{Pairs};
@@ -87,6 +89,7 @@ fn put_right(out: &mut [u8], at: usize, right: Right)
 }
 
 // Writes the rights, and gives the position behind them.
+#[tactic(auto, using(crate::proofs::Stores::storing_ends))]
 fn put_rights(out: &mut [u8], start: usize, rights: &[u32]) -> usize
     requires rights_in_bounds { start + right_size * length (rights_given rights.now) ≤ length out.old }
     requires rights_len_bound { length (rights_given rights.now) ≤ most_heads }
@@ -105,6 +108,7 @@ fn put_rights(out: &mut [u8], start: usize, rights: &[u32]) -> usize
 }
 
 // Writes a request whose numbers are admitted in the largest job, so that each fits its field.
+#[tactic(auto, using(jobfile::proofs::Refusals::fit, crate::proofs::Stores::request_written))]
 fn put_request(out: &mut [u8], at: usize, fields: Fields)
     requires request_size_in_bounds { at + request_size ≤ length out.old }
     requires fields_value { fields_refusal most_nodes most_heads fields ≡ 0 }
@@ -122,6 +126,7 @@ fn put_request(out: &mut [u8], at: usize, fields: Fields)
 }
 
 // Writes the requests, and gives the position behind them.
+#[tactic(auto, using(crate::proofs::Stores::storing_ends))]
 fn put_requests(out: &mut [u8], start: usize, requests: &[u32]) -> usize
     requires requests_in_bounds { start + request_size * length (fields_of requests.now) ≤ length out.old }
     requires requests_value { each_refusal most_nodes most_heads [] (fields_of requests.now) ≡ 0 }
@@ -148,6 +153,7 @@ fn put_wait(out: &mut [u8], at: usize, wait: Wait)
 }
 
 // Writes the pairs, and gives the position behind them.
+#[tactic(auto, using(crate::proofs::Stores::storing_ends))]
 fn put_waits(out: &mut [u8], start: usize, waits: &[u32]) -> usize
     requires waits_in_bounds { start + wait_size * length (pairs_of waits.now) ≤ length out.old }
     requires waits_value { pairs_refusal most_requests no_pair (pairs_of waits.now) ≡ 0 }
@@ -203,6 +209,7 @@ fn put_close(out: &mut [u8], at: usize)
 }
 
 // Writes the file of a job that is admitted, into a buffer that it fits.
+#[tactic(auto, using(crate::proofs::File::put_file_lemmas))]
 pub fn put_file(
     nodes: u32,
     heads: u32,

@@ -1,0 +1,16 @@
+-- `checks::requests_refusal`: a request that is refused, one that is not, and the end of the requests.
+use Rattle.std.proofs.Common.{arith}
+use Rattle.writer.proofs.Lists.{passing_stops, passing_on, passing_all}
+use Rattle.writer.proofs.checks.requests_refusal.Goals as goal
+
+pub returns-then-number-ne0 : goal.returns-then-number-ne0
+returns-then-number-ne0 c =
+    passing_stops c.loop-at.invariant _ c.fields_at.ensures (omega arith) _ c.asked_refusal-number.ensures c.if-number-ne0.true
+
+pub loop-at-preserved : goal.loop-at-preserved
+loop-at-preserved c =
+    passing_on c.loop-at.invariant _ c.fields_at.ensures (omega arith) _ c.asked_refusal-number.ensures c.if-number-ne0.false
+
+pub returns : goal.returns
+returns c =
+    passing_all c.loop-at.invariant (omega arith)
