@@ -48,7 +48,8 @@ module _ (buffer : List ℕ) (narrow : (k : ℕ) → get_or buffer k 0 < 2 ^ 32)
   pub request_short : (number i : ℕ) → number < 2 ^ 32 → length (report_line number buffer i) ≤ 64
   request_short number i h =
       let at : ℕ = 4 * i in
-      let numbers : List ℕ = number ∷ get_or buffer at 0 ∷ get_or buffer (at + 1) 0 ∷ get_or buffer (at + 2) 0 ∷ get_or buffer (at + 3) 0 ∷ [] in
+      let numbers : List ℕ =
+      number ∷ get_or buffer at 0 ∷ get_or buffer (at + 1) 0 ∷ get_or buffer (at + 2) 0 ∷ get_or buffer (at + 3) 0 ∷ [] in
       omega (arith, line_short request_name numbers (h, (narrow at, (narrow (at + 1), (narrow (at + 2), (narrow (at + 3), tt))))))
 
   row_short : (s : Section) (i : ℕ) → i < 2 ^ 32 → length (row s buffer i) ≤ 64

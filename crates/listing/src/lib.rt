@@ -93,6 +93,7 @@ fn put_refused(number: u32, out: &mut [u8]) -> usize
 }
 
 // Writes the text.
+#[tactic(auto, unfolding(crate::specs::Listing::listing))]
 fn put_listing(
     played: Played,
     table: &[Word],
@@ -134,6 +135,7 @@ fn any_short(played: Played, table: &[Word], report: &[u32], linearization: &[u3
 }
 
 // Prints a played job: its text into `out`, or refusal 14 where a buffer is too short, with `out` as it was.
+#[tactic(auto, using(crate::proofs::Listing::enough), unfolding(crate::specs::Listing::listed, crate::specs::Listing::printed))]
 pub fn list(
     played: Played,
     table: &[Word],

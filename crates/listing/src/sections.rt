@@ -84,6 +84,7 @@ fn put_row(section: Section, buffer: &[u32], i: u32, out: &mut [u8], at: usize) 
 }
 
 // Writes the first lines of a section, as many as `count`.
+#[tactic(auto, unfolding(text::specs::Text::each))]
 pub fn put_rows(section: Section, buffer: &[u32], count: u32, out: &mut [u8], at: usize) -> usize
     requires { row_size section * count ≤ length buffer.now }
     ensures { Wrote (each (row section buffer.now) count) at out.old out.new result }
