@@ -31,7 +31,7 @@ use Rattle.process.specs.declared.Advanced.{Advanced}
 use Rattle.process.specs.Process.{traits, traits_of, tidies, kind_of, node_at, moved_to, restart}
 use Rattle.process.specs.Find.{find_access, walked}
 use Rattle.process.specs.Advance.{together, compared, ended, followed, reread}
-use Rattle.rules.specs.Table.{at, parent, rank, seen, touched}
+use Rattle.rules.specs.Table.{at, parent, seen, touched}
 use Rattle.rules.proofs.Finds.{Walks, find_walks, find_halved}
 use Rattle.rules.proofs.Stages.{Moment, Apart, Finding, Linked, Pair, Searching, Rereading}
 use Rattle.rules.proofs.Stages.{find_node, restart_knows, searching_later}

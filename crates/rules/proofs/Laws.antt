@@ -56,7 +56,8 @@ unused_row q (a ∷ past) none =
 
 -- ---- heads without a request have no work
 
-heads_left_lem : (qs : List Request) (report : List Row) (heads m : ℕ) → heads ≤ m → ((q : ℕ) → q < length qs → (request_at qs q).head < heads)
+heads_left_lem : (qs : List Request) (report : List Row) (heads m : ℕ) → heads ≤ m
+    → ((q : ℕ) → q < length qs → (request_at qs q).head < heads)
     → heads_left qs report m ≡ heads_left qs report heads
 heads_left_lem qs report heads m few served =
     let all : m ≡ heads + (m - heads) = omega arith in

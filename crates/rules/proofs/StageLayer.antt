@@ -26,7 +26,7 @@ use Rattle.process.specs.declared.Stage.{Stage}
 use Rattle.process.specs.declared.Task.{Task}
 use Rattle.process.specs.declared.Head.{Head}
 use Rattle.process.specs.declared.Advanced.{Advanced}
-use Rattle.process.specs.Process.{traits_of, is_resting, restart, begin}
+use Rattle.process.specs.Process.{traits_of, is_resting, restart}
 use Rattle.process.specs.Access.{access_at, access_of}
 use Rattle.process.specs.Advance.{advance_at, advance_of}
 use Rattle.forest.proofs.Later.{Later}

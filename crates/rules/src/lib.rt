@@ -36,6 +36,7 @@ fn chosen(test: bool, left: u32, right: u32) -> u32
 }
 
 // The row after one more grant, number now, that gave this answer.
+#[tactic(auto, unfolding(crate::specs::Report::charge))]
 pub fn charged(row: Row, now: u32, answer: Answer) -> Row
     requires { row.used < 4294967295 }
     ensures { result ≡ charge row now answer }
