@@ -71,7 +71,9 @@ none_faulty words (suc k) e i l =
 record Sane (words : List ℕ) (i : ℕ) : Type 0 where
   pub inside : parent_of (word_at words i) < length words
   pub rank : rank_of (word_at words i) ≤ most_rank
-  pub order : before (rank_of (word_at words (parent_of (word_at words i)))) (parent_of (word_at words i)) (rank_of (word_at words i)) i ≡ false
+  pub order :
+      before (rank_of (word_at words (parent_of (word_at words i)))) (parent_of (word_at words i)) (rank_of (word_at words i)) i
+      ≡ false
 
 sane : (words : List ℕ) (i : ℕ) → is_faulty words i ≡ false → Sane words i
 sane words i e =

@@ -31,6 +31,7 @@ fn is_faulty(table: &[Word], i: u32) -> bool
 }
 
 // Whether any word cannot stand in this table.
+#[tactic(auto, using(crate::proofs::Admitted::looked_on))]
 fn any_faulty(table: &[Word]) -> bool
     requires { length table.now ≤ most_nodes }
     ensures { result ≡ any_faulty table.now (length table.now) }
@@ -63,6 +64,7 @@ pub fn table_refusal(table: &[Word]) -> u32
 }
 
 // The root that a node of an admitted table leads to, by a plain walk.
+#[tactic(auto, using(crate::proofs::Roots::walk_ends, crate::proofs::Roots::walk_falls))]
 pub fn root_of(table: &[Word], node: u32) -> u32
     requires admitted { Admitted (length table.now) (map decode table.now) }
     requires node_in_bounds { node < length table.now }

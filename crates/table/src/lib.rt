@@ -19,6 +19,7 @@ use process::{Advanced, Errand, Head, Stage, Step, Task};
 use word::{Node, Word};
 
 // A read: the node that stands there.
+#[tactic(auto, using(crate::proofs::Accesses::node_rank))]
 fn load(table: &[Word], node: u16) -> Node
     requires { Touchable (map decode table.now) (Load node) }
     ensures { result ≡ seen (map decode table.now) (Load node) }
@@ -27,6 +28,7 @@ fn load(table: &[Word], node: u16) -> Node
 }
 
 // A compare-and-swap: it writes only if the word equals the expected one, and tells the node that stood there.
+#[tactic(auto, using(crate::proofs::Accesses::node_rank, crate::proofs::Accesses::swap_wrote, crate::proofs::Accesses::swap_failed))]
 fn swap(table: &mut [Word], node: u16, expected: Node, new: Node) -> Node
     requires { Touchable (map decode table.old) (Cas node expected new) }
     ensures sees { result ≡ seen (map decode table.old) (Cas node expected new) }
@@ -55,6 +57,7 @@ fn raise_root(table: &mut [Word], node: u16, rank: u8) -> Node
 }
 
 // One step of a find on its errand: the one access, and where that leads.
+#[tactic(auto, using(crate::proofs::Words::encode_words))]
 fn walk(table: &mut [Word], task: Task, errand: Errand, step: Step, number: u32) -> Advanced
     requires { Touchable (map decode table.old) (find_access (node_at task errand) step) }
     ensures leads { result ≡ followed task errand number
@@ -98,6 +101,7 @@ fn walk(table: &mut [Word], task: Task, errand: Errand, step: Step, number: u32)
 
 // One grant of a head: the one access of its stage, and where that leads. In a grant no other function reads or writes
 // the table.
+#[tactic(auto, using(crate::proofs::Words::encode_words), unfolding(process::specs::Access::access_of, process::specs::Advance::advance_of))]
 pub fn stepped(table: &mut [Word], head: Head, number: u32) -> Advanced
     requires touchable { Touchable (map decode table.old) (access_of head) }
     requires raisable { Raisable head.stage }
