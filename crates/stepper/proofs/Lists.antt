@@ -38,7 +38,8 @@ pub rows_back : (rows : List Row) → rows_of (flat_rows rows) ≡ rows
 rows_back [] = refl
 rows_back (row ∷ rows) = ap {B = List Row} (λ r. row ∷ r) (rows_back rows)
 
-pub stored_shown : (rows : List Row) (q : ℕ) (row : Row) → q < length rows → stored (flat_rows rows) (4 * q) row ≡ flat_rows (set rows q row)
+pub stored_shown : (rows : List Row) (q : ℕ) (row : Row) → q < length rows
+    → stored (flat_rows rows) (4 * q) row ≡ flat_rows (set rows q row)
 stored_shown [] q new h = absurd (omega arith)
 stored_shown (row ∷ rows) zero new h = refl
 stored_shown (row ∷ rows) (suc q) new h =

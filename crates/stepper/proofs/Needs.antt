@@ -51,7 +51,7 @@ use Rattle.stepper.specs.declared.Granted.{Granted}
 use Rattle.table.specs.Touch.{Touchable}
 use Rattle.stepper.specs.Buffers.{row_in, stored, rows_of}
 use Rattle.stepper.specs.Shown.{Buffers, buffers, noted, shown, idle_done, used_done, done_of, state_after, history_after}
-use Rattle.stepper.specs.Shown.{requests_in, waits_in, Standing, Grantable, Stepped}
+use Rattle.stepper.specs.Shown.{requests_in, waits_in, Standing, Grantable, Stepped, Grants}
 use Rattle.stepper.specs.Waits.{frees, Renewable}
 use Rattle.reader.proofs.Playing.{playing_count, playing_waits}
 use Rattle.stepper.proofs.Lists.{length_rows}
@@ -393,3 +393,47 @@ module _ {file : List ℕ} {counts : Checked} {h number : ℕ} {b : Buffers} {he
 
     pub ready_own : (request_at (requests_in file) moved.head.task.request).head ≡ h
     ready_own = own_request asked.playing asked.head asked.standing bit free head is moved is-moved
+
+pub service_of : {file : List ℕ} {counts : Checked} {h number : ℕ} {b : Buffers} {head : Head} → Grantable file counts h number b
+    → eqb (b.mask / 2 ^ h % 2) 1 ≡ true
+    → false ≡ is_waiting (get_or b.heads h (resting 0))
+    → head ≡ ready (requests_in file) (get_or b.heads h (resting 0))
+    → Service file counts h number b head
+service_of asked bit waits is = record { asked = asked; bit = bit; free = sym waits; is = is }
+
+-- What the parts of a grant made: its access, and by it the table, the report, the linearization, the entries, the mask and the
+-- head before its next access.
+pub record Parts (file : List ℕ) (counts : Checked) (h number : ℕ) (b : Buffers) (head : Head) (moved : Advanced)
+    (table report linearization : List ℕ) (entries mask : ℕ) (next : Head) : Type 0 where
+  pub service : Service file counts h number b head
+  pub moves : moved ≡ advance_of head (seen (map decode b.table) (access_of head)) number
+  pub touches : table ≡ map encode (touched (map decode b.table) (access_of head))
+  pub charges : report
+      ≡ stored b.report (4 * head.task.request) (charge (row_in b.report (4 * head.task.request)) number moved.event.answer)
+  pub enters : linearization ≡ cond (eqb moved.event.point 0) b.linearization
+      (inserted b.linearization b.entries moved.event.point head.task.request)
+  pub counted : entries ≡ cond (eqb moved.event.point 0) b.entries (b.entries + 1)
+  pub settles : next ≡ settled (requests_in file) h moved
+  pub masks : mask ≡ cond (ltb next.task.request counts.requests) b.mask (b.mask - 2 ^ h)
+
+module _ {file : List ℕ} {counts : Checked} {h number : ℕ} {b : Buffers} {head : Head} {moved : Advanced}
+    {table report linearization : List ℕ} {entries mask : ℕ} {next : Head}
+    (p : Parts file counts h number b head moved table report linearization entries mask next) where
+  open p use {service, moves, touches, charges, enters, counted, settles, masks}
+
+  pub parts_renewable : is_final moved.event.answer ≡ true
+      → Renewable (waits_in file) (rows_of report) (set b.heads h next) h head.task.request
+  parts_renewable =
+      serve_renewable service.asked.playing service.asked.head service.asked.standing service.bit service.free head service.is
+      moved moves table report linearization entries mask next touches charges enters counted settles masks
+
+  -- with the heads as the report wants them the parts together make the rules' step
+  pub parts_grants : (heads : List Head)
+      → heads ≡ cond (frees counts.waits moved.event.answer) (map (noted (waits_in file) (rows_of report)) (set b.heads h next))
+      (set b.heads h next)
+      → (r : Granted) → r ≡ record { heads = heads; entries = entries; mask = mask; done = used_done moved.event }
+      → Grants file h number b (buffers r.heads table report linearization r.entries r.mask) r.done
+  parts_grants heads renewed r is =
+      λ origin gs lent standing.
+      serve_stepped service.asked.playing service.asked.head standing service.bit service.free head service.is
+      moved moves table report linearization entries mask next touches charges enters counted settles masks heads renewed r is

@@ -27,7 +27,7 @@ use Rattle.linearization.specs.Partition.{Labels}
 use Rattle.linearization.specs.Entry.{flat, inserted}
 use Rattle.mask.specs.Mask.{mask_of}
 use Rattle.mask.proofs.Laws.{mask_kept, mask_left}
-use Rattle.rules.specs.Table.{parent, rank, seen, touched}
+use Rattle.rules.specs.Table.{seen, touched}
 use Rattle.rules.specs.declared.Row.{Row}
 use Rattle.rules.specs.Report.{charge, no_row, row_at, unfinished, is_final}
 use Rattle.rules.specs.State.{State, resting, has_work, wait_of}

@@ -9,7 +9,12 @@ use Rattle.rules.specs.declared.Row.{Row}
 
 abbrev pub row_in : List ℕ → ℕ → Row
 row_in numbers at =
-    record { answer = get_or numbers at 0; first = get_or numbers (at + 1) 0; last = get_or numbers (at + 2) 0; used = get_or numbers (at + 3) 0 }
+    record {
+      answer = get_or numbers at 0;
+      first = get_or numbers (at + 1) 0;
+      last = get_or numbers (at + 2) 0;
+      used = get_or numbers (at + 3) 0;
+    }
 
 abbrev pub stored : List ℕ → ℕ → Row → List ℕ
 stored numbers at row =

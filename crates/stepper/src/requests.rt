@@ -26,6 +26,7 @@ pub fn next_request(file: &[u8], counts: Checked, h: u32, from: u32) -> u32
 }
 
 // The next request of the head h of a request, or the number of requests: from the index where it has it, else searched for.
+#[tactic(auto, using(crate::proofs::Needs::next_small))]
 pub fn successor(file: &[u8], successors: &[u16], counts: Checked, h: u32, request: u16) -> u16
     requires { Successive file.now successors.now counts h request }
     ensures { result ≡ seek (requests_in file.now) h (request + 1) }

@@ -32,6 +32,7 @@ fn first_pair(file: &[u8], counts: Checked, q: u32) -> u32
 }
 
 // Whether a request has no answer in the report yet.
+#[tactic(auto, using(crate::proofs::Lists::answer_read))]
 fn is_unfinished(report: &[u32], q: u32) -> bool
     requires { 4 * q + 4 ≤ length report.now }
     ensures { result ≡ unfinished (rows_of report.now) q }
