@@ -48,6 +48,7 @@ pub fn clear_report(report: &mut [u32])
 }
 
 // The first request of each head, or the number of requests where it has none, as no head has that the job does not have.
+#[tactic(auto, using(crate::proofs::Index::few_requests, crate::proofs::Index::few_heads_in_all, stepper::proofs::Needs::next_small))]
 pub fn first_requests(file: &[u8], counts: Checked) -> [u16; MOST_HEADS]
     requires { Playing file.now counts }
     ensures { result ≡ first_requests (requests_in file.now) 0 most_heads }
@@ -68,6 +69,7 @@ pub const INDEX_ROOM: usize = 514;
 
 // For each request the next one of its head, or the number of requests: an index for the grants. It is made from the last
 // request on, with the first request of each head so far.
+#[tactic(auto, using(crate::proofs::Index::few_requests, reader::proofs::Playing::playing_count))]
 pub fn successors(file: &[u8], counts: Checked) -> [u16; INDEX_ROOM]
     requires { Playing file.now counts }
     ensures { Indexes (requests_in file.now) result }
@@ -148,6 +150,7 @@ pub fn idle_heads() -> Heads
 }
 
 // The work mask of the heads: a bit for each that has a first request.
+#[tactic(auto, using(crate::proofs::Loops::gathered_small))]
 pub fn first_mask(firsts: [u16; MOST_HEADS], requests: u32) -> u32
     ensures { result ≡ mask_of (map (is_request requests) firsts) }
 {
