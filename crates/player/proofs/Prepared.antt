@@ -66,7 +66,8 @@ module _ {file : List ℕ} {counts : Checked} (playing : Playing file counts) wh
         → words ≡ map encode (fresh (length (take counts.nodes table)))
         → zeros ≡ replicate (length (take (4 * counts.requests) report)) 0
         → firsts ≡ first_requests (requests_in file) 0 most_heads
-        → tasks ≡ map (first_task (waits_in file) (rows_of (take (4 * counts.requests) (zeros ++ drop (4 * counts.requests) report)))) firsts
+        → tasks
+        ≡ map (first_task (waits_in file) (rows_of (take (4 * counts.requests) (zeros ++ drop (4 * counts.requests) report)))) firsts
         → heads ≡ map at_rest tasks
         → mask ≡ mask_of (map (is_request counts.requests) firsts) → progress ≡ first_progress heads mask
         → ◌≡◌ {A = Laid} (record {
@@ -79,7 +80,8 @@ module _ {file : List ℕ} {counts : Checked} (playing : Playing file counts) wh
         let clear : zeros ≡ replicate (4 * length (requests_in file)) 0 = is-zeros ∙ ap (λ k. replicate k 0) laid_rows in
         let part : take (4 * counts.requests) (zeros ++ drop (4 * counts.requests) report) ≡ zeros =
         take_at zeros (drop (4 * counts.requests) report) (4 * counts.requests) (ap length clear ∙ length-replicate _ 0 ∙ sym rows_are) in
-        let heads-are = first_heads (requests_in file) firsts (waits_in file) _ tasks heads are-first (part ∙ clear) are-tasks resting-are in
+        let heads-are =
+        first_heads (requests_in file) firsts (waits_in file) _ tasks heads are-first (part ∙ clear) are-tasks resting-are in
         let mask_is = first_flags (requests_in file) firsts mask are-first (ap (λ k. k.requests) playing.checked) flags-are in
         let plans : ◌≡◌ {A = Plan} (record { counts = counts; progress = progress }) _ =
         ap (λ p. record { counts = counts; progress = p }) is-progress ∙ (λ i. plan_of (playing.checked i) (heads-are i) (mask_is i)) in

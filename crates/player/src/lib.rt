@@ -29,6 +29,7 @@ pub struct Plan {
 
 // What is known of a job file and of lent buffers of these lengths before anything is written: the counts of the job, or
 // the refusal's number and zeros. The file is checked first, then the buffers in their order.
+#[tactic(auto, unfolding(crate::specs::Player::admission_of, crate::specs::Player::play_refusal, crate::specs::Player::lent_refusal))]
 pub fn admission(file: &[u8], table: usize, report: usize, linearization: usize) -> Checked
     ensures { result ≡ admission_of file.now table report linearization }
 {
@@ -63,8 +64,8 @@ fn lay_out(file: &[u8], counts: Checked, table: &mut [Word], report: &mut [u32])
     requires playing { Playing file.now counts }
     requires nodes_in_bounds { counts.nodes ≤ length table.old }
     requires requests_in_bounds { 4 * counts.requests ≤ length report.old }
-    ensures { record { table = table.exit.now; report = report.new; plan = result }
-        ≡ laid_of file.now table.entry.now report.old }
+    ensures { record { table = table.new; report = report.new; plan = result }
+        ≡ laid_of file.now table.old report.old }
 {
     let nodes = counts.nodes as usize;
     let rows = 4 * (counts.requests as usize);
@@ -87,8 +88,8 @@ pub fn prepare(
     report: &mut [u32],
     linearization: &mut [u32],
 ) -> Plan
-    ensures { (record { table = table.exit.now; report = report.new; linearization = linearization.new; plan = result }
-        ≡ prepared_of file.now table.entry.now report.old linearization.old)
+    ensures { (record { table = table.new; report = report.new; linearization = linearization.new; plan = result }
+        ≡ prepared_of file.now table.old report.old linearization.old)
         × Bytes file.now }
 {
     let counts = admission(file, table.len(), report.len(), linearization.len());
