@@ -72,15 +72,15 @@ chain [] = ‵ ftrue
 chain (i ∷ Δ) = i ⊛ chain Δ
 
 module _ (w : Setting) where
-  open w use {𝓤, H, A}
+  open w use {𝓤, 𝓛}
 
-  pub chains : (Δ : List (Item 𝓤)) → ent 𝓤 (⋆ 𝓤 H A Δ) (mean 𝓤 H A (chain Δ))
+  pub chains : (Δ : List (Item 𝓤)) → ent 𝓤 (⋆ 𝓛 Δ) (mean 𝓛 (chain Δ))
   chains [] = id⊢ 𝓤 (emp 𝓤)
-  chains (i ∷ Δ) = via 𝓤 (sep 𝓤 (mean 𝓤 H A i) (⋆ 𝓤 H A Δ)) (pop 𝓤 H A i Δ) (mono_r 𝓤 (mean 𝓤 H A i) (chains Δ))
+  chains (i ∷ Δ) = via 𝓤 (sep 𝓤 (mean 𝓛 i) (⋆ 𝓛 Δ)) (pop 𝓛 i Δ) (mono_r 𝓤 (mean 𝓛 i) (chains Δ))
 
-  pub unchains : (Δ : List (Item 𝓤)) → ent 𝓤 (mean 𝓤 H A (chain Δ)) (⋆ 𝓤 H A Δ)
+  pub unchains : (Δ : List (Item 𝓤)) → ent 𝓤 (mean 𝓛 (chain Δ)) (⋆ 𝓛 Δ)
   unchains [] = id⊢ 𝓤 (emp 𝓤)
-  unchains (i ∷ Δ) = via 𝓤 (sep 𝓤 (mean 𝓤 H A i) (⋆ 𝓤 H A Δ)) (mono_r 𝓤 (mean 𝓤 H A i) (unchains Δ)) (push 𝓤 H A i Δ)
+  unchains (i ∷ Δ) = via 𝓤 (sep 𝓤 (mean 𝓛 i) (⋆ 𝓛 Δ)) (mono_r 𝓤 (mean 𝓛 i) (unchains Δ)) (push 𝓛 i Δ)
 
   -- parts, each as one entry; and their entries
   abbrev pub parts : List (List (Item 𝓤)) → List (Item 𝓤)
@@ -91,28 +91,28 @@ module _ (w : Setting) where
   whole [] = []
   whole (Δ ∷ Δs) = Δ ++ whole Δs
 
-  pub parted : (Δs : List (List (Item 𝓤))) → ent 𝓤 (⋆ 𝓤 H A (whole Δs)) (⋆ 𝓤 H A (parts Δs))
+  pub parted : (Δs : List (List (Item 𝓤))) → ent 𝓤 (⋆ 𝓛 (whole Δs)) (⋆ 𝓛 (parts Δs))
   parted [] = id⊢ 𝓤 (emp 𝓤)
-  parted (Δ ∷ Δs) = via 𝓤 (sep 𝓤 (⋆ 𝓤 H A Δ) (⋆ 𝓤 H A (whole Δs))) (⊢++ 𝓤 H A Δ (whole Δs))
-      (via 𝓤 (sep 𝓤 (mean 𝓤 H A (chain Δ)) (⋆ 𝓤 H A (parts Δs))) (mono∗ 𝓤 (chains Δ) (parted Δs)) (push 𝓤 H A (chain Δ) (parts Δs)))
+  parted (Δ ∷ Δs) = via 𝓤 (sep 𝓤 (⋆ 𝓛 Δ) (⋆ 𝓛 (whole Δs))) (⊢++ 𝓛 Δ (whole Δs))
+      (via 𝓤 (sep 𝓤 (mean 𝓛 (chain Δ)) (⋆ 𝓛 (parts Δs))) (mono∗ 𝓤 (chains Δ) (parted Δs)) (push 𝓛 (chain Δ) (parts Δs)))
 
-  pub unparted : (Δs : List (List (Item 𝓤))) → ent 𝓤 (⋆ 𝓤 H A (parts Δs)) (⋆ 𝓤 H A (whole Δs))
+  pub unparted : (Δs : List (List (Item 𝓤))) → ent 𝓤 (⋆ 𝓛 (parts Δs)) (⋆ 𝓛 (whole Δs))
   unparted [] = id⊢ 𝓤 (emp 𝓤)
-  unparted (Δ ∷ Δs) = via 𝓤 (sep 𝓤 (mean 𝓤 H A (chain Δ)) (⋆ 𝓤 H A (parts Δs))) (pop 𝓤 H A (chain Δ) (parts Δs))
-      (via 𝓤 (sep 𝓤 (⋆ 𝓤 H A Δ) (⋆ 𝓤 H A (whole Δs))) (mono∗ 𝓤 (unchains Δ) (unparted Δs)) (++⊢ 𝓤 H A Δ (whole Δs)))
+  unparted (Δ ∷ Δs) = via 𝓤 (sep 𝓤 (mean 𝓛 (chain Δ)) (⋆ 𝓛 (parts Δs))) (pop 𝓛 (chain Δ) (parts Δs))
+      (via 𝓤 (sep 𝓤 (⋆ 𝓛 Δ) (⋆ 𝓛 (whole Δs))) (mono∗ 𝓤 (unchains Δ) (unparted Δs)) (++⊢ 𝓛 Δ (whole Δs)))
 
   -- the tokens Δ and what is owned, Θ
-  pub as_signed : (Δ Θ : List (Item 𝓤)) → ent 𝓤 (⋆ 𝓤 H A (Δ ++ Θ)) (sep 𝓤 (mean 𝓤 H A (chain Δ)) (mean 𝓤 H A (chain Θ)))
-  as_signed Δ Θ = via 𝓤 (sep 𝓤 (⋆ 𝓤 H A Δ) (⋆ 𝓤 H A Θ)) (⊢++ 𝓤 H A Δ Θ) (mono∗ 𝓤 (chains Δ) (chains Θ))
+  pub as_signed : (Δ Θ : List (Item 𝓤)) → ent 𝓤 (⋆ 𝓛 (Δ ++ Θ)) (sep 𝓤 (mean 𝓛 (chain Δ)) (mean 𝓛 (chain Θ)))
+  as_signed Δ Θ = via 𝓤 (sep 𝓤 (⋆ 𝓛 Δ) (⋆ 𝓛 Θ)) (⊢++ 𝓛 Δ Θ) (mono∗ 𝓤 (chains Δ) (chains Θ))
 
   -- what a contract without `requires` asks
-  pub as_asked : (Δ Θ : List (Item 𝓤)) → ent 𝓤 (⋆ 𝓤 H A (Δ ++ Θ)) (sep 𝓤 (sep 𝓤 (mean 𝓤 H A (chain Δ)) (mean 𝓤 H A (chain Θ))) (emp 𝓤))
+  pub as_asked : (Δ Θ : List (Item 𝓤)) → ent 𝓤 (⋆ 𝓛 (Δ ++ Θ)) (sep 𝓤 (sep 𝓤 (mean 𝓛 (chain Δ)) (mean 𝓛 (chain Θ))) (emp 𝓤))
   as_asked Δ Θ =
-      let X = sep 𝓤 (mean 𝓤 H A (chain Δ)) (mean 𝓤 H A (chain Θ)) in
+      let X = sep 𝓤 (mean 𝓛 (chain Δ)) (mean 𝓛 (chain Θ)) in
       via 𝓤 X (as_signed Δ Θ) (via 𝓤 (sep 𝓤 (emp 𝓤) X) (emp∗ 𝓤 X) (comm∗ 𝓤 (emp 𝓤) X))
 
-  pub signed : (Δ Θ : List (Item 𝓤)) → ent 𝓤 (sep 𝓤 (mean 𝓤 H A (chain Δ)) (mean 𝓤 H A (chain Θ))) (⋆ 𝓤 H A (Δ ++ Θ))
-  signed Δ Θ = via 𝓤 (sep 𝓤 (⋆ 𝓤 H A Δ) (⋆ 𝓤 H A Θ)) (mono∗ 𝓤 (unchains Δ) (unchains Θ)) (++⊢ 𝓤 H A Δ Θ)
+  pub signed : (Δ Θ : List (Item 𝓤)) → ent 𝓤 (sep 𝓤 (mean 𝓛 (chain Δ)) (mean 𝓛 (chain Θ))) (⋆ 𝓛 (Δ ++ Θ))
+  signed Δ Θ = via 𝓤 (sep 𝓤 (⋆ 𝓛 Δ) (⋆ 𝓛 Θ)) (mono∗ 𝓤 (unchains Δ) (unchains Θ)) (++⊢ 𝓛 Δ Θ)
 
 -- of n tokens and then n parameters: each parameter before its token; and back
 abbrev every : ℕ → ℕ → ℕ → List ℕ

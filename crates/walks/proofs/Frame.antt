@@ -8,8 +8,8 @@ use mathlib.Core.Option.{Option, some, none}
 use mathlib.Core.List.{List, [], ◌∷◌, ◌++◌}
 use Prim.Native.Nat.{ℕ, zero, suc}
 use seplogic.Ra.Ura.{Ura}
-use seplogic.Ra.TreeShare.{full_share}
-use mir.Syntax.{Ty, Local, local, Body, skip, seq, assign, block, loop, cond, switch, exit, return, call}
+use base.Fraction.{full_share}
+use mir.Syntax.{Ty, Local, local, Body, skip, seq, assign, block, loop, cond, switch, exit, return, call, unreachable, call_v, lend_static}
 use mir.Val.{Val}
 use base.Logic.{SProp, ent, sep, emp, emp∗, via, id⊢, comm∗}
 use base.Fml.{fat, froom, fdies}
@@ -34,6 +34,9 @@ rest (switch c a) = skip
 rest (exit n) = skip
 rest return = skip
 rest (call n a p) = skip
+rest unreachable = skip
+rest (call_v _ _ _ _) = skip
+rest (lend_static _ _ _) = skip
 
 abbrev pub after : ℕ → Body → Body
 after zero b = b

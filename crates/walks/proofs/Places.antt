@@ -18,7 +18,7 @@ use Prim.Native.Nat.{ℕ, zero, suc, ◌+◌, ◌*◌, ◌-◌}
 use lib.Dec.{T as Holds}
 use lib.ListN.{length}
 use seplogic.Ra.Ura.{Ura}
-use seplogic.Ra.TreeShare.{full_share}
+use base.Fraction.{full_share}
 use mir.Syntax.{Sym, Ty, Tys, tcons, ty_struct, Opd as Operand, Rv as RValue, Body, copy, place, field, deref, aggregate, seq, assign}
 use mir.Syntax.{ty_unit}
 use mir.Val.{Val, vunit, Vals, vcons, vptr, vstruct, of_list, has_ty, WT}
@@ -174,9 +174,10 @@ module _ {M : Type 1} {𝓤 : Ura M} (𝓛 : Logic 𝓤) (E : Env 𝓤 𝓛.H) w
 
 pub forgets : {M : Type 1} {𝓤 : Ura M} {𝓛 : Logic 𝓤} {K : Type 0} {Γ : List (Item 𝓤)} {G : Goal 𝓤 𝓛.H}
     → K → (E : Env 𝓤 𝓛.H) (k : ℕ) (vs : List Val) → held 𝓛 E k vs Γ ≡ holding 𝓛 E k vs → Step K 𝓛 (emptied 𝓛 E k vs Γ) G Γ G
-forgets t E k [] e = step (λ s. s)
+forgets {M} {𝓤} {𝓛} {K} {Γ} t E k [] e = step (λ s. s)
 forgets {M} {𝓤} {𝓛} {K} {Γ} t E k (v ∷ vs) e =
-    step (λ s. forget t (local_at Γ k) (ap first e) $ forgets t E (suc k) vs (ap others e) $ s)
+    step (λ s. forget t (local_at Γ k) (ap first e) $
+    forgets {Γ = with 𝓛 Γ k (room 𝓤 𝓛.H E k)} t E (suc k) vs (ap others e) $ s)
 
 -- ---- what a call that answers nothing stores
 

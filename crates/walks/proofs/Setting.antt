@@ -4,6 +4,7 @@
 --   Lent X           a reference as it is passed: its lifetime, the share of its token, its place, its name, and what stands there at entry
 --   lent             a reference with its lifetime and the share of its token, as a walk is given them
 --   at_name, passed  the reference at a place, under a name, at a value; under its own name, at entry
+--   as_read          a `&` at its place, at a value
 --   pointer          the machine value of a reference
 --   Loan, loan       what a reference is lent on for: a lifetime and a name
 --   token, loan_token   the token of a reference; of a loan
@@ -17,7 +18,7 @@ use Prim.Native.Nat.{ℕ}
 use lib.Dec.{T as Holds, eqb}
 use borrow.Author.Tests.{eq-eqb, eqb-true}
 use seplogic.Ra.Ura.{Ura}
-use seplogic.Ra.TreeShare.{full_share}
+use base.Fraction.{full_share}
 use mir.Val.{Val, vptr}
 use base.Logic.{SProp, ent, sep, via, assoc'}
 use base.Fml.{GName, Lft, Share, flft}
@@ -26,7 +27,8 @@ use prog.Routine.{Routine}
 use types.Logic.{Logic}
 use contract.Monad.{Fun, fact}
 use types.Kit.{Item, ‵}
-use denote.Ref.{MutBor}
+use denote.MutBor.{MutBor}
+use denote.Bor.{Bor}
 use denote.Triple.Walked.{needs}
 
 pub record Setting : Type 2 where
@@ -71,6 +73,9 @@ lent κ q r = record { lifetime = κ; share = q; block = r.ref_ptr.0; offset = r
 
 abbrev pub at_name : {X : Type 0} → Lent X → GName → X → MutBor X
 at_name s δ x = record { ref_ptr = (s.block, s.offset); ghost_name = δ; now = x }
+
+abbrev pub as_read : {X : Type 0} → Lent X → X → Bor X
+as_read s x = record { ref_ptr = (s.block, s.offset); now = x }
 
 abbrev pub passed : {X : Type 0} → Lent X → MutBor X
 passed s = at_name s s.name s.entry

@@ -14,7 +14,7 @@ use lib.ListN.{length}
 use seplogic.Ra.Ura.{Ura}
 use base.Logic.{ent, ex, guard}
 use base.Fml.{GName, Fml, ftrue, fsep}
-use ghost.Atoms.{meaning}
+use types.Logic.{sem}
 use types.Kit.{Item, ‵, mean, ⋆, ◌⊛◌, given, some, later, ◌$◌, ◌∵◌, !, qed, move, use1, use2, use3, drop, split, join, pick, learn}
 use types.Kit.{check, fsplit, feq_l, await, updating, now as at_once, show, done}
 use types.Tokens.{lft_new, lft_end}
@@ -73,55 +73,56 @@ module _ {M : Type 1} {𝓤 : Ura M} where
   Finals (s ∷ ss) n b = ‵ (finally s.T n.0.name b.0) ∷ Finals ss n.1 b.1
 
 module _ (w : Setting) where
-  open w use {𝓤, H, A, W}
+  open w use {𝓤, 𝓛}
+  open 𝓛 use {H, A}
 
   abbrev pub Offered : (ss : List Slice) → Lists ss → Loans ss → Item 𝓤
   Offered ss b n = chain (LoanTokens ss n) ⊛ chain (Lents ss n b) ⊛ chain (Kepts ss n b)
 
   abbrev Lends : (ss : List Slice) → Lists ss → Type 1
-  Lends ss b = ent 𝓤 (mean 𝓤 H A (chain (Held ss b))) (H.⇛ (ex 𝓤 (λ (n : Loans ss). mean 𝓤 H A (Offered ss b n))))
+  Lends ss b = ent 𝓤 (mean 𝓛 (chain (Held ss b))) (H.⇛ (ex 𝓤 (λ (n : Loans ss). mean 𝓛 (Offered ss b n))))
 
   abbrev Comes : (ss : List Slice) → Loans ss → Lists ss → Lists ss → Type 1
-  Comes ss n b b' = ent 𝓤 (⋆ 𝓤 H A (chain (LoanTokens ss n) ∷ chain (Finals ss n b') ∷ chain (Kepts ss n b) ∷ []))
-      (H.⇛ (mean 𝓤 H A (chain (Held ss b'))))
+  Comes ss n b b' = ent 𝓤 (⋆ 𝓛 (chain (LoanTokens ss n) ∷ chain (Finals ss n b') ∷ chain (Kepts ss n b) ∷ []))
+      (H.⇛ (mean 𝓛 (chain (Held ss b'))))
 
   abbrev Over : (ss : List Slice) → Loans ss → Lists ss → Lists ss → Type 1
-  Over ss n b b' = ent 𝓤 (meaning 𝓤 H A (Lasts ss n b b')) (guard 𝓤 (Same ss b' b) (mean 𝓤 H A (chain (Finals ss n b'))))
+  Over ss n b b' = ent 𝓤 (sem 𝓛 (Lasts ss n b b')) (guard 𝓤 (Same ss b' b) (mean 𝓛 (chain (Finals ss n b'))))
 
   -- one slice more
   module _ (s : Slice) (ss : List Slice) where
     lends_one : (b : Lists (s ∷ ss)) → Same (s ∷ ss) b (entries (s ∷ ss)) → Lends ss b.1 → Lends (s ∷ ss) b
     lends_one b e others =
-        qed W (chain (Held (s ∷ ss) b) ∷ []) ∵ updating ! $ split ! $ flip ! $ split ! $
+        qed 𝓛 (chain (Held (s ∷ ss) b) ∷ []) ∵ updating ! $ split ! $ flip ! $ split ! $
         -- [the slice's token; the other slices; the slice]
         lft_new ! tt (λ ν. move ! (3 ∷ 1 ∷ []) $
-        use2 W (later (some (λ (δ : GName). ‵ (SliceLent s.T s.lent (loan ν δ) b.0)
+        use2 𝓛 (later (some (λ (δ : GName). ‵ (SliceLent s.T s.lent (loan ν δ) b.0)
         ⊛ ‵ (SliceKept s.T s.lent (loan ν δ) b.0)))) (slice_lends w s.T s.lent b.0 e.0 ν) $ await ! tt $
         pick ! (λ δ. split ! $ move ! (3 ∷ []) $
-        use1 W (later (some (Offered ss b.1))) others $ await ! tt $ pick ! (λ n. split ! $ flip ! $ split ! $
+        use1 𝓛 (later (some (Offered ss b.1))) others $ await ! tt $ pick ! (λ n. split ! $ flip ! $ split ! $
         -- [the others lent, kept, and their loans' tokens; the slice lent, kept, and its loan's token]
-        at_once ! $ show ! (λ (m : Loans (s ∷ ss)). mean 𝓤 H A (Offered (s ∷ ss) b m)) (loan ν δ, n) $
+        at_once ! $ show ! (λ (m : Loans (s ∷ ss)). mean 𝓛 (Offered (s ∷ ss) b m)) (loan ν δ, n) $
         move ! (5 ∷ 2 ∷ []) $ join ! $ move ! (3 ∷ 1 ∷ []) $ join ! $ move ! (3 ∷ 2 ∷ []) $ join ! $ move ! (2 ∷ 1 ∷ 0 ∷ []) $ done !)))
 
     module _ (n : Loans (s ∷ ss)) (b b' : Lists (s ∷ ss)) where
       comes_one : Same (s ∷ ss) b (entries (s ∷ ss)) → Same (s ∷ ss) b' b → Comes ss n.1 b.1 b'.1 → Comes (s ∷ ss) n b b'
       comes_one e e' others =
-          qed W (chain (LoanTokens (s ∷ ss) n) ∷ chain (Finals (s ∷ ss) n b') ∷ chain (Kepts (s ∷ ss) n b) ∷ []) ∵ updating ! $
+          qed 𝓛 (chain (LoanTokens (s ∷ ss) n) ∷ chain (Finals (s ∷ ss) n b') ∷ chain (Kepts (s ∷ ss) n b) ∷ []) ∵ updating ! $
           split ! $ move ! (2 ∷ []) $ split ! $ move ! (4 ∷ []) $ split ! $ move ! (4 ∷ []) $ lft_end ! tt $ move ! (0 ∷ 1 ∷ 3 ∷ []) $
-          use3 W (later (‵ (SliceHeld s.T s.lent b'.0) ⊛ token s.lent))
-          (slice_comes w s.T s.lent b.0 e.0 n.0 s.room b'.0 e'.0) $ await ! tt $
+          use3 𝓛 (later (‵ (SliceHeld s.T s.lent b'.0) ⊛ token s.lent))
+          (slice_comes w s.T s.lent b.0 e.0 s.room n.0 b'.0 e'.0) $ await ! tt $
           -- [the slice and its token; what is kept of the others; their last lists; their loans' tokens]
-          move ! (3 ∷ 2 ∷ 1 ∷ []) $ use3 W (later (chain (Held ss b'.1))) others $ await ! tt $ at_once ! $ flip ! $ split ! $ done !
+          move ! (3 ∷ 2 ∷ 1 ∷ []) $ use3 𝓛 (later (chain (Held ss b'.1))) others $ await ! tt $ at_once ! $ flip ! $ split ! $ done !
 
       over_one : Over ss n.1 b.1 b'.1 → Over (s ∷ ss) n b b'
       over_one others =
-          qed W (‵ (Lasts (s ∷ ss) n b b') ∷ []) ∵ fsplit ! $ fsplit ! $ flip ! $ feq_l ! (λ e. flip ! $
-          use1 W (given (Same ss b'.1 b.1) (chain (Finals ss n.1 b'.1))) others $
+          qed 𝓛 (‵ (Lasts (s ∷ ss) n b b') ∷ []) ∵ fsplit ! $ fsplit ! $ flip ! $ feq_l ! (λ e. flip ! $
+          use1 𝓛 (given (Same ss b'.1 b.1) (chain (Finals ss n.1 b'.1))) others $
           learn ! (λ es. check ! (e, es) $ flip ! $ done !))
 
   lends_none : Lends [] tt
   lends_none =
-      qed W (‵ ftrue ∷ []) ∵ updating ! $ at_once ! $ show ! (λ (n : Unit {0}). mean 𝓤 H A (Offered [] tt n)) tt $
+      qed 𝓛 (‵ ftrue ∷ []) ∵ updating ! $ at_once ! $ show ! (λ (n : Unit {0}). mean 𝓛 (Offered [] tt n)) tt $
       nothing ! $ nothing ! $ done !
 
   pub lends_all : (ss : List Slice) (b : Lists ss) → Same ss b (entries ss) → Lends ss b
@@ -129,14 +130,14 @@ module _ (w : Setting) where
   lends_all (s ∷ ss) b e = lends_one s ss b e (lends_all ss b.1 e.1)
 
   comes_none : Comes [] tt tt tt
-  comes_none = qed W (‵ ftrue ∷ ‵ ftrue ∷ ‵ ftrue ∷ []) ∵ updating ! $ drop ! $ drop ! $ at_once ! $ done !
+  comes_none = qed 𝓛 (‵ ftrue ∷ ‵ ftrue ∷ ‵ ftrue ∷ []) ∵ updating ! $ drop ! $ drop ! $ at_once ! $ done !
 
   pub comes_all : (ss : List Slice) (n : Loans ss) (b b' : Lists ss) → Same ss b (entries ss) → Same ss b' b → Comes ss n b b'
   comes_all [] n b b' e e' = comes_none
   comes_all (s ∷ ss) n b b' e e' = comes_one s ss n b b' e e' (comes_all ss n.1 b.1 b'.1 e.1 e'.1)
 
   over_none : Over [] tt tt tt
-  over_none = qed W (‵ ftrue ∷ []) ∵ check ! tt $ done !
+  over_none = qed 𝓛 (‵ ftrue ∷ []) ∵ check ! tt $ done !
 
   pub over_all : (ss : List Slice) (n : Loans ss) (b b' : Lists ss) → Over ss n b b'
   over_all [] n b b' = over_none

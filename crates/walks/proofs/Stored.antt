@@ -7,7 +7,7 @@ use mathlib.Core.Path.{◌≡◌, refl, sym, subst}
 use mathlib.Core.List.{List, [], ◌∷◌}
 use Prim.Native.Nat.{ℕ, ◌<◌}
 use lib.ListN.{length, get_or, set, length-set}
-use seplogic.Ra.TreeShare.{full_share}
+use base.Fraction.{full_share}
 use mir.Syntax.{Place, Opd as Operand, Body, seq, assign, rv_opd}
 use mir.Val.{Val}
 use base.Fml.{Fml}
@@ -32,7 +32,8 @@ module _ (c : Carried) (s : Lent (List c.type.D)) where
   element v o = cell_at full_share (row c).mir (v ∷ []) s.block o
 
 module _ (w : Setting) (c : Carried) (s : Lent (List c.type.D)) (ys : List c.type.D) (i : ℕ) (y : c.type.D) where
-  open w use {𝓤, H, A, W}
+  open w use {𝓤, 𝓛}
+  open 𝓛 use {H, A}
 
   abbrev pub ElementOpen : List (Item 𝓤) → List (Item 𝓤)
   ElementOpen Γ =
@@ -45,21 +46,21 @@ module _ (w : Setting) (c : Carried) (s : Lent (List c.type.D)) (ys : List c.typ
 
   module _ {K : Type 0} {Γ : List (Item 𝓤)} {E : Env 𝓤 H} {C : Calls 𝓤 H} {Λ : Loops 𝓤 H} {q : Post 𝓤 H} where
     pub element_stored : K → length ys ≡ length s.entry → i < length ys → {v : Val} → Is (row c) y (v ∷ [])
-        → {x : Operand} {p : Place} {rest : Body} → Opd K W (ElementOpen Γ) E x v
-        → Finds K W (ElementOpen Γ) E p (layout (declared.shape c.type), s.block, element_offset (mem (row c)).size s.offset i)
-        → Step K W (‵ (SliceHeld (row c) s (set ys i y)) ∷ token s ∷ Γ) (runs C Λ E rest q)
+        → {x : Operand} {p : Place} {rest : Body} → Opd K 𝓛 (ElementOpen Γ) E x v
+        → Finds K 𝓛 (ElementOpen Γ) E p (layout (declared.shape c.type), s.block, element_offset (mem (row c)).size s.offset i)
+        → Step K 𝓛 (‵ (SliceHeld (row c) s (set ys i y)) ∷ token s ∷ Γ) (runs C Λ E rest q)
         (‵ (SliceHeld (row c) s ys) ∷ token s ∷ Γ) (runs C Λ E (seq (assign p (rv_opd x)) rest) q)
     element_stored t same less {v} is from at =
         step (λ k.
-        use2 W (later (given (Room (row c) (length ys)) (Elements ⊛ ‵ (SliceOpen (row c) s ys)))) (opened w (row c) s ys same) $
+        use2 𝓛 (later (given (Room (row c) (length ys)) (Elements ⊛ ‵ (SliceOpen (row c) s ys)))) (opened w (row c) s ys same) $
         await t tt $ learn t (λ room. split t $
-        elem_out t (row c) (Is (row c)) (shows 𝓤 H A (row c)) (LL.vals c.type c.laws) (LL.tells c.type c.laws)
+        elem_out t (row c) (Is (row c)) (shows 𝓛 (row c)) (LL.vals c.type c.laws) (LL.tells c.type c.laws)
         full_share ys i y s.block s.offset less (λ was. move t (1 ∷ []) $ drop t $
         rewrite t 0 (λ (o : ℕ). ‵ (element c s (value c (get_or ys i y)) o)) lies refl $
-        assigns t (of_opd t from) at (store_raw t 0 refl (typed W c y is)) $
+        assigns t (of_opd t from) at (store_raw t 0 refl (typed 𝓛 c y is)) $
         rewrite t 0 (λ (o : ℕ). ‵ (element c s v o)) (sym lies) refl $
         makes t c y (v ∷ []) is $ move t (1 ∷ 0 ∷ []) $ elem_put t (row c) full_share ys i y (v ∷ []) s.block s.offset less $
-        use2 W (later (‵ (SliceHeld (row c) s (set ys i y)) ⊛ token s))
+        use2 𝓛 (later (‵ (SliceHeld (row c) s (set ys i y)) ⊛ token s))
         (shut w (row c) s ys same (set ys i y) (subst (Room (row c)) same room) (length-set ys i y)) $ await t tt $ split t $ k)))
       where
         lies : index.place (mem (row c)).size s.offset i ≡ element_offset (mem (row c)).size s.offset i
