@@ -1,9 +1,8 @@
 -- What the call ends with: its plan is carried out by the two loops, and the exit buffers are what the outcome says.
 --
---   rows⁺, page⁺   the rows and the page after the loops
 --   PageEnded      the contract's clauses, of an answer and the exit buffers
 --
--- Main law: page_ended; count_fits and count_few are what the loops rely on.
+-- Main law: page_ended, of the rows and the page that the loops leave; count_fits and count_few are what the loops rely on.
 use mathlib.Core.Path.{◌≡◌, sym, subst, ap, ◌∙◌}
 use mathlib.Core.List.{List}
 use Prim.Native.Nat.{ℕ, ◌≤◌}
@@ -20,12 +19,6 @@ use Rattle.page.specs.Written.{filled, lined}
 use Rattle.page.proofs.Pages.{rows_after, page_after, filled_after, lined_after}
 use Rattle.page.proofs.Paging.{paged, paged_room, paged_few, paged_fitting, paged_grouped}
 
-abbrev pub rows⁺ : Plan → List Row → List Row
-rows⁺ plan rows = filled plan.numbers plan.count rows
-
-abbrev pub page⁺ : Plan → List Row → List ℕ → List ℕ
-page⁺ plan rows page = lined (rows⁺ plan rows) plan.count page
-
 pub record PageEnded (words : List ℕ) (rows : List Row) (page : List ℕ) (answer : Paged) (rows' : List Row) (page' : List ℕ) : Type 0 where
   pub exact : ◌≡◌ {A = Outcome} (record { answer = answer; rows = rows'; page = page' }) (paged_of words rows page)
   pub grouped : answer.number ≡ 0 → GroupedHere words answer rows' page'
@@ -40,24 +33,27 @@ module _ (words : List ℕ) (rows : List Row) (page : List ℕ) (plan : Plan) (p
   abbrev after : List Row
   after = rows_after plan.numbers rows plan.answer.rows
 
-  rows_told : rows⁺ plan rows ≡ after
-  rows_told = filled_after plan.numbers rows plan.count count_fits ∙ ap (rows_after plan.numbers rows) planned.count
+  module _ {rows' : List Row} (fills : rows' ≡ filled plan.numbers plan.count rows) {page' : List ℕ}
+      (lines : page' ≡ lined rows' plan.count page) where
+    rows_told : rows' ≡ after
+    rows_told = fills ∙ filled_after plan.numbers rows plan.count count_fits ∙ ap (rows_after plan.numbers rows) planned.count
 
-  page_told : page⁺ plan rows page ≡ page_after after page plan.answer.rows
-  page_told =
-      ap (λ (read : List Row). lined read plan.count page) rows_told
-      ∙ lined_after after page plan.count (λ k l. paged_fitting words rows page plan planned k (omega (arith, planned.count)))
-      ∙ ap (page_after after page) planned.count
+    page_told : page' ≡ page_after after page plan.answer.rows
+    page_told =
+        lines
+        ∙ ap (λ (read : List Row). lined read plan.count page) rows_told
+        ∙ lined_after after page plan.count (λ k l. paged_fitting words rows page plan planned k (omega (arith, planned.count)))
+        ∙ ap (page_after after page) planned.count
 
-  both : ◌≡◌ {A = List Row × List ℕ} (rows⁺ plan rows, page⁺ plan rows page) (after, page_after after page plan.answer.rows)
-  both i = (rows_told i, page_told i)
+    both : ◌≡◌ {A = List Row × List ℕ} (rows', page') (after, page_after after page plan.answer.rows)
+    both i = (rows_told i, page_told i)
 
-  pub page_ended : PageEnded words rows page plan.answer (rows⁺ plan rows) (page⁺ plan rows page)
-  page_ended =
-      record {
-        exact = (λ i. record { answer = plan.answer; rows = rows_told i; page = page_told i }) ∙ paged words rows page plan planned;
-        grouped =
-            λ accepted.
-            subst (λ (z : List Row × List ℕ). GroupedHere words plan.answer z.0 z.1) (sym both)
-            (paged_grouped words rows page plan planned accepted);
-      }
+    pub page_ended : PageEnded words rows page plan.answer rows' page'
+    page_ended =
+        record {
+          exact = (λ i. record { answer = plan.answer; rows = rows_told i; page = page_told i }) ∙ paged words rows page plan planned;
+          grouped =
+              λ accepted.
+              subst (λ (z : List Row × List ℕ). GroupedHere words plan.answer z.0 z.1) (sym both)
+              (paged_grouped words rows page plan planned accepted);
+        }

@@ -1,4 +1,5 @@
--- The structs that the walks by hand of this crate carry by value, and the numbers of the rows.
+-- The structs of this crate, and the numbers of the rows, as the laws of `walks` take them. No function of the crate needs a walk
+-- by hand any more.
 --
 --   numbers_type     the array of the rows' numbers
 --   numbers_value    its machine value
@@ -14,19 +15,22 @@ use denote.Steps.{only}
 use Rattle.walks.proofs.Carried.{Carried}
 use Rattle.page.specs.contracts.Row as row_type
 use Rattle.page.proofs.Row.TheLaws as row_laws
-use Rattle.page.specs.contracts.Paged as paged-type
-use Rattle.page.proofs.Paged.TheLaws as paged-laws
-use Rattle.page.specs.contracts.plan.Plan as plan-type
-use Rattle.page.proofs.plan.Plan.TheLaws as plan-laws
+use Rattle.page.specs.contracts.Paged as paged_type
+use Rattle.page.proofs.Paged.TheLaws as paged_laws
+use Rattle.page.specs.contracts.plan.Plan as plan_type
+use Rattle.page.proofs.plan.Plan.TheLaws as plan_laws
 
 abbrev pub row_struct : Carried
-row_struct = record { type = row_type.the_type; laws = row_laws.the_laws; plain = row_laws.the_plain }
+row_struct =
+    record { type = row_type.the_type; laws = row_laws.the_laws; plain = row_laws.the_plain; copyable = row_laws.the_copy }
 
 abbrev pub paged_struct : Carried
-paged_struct = record { type = paged-type.the_type; laws = paged-laws.the_laws; plain = paged-laws.the_plain }
+paged_struct =
+    record { type = paged_type.the_type; laws = paged_laws.the_laws; plain = paged_laws.the_plain; copyable = paged_laws.the_copy }
 
 abbrev pub plan_struct : Carried
-plan_struct = record { type = plan-type.the_type; laws = plan-laws.the_laws; plain = plan-laws.the_plain }
+plan_struct =
+    record { type = plan_type.the_type; laws = plan_laws.the_laws; plain = plan_laws.the_plain; copyable = plan_laws.the_copy }
 
 abbrev pub numbers_type : RattleType
 numbers_type = Array u16 16384
