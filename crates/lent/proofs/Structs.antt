@@ -1,27 +1,57 @@
--- The structs that the walks by hand of this crate carry by value.
+-- The structs of this crate's play as the laws of `walks` take them. No function of the crate needs a walk by hand any more.
 use Rattle.walks.proofs.Carried.{Carried}
-use Rattle.job.specs.contracts.Tally as tally-type
-use Rattle.job.proofs.Tally.TheLaws as tally-laws
-use Rattle.job.specs.contracts.Played as played-type
-use Rattle.job.proofs.Played.TheLaws as played-laws
-use Rattle.reader.specs.contracts.Checked as checked-type
-use Rattle.reader.proofs.Checked.TheLaws as checked-laws
-use Rattle.turns.specs.contracts.Progress as progress-type
-use Rattle.turns.proofs.Progress.TheLaws as progress-laws
-use Rattle.player.specs.contracts.Plan as plan-type
-use Rattle.player.proofs.Plan.TheLaws as plan-laws
+use Rattle.job.specs.contracts.Tally as tally_type
+use Rattle.job.proofs.Tally.TheLaws as tally_laws
+use Rattle.job.specs.contracts.Played as played_type
+use Rattle.job.proofs.Played.TheLaws as played_laws
+use Rattle.reader.specs.contracts.Checked as checked_type
+use Rattle.reader.proofs.Checked.TheLaws as checked_laws
+use Rattle.turns.specs.contracts.Progress as progress_type
+use Rattle.turns.proofs.Progress.TheLaws as progress_laws
+use Rattle.player.specs.contracts.Plan as plan_type
+use Rattle.player.proofs.Plan.TheLaws as plan_laws
 
 abbrev pub tally_struct : Carried
-tally_struct = record { type = tally-type.the_type; laws = tally-laws.the_laws; plain = tally-laws.the_plain }
+tally_struct =
+    record {
+      type = tally_type.the_type;
+      laws = tally_laws.the_laws;
+      plain = tally_laws.the_plain;
+      copyable = tally_laws.the_copy;
+    }
 
 abbrev pub checked_struct : Carried
-checked_struct = record { type = checked-type.the_type; laws = checked-laws.the_laws; plain = checked-laws.the_plain }
+checked_struct =
+    record {
+      type = checked_type.the_type;
+      laws = checked_laws.the_laws;
+      plain = checked_laws.the_plain;
+      copyable = checked_laws.the_copy;
+    }
 
 abbrev pub progress_struct : Carried
-progress_struct = record { type = progress-type.the_type; laws = progress-laws.the_laws; plain = progress-laws.the_plain }
+progress_struct =
+    record {
+      type = progress_type.the_type;
+      laws = progress_laws.the_laws;
+      plain = progress_laws.the_plain;
+      copyable = progress_laws.the_copy;
+    }
 
 abbrev pub plan_struct : Carried
-plan_struct = record { type = plan-type.the_type; laws = plan-laws.the_laws; plain = plan-laws.the_plain }
+plan_struct =
+    record {
+      type = plan_type.the_type;
+      laws = plan_laws.the_laws;
+      plain = plan_laws.the_plain;
+      copyable = plan_laws.the_copy;
+    }
 
 abbrev pub played_struct : Carried
-played_struct = record { type = played-type.the_type; laws = played-laws.the_laws; plain = played-laws.the_plain }
+played_struct =
+    record {
+      type = played_type.the_type;
+      laws = played_laws.the_laws;
+      plain = played_laws.the_plain;
+      copyable = played_laws.the_copy;
+    }

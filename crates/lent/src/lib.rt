@@ -61,10 +61,9 @@ pub fn add(tally: &mut Tally, progress: Progress)
     *tally = tally_after(*tally, progress);
 }
 
-// Plays a job file on lent buffers and a lent tally, for programs in C and Rust: the tally is zeroed at an accepted start
+// Plays a job file on lent buffers and a lent tally: the tally is zeroed at an accepted start
 // and added to at each grant; a refusal writes nothing.
-#[unsafe(no_mangle)]
-pub extern "C" fn grouping_play_lent(
+pub fn grouping_play_lent(
     file: &[u8],
     table: &mut [Word],
     report: &mut [u32],
