@@ -4,9 +4,9 @@
 --
 -- Main laws: never, no grant is left; looked_on, looked_turned, looked_met, looked_spent, looked_no and looked_again, one for each
 -- return of the code.
-use mathlib.Core.Path.{◌≡◌, refl, sym, ap, ◌∙◌}
+use mathlib.Core.Path.{◌≡◌, sym, ap, ◌∙◌}
 use mathlib.Core.Logic.{◌≢◌}
-use mathlib.Core.Bool.{Bool, true, false, not}
+use mathlib.Core.Bool.{Bool, true, false}
 use mathlib.Core.List.{List, map}
 use Prim.Native.Nat.{ℕ, ◌+◌, ◌-◌}
 use native.Mathlib.Omega.{arith}
@@ -28,15 +28,6 @@ pub never : {words : List ℕ} {node other used left end : ℕ} (h : Head) → R
 never {words} {used = used} {left = left} {end = end} h ready none told =
     spent words ready.admitted left used h end none (omega (arith, ready.room)) told
 
--- what the code's test of the side tells
-find_from_x : (fromY : Bool) → not fromY ≡ true → fromY ≡ false
-find_from_x true e = sym e
-find_from_x false e = refl
-
-find_from_y : (fromY : Bool) → not fromY ≡ false → fromY ≡ true
-find_from_y true e = refl
-find_from_y false e = sym e
-
 module _ {words : List ℕ} {node other used left : ℕ} (ready : Ready words node other used left) (fromY : Bool) (some : left ≢ 0) where
   abbrev t : List Node
   t = map decode words
@@ -56,22 +47,22 @@ module _ {words : List ℕ} {node other used left : ℕ} (ready : Ready words no
     root : parent t node ≡ node
     root = ap (λ v. v.parent) (admitted_at words ready.admitted node ready.inside) ∙ sym its ∙ found
 
-    pub looked_turned : not fromY ≡ true → looks ≡ steps (left - 1) (used + 1) (looking other node true) t
+    pub looked_turned : fromY ≡ false → looks ≡ steps (left - 1) (used + 1) (looking other node true) t
     looked_turned first =
-        rw (find_from_x fromY first)
+        rw first
         (look_turns t node other left used (left - 1) (used + 1) (omega (arith, some)) (omega arith) root)
 
-    module _ (second : not fromY ≡ false) where
+    module _ (second : fromY ≡ true) where
       pub looked_met : {end : ℕ} → other ≡ node → end ≡ packed Yes (used + 1) → ended end words ≡ looks
       looked_met {end} e told =
-          rw (find_from_y fromY second)
+          rw second
           (told_answer words ready.admitted Yes (used + 1) end (omega (arith, some, ready.room)) told
           ∙ sym (look_meets t node other left used (left - 1) (used + 1) (omega (arith, some)) (omega arith) root e))
 
       module _ (apart : other ≢ node) where
         differs : looks ≡ steps (left - 1) (used + 1) (rereading other node (used + 1)) t
         differs =
-            rw (find_from_y fromY second)
+            rw second
             (look_differs t node other left used (left - 1) (used + 1) (omega (arith, some)) (omega arith) root apart)
 
         pub looked_spent : {end : ℕ} → left ≡ 1 → end ≡ packed Unfinished (used + 1) → ended end words ≡ looks

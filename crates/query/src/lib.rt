@@ -29,6 +29,7 @@ pub struct Queried {
 }
 
 // The number of the refusal, 0 for none.
+#[tactic(auto, unfolding(crate::specs::Query::refusal))]
 fn refusal_of(table: &[Word], x: u32, y: u32) -> u32
     ensures { result ≡ refusal table.now x y }
 {
