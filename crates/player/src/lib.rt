@@ -14,8 +14,8 @@ ghost use Rattle.player.specs.Demand.{LinearizedHere, LawfulHere, WaitedHere, Bo
 use job::{Played, Tally};
 use reader::Checked;
 use start::{
-    clear_report, first_mask, first_requests, first_tasks, fresh_table, idle_heads, resting_heads,
-    successors,
+    INDEX_ROOM, clear_report, first_mask, first_requests, first_tasks, fresh_table, idle_heads,
+    index_requests, resting_heads,
 };
 use turns::{Progress, counted, first_progress, first_tally, turn};
 use word::Word;
@@ -183,7 +183,8 @@ pub fn play(
     if counts.number != 0 {
         return refused(counts);
     }
-    let index = successors(file, counts);
+    let mut index = [0u16; INDEX_ROOM];
+    index_requests(file, counts, &mut index);
     let mut progress = plan.progress;
     let mut tally = first_tally(progress);
     while progress.number < counts.grants {

@@ -33,13 +33,13 @@ pub record Indexed (qs : List Request) (firsts index : List ℕ) (q : ℕ) : Typ
   pub first : (h : ℕ) → h < most_heads → get_or firsts h 0 ≡ seek qs h q
   pub successor : (p : ℕ) → q ≤ p → p < length qs → get_or index p 0 ≡ seek qs (request_at qs p).head (suc p)
 
-pub indexed_none : (qs : List Request) (count : ℕ) → count ≡ length qs
-    → Indexed qs (replicate most_heads count) (replicate index_room 0) count
-indexed_none qs count all =
+pub indexed_none : (qs : List Request) (index : List ℕ) (count : ℕ) → count ≡ length qs → length index ≡ index_room
+    → Indexed qs (replicate most_heads count) index count
+indexed_none qs index count all room =
     record {
       within = omega (arith, all);
       heads = refl;
-      size = refl;
+      size = room;
       first = λ h l. get_or-replicate {A = ℕ} most_heads h count 0 l ∙ sym (seek_none qs h count (omega (arith, all)));
       successor = λ p l inside. absurd (omega (arith, all));
     }

@@ -67,16 +67,16 @@ pub fn first_requests(file: &[u8], counts: Checked) -> [u16; MOST_HEADS]
 // speed"); bench/shape looks at it.
 pub const INDEX_ROOM: usize = 514;
 
-// For each request the next one of its head, or the number of requests: an index for the grants. It is made from the last
-// request on, with the first request of each head so far.
+// For each request the next one of its head, or the number of requests: an index for the grants, in a lent array. It is made
+// from the last request on, with the first request of each head so far.
 #[tactic(auto, using(crate::proofs::Index::few_requests, reader::proofs::Playing::playing_count))]
-pub fn successors(file: &[u8], counts: Checked) -> [u16; INDEX_ROOM]
-    requires { Playing file.now counts }
-    ensures { Indexes (requests_in file.now) result }
+pub fn index_requests(file: &[u8], counts: Checked, index: &mut [u16])
+    requires playing { Playing file.now counts }
+    requires room { length index.old ≡ 514 }
+    ensures { Indexes (requests_in file.now) index.new }
 {
     let requests = counts.requests;
     let mut firsts = [requests as u16; MOST_HEADS];
-    let mut index = [0u16; INDEX_ROOM];
     let mut q = requests;
     while 0 < q {
         q -= 1;
@@ -85,6 +85,15 @@ pub fn successors(file: &[u8], counts: Checked) -> [u16; INDEX_ROOM]
         index[q as usize] = firsts[h];
         firsts[h] = q as u16;
     }
+}
+
+// The same as an array of its own.
+pub fn successors(file: &[u8], counts: Checked) -> [u16; INDEX_ROOM]
+    requires { Playing file.now counts }
+    ensures { Indexes (requests_in file.now) result }
+{
+    let mut index = [0u16; INDEX_ROOM];
+    index_requests(file, counts, &mut index);
     index
 }
 
