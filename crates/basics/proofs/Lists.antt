@@ -1,8 +1,8 @@
 -- Lists read and written at one place, under a map, and taken apart.
 --
---   get_d_mapped    what stands at a place of the mapped list
+--   get_d_mapped   what stands at a place of the mapped list
 --   set_mapped     a store in the mapped list is the map of a store
---   get_d_set_each  what holds at every place, and of what is stored, holds at every place after the store
+--   get_d_set_each what holds at every place, and of what is stored, holds at every place after the store
 --   get_d_sets_in, get_d_sets_below   what stands at a place after several stores in a row: among them, or before them
 --   length_three   the length of three pieces
 --   take_next      one element more: what a loop over a list adds in a turn

@@ -1,7 +1,7 @@
 -- Counting: the numbers below a limit that pass a test.
 --
 --   count test n          how many numbers below n pass the test
---   passing_below test n   these numbers, rising
+--   passing_below test n  these numbers, rising
 use Rattle.std.specs.Prelude.{Bool, cond, List, [], ◌∷◌, ◌++◌, ℕ, zero, suc}
 
 abbrev pub count : (ℕ → Bool) → ℕ → ℕ

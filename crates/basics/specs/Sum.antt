@@ -1,7 +1,7 @@
 -- Sums.
 --
 --   sum ns      the numbers of a list, added up
---   sum_to f n   f of each number below n, added up
+--   sum_to f n  f of each number below n, added up
 use Rattle.std.specs.Prelude.{List, [], ◌∷◌, ℕ, zero, suc, ◌+◌}
 
 abbrev pub sum : List ℕ → ℕ

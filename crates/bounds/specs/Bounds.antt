@@ -1,7 +1,7 @@
 -- Document 02, A7: what bay planners are told of a number of places; the limits themselves are `rules/specs/Bounds`.
 --
---   refusal_of n   the refusal of n places
---   limits_of n    the limits of a same-set and of a union on n places, or the refusal of n
+--   refusal_of n  the refusal of n places
+--   limits_of n   the limits of a same-set and of a union on n places, or the refusal of n
 use Rattle.std.specs.Prelude.{cond, ℕ, eqb}
 use Rattle.job.specs.declared.Kind.TheVariants.{Union, SameSet}
 use Rattle.jobfile.specs.Format.{sizes_refusal}

@@ -1,6 +1,6 @@
 -- Document 01, "Played cases": what the program prints for a job file.
 --
---   text_of left               the text of what a play left
+--   text_of left              the text of what a play left
 --   output file               the text of a file
 --   longest                   room for every text
 --   Put text before after n   the n bytes of the text were written at the start of a buffer

@@ -1,7 +1,7 @@
 -- How far up a node stands: the nodes that are no roots and come before it. A node that is no root stays so with its rank, so
 -- that they only become more, and there are always fewer than nodes. Everywhere p gives each node's parent and r its rank.
 --
---   is_low p r b i      node i is no root, and its key is below b
+--   is_low p r b i     node i is no root, and its key is below b
 --   low n p r b        how many of n nodes are so
 --   beneath n p r v    how many of n nodes are no roots and come before v
 --   reached n p r v    the same, and v itself where it is none

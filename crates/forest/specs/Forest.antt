@@ -1,7 +1,7 @@
 -- Document 01, "Places, words, order" and "Whole runs and the plain book": roots and groups of a table, told by its
 -- parents alone: p i is the parent of node i.
 --
---   root_count p n   how many nodes below n are roots
+--   root_count p n  how many nodes below n are roots
 --   Leads p x r     following parents from x ends at the root r
 --   Together p x y  x and y share a set
 use Rattle.std.specs.Prelude.{◌≡◌, ◌≢◌, ℕ, eqb}

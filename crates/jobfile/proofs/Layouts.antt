@@ -3,10 +3,10 @@
 --   word_back, word_front   the two bytes of a word give the word, and a word gives its two bytes
 --   word_at, mark_front, pair_after   the word at a place, the mark, and the two bytes behind it, in front of what follows
 --   mask_back, mask_front   the same of a mask and its four bytes
---   right_layout h           a right of a job with h heads, checked with the number of rights before it
---   request_layout n h rs    a request of a job with n nodes, h heads and the rights rs, checked with the number of requests before it
---   wait_layout q            a pair of a job with q requests, checked with the pair before it
---   run_layout h             a run of a job with h heads, checked with the run before it; where only the bytes matter, n, q and h
+--   right_layout h          a right of a job with h heads, checked with the number of rights before it
+--   request_layout n h rs   a request of a job with n nodes, h heads and the rights rs, checked with the number of requests before it
+--   wait_layout q           a pair of a job with q requests, checked with the pair before it
+--   run_layout h            a run of a job with h heads, checked with the run before it; where only the bytes matter, n, q and h
 --                           are 0, and there are no rights
 --   holding_pass            written rights that are a job's are not refused
 --   asking_pass             nor are written requests that are a job's

@@ -1,25 +1,25 @@
 -- Document 01, "Job file" and "Played cases", and 02, A3, A4 and A5: files, jobs and drafts at the format's edges, as one table.
 --
---   Case                a file that is accepted or refused, a job that is written, a draft that is checked, and what is expected
---   Outcome             a meaning, a file, or a number
---   outcome c           what the definitions give
---   wanted c            what is expected
+--   Case                  a file that is accepted or refused, a job that is written, a draft that is checked, and what is expected
+--   Outcome               a meaning, a file, or a number
+--   outcome c             what the definitions give
+--   wanted c              what is expected
 --   header, right, request, wait, run, close   the six records, by their numbers
---   times n l           the list l, n times
+--   times n l             the list l, n times
 --   job_with, draft_with  a job and a draft, by their parts
---   job, draft          the same without rights
---   empty_job n h        the job of n places and h heads with nothing to do
---   alternating n       a schedule of n grants, no two in a row for one head
+--   job, draft            the same without rights
+--   empty_job n h         the job of n places and h heads with nothing to do
+--   alternating n         a schedule of n grants, no two in a row for one head
 --   sample_job, sample_file         document 01's job, and its bytes
 --   wide_job, wide_file   a job of 32 heads, and its bytes
---   pair later earlier  a pair, by its numbers
+--   pair later earlier    a pair, by its numbers
 --   unions n ws, front n          a job of n unions and the pairs ws, and what stands before the pairs in its file
---   head h r m          a head's right: what it may ask, and the mask of the heads that it may see
+--   head h r m            a head's right: what it may ask, and the mask of the heads that it may see
 --   carriers rs, carriers_file rs w   document 01's job with more grants and the rights rs, and its bytes with the balance w
---   claimed ts          a job of two heads up to its rights, with the records ts
---   every_sight m k n    the rights of n heads from head k on that all have the mask m
+--   claimed ts            a job of two heads up to its rights, with the records ts
+--   every_sight m k n     the rights of n heads from head k on that all have the mask m
 --   files, pairs, rights, drafts   the parts of the table: document 01's files, those with pairs, those with rights, and drafts
---   cases               the table
+--   cases                 the table
 use Rattle.std.specs.Prelude.{List, [], ◌∷◌, ◌++◌, ℕ, zero, suc, ◌+◌, ◌%◌, take, replicate}
 use Rattle.job.specs.declared.Kind.TheVariants.{Union, SameSet}
 use Rattle.job.specs.declared.Request.{Request}

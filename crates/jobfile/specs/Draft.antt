@@ -2,17 +2,17 @@
 --
 --   Draft               places, heads, rights (three numbers each: head, rights, mask), requests (four numbers each: head,
 --                       kind, x, y), pairs (two numbers each: later, earlier) and one head number a grant
---   rights_given l       the rights in a list of numbers; a rest of fewer than three is no right
---   fields_of l          the requests in a list of numbers; a rest of fewer than four is no request
---   pairs_of l           the pairs in a list of numbers; a rest of one is no pair
---   job_of d             the job that an admitted draft stands for
+--   rights_given l      the rights in a list of numbers; a rest of fewer than three is no right
+--   fields_of l         the requests in a list of numbers; a rest of fewer than four is no request
+--   pairs_of l          the pairs in a list of numbers; a rest of one is no pair
+--   job_of d            the job that an admitted draft stands for
 --   complete_refusal, each_right_refusal, count_refusal, each_refusal, pairs_refusal, grants_refusal   the checks of the number of rights,
 --                       of each right, of the request count, of each request, of each pair and of each grant
---   draft_refusal d      the refusal of a draft, 0 for none
---   right_numbers rs     the rights rs as numbers, three each
---   numbers_of qs        the requests qs as numbers, four each
---   pair_numbers ws      the pairs ws as numbers, two each
---   draft_of j           the job j as the writer is given it
+--   draft_refusal d     the refusal of a draft, 0 for none
+--   right_numbers rs    the rights rs as numbers, three each
+--   numbers_of qs       the requests qs as numbers, four each
+--   pair_numbers ws     the pairs ws as numbers, two each
+--   draft_of j          the job j as the writer is given it
 use Rattle.std.specs.Prelude.{cond, List, [], ◌∷◌, map, ℕ, ◌+◌, eqb, ltb, leb, length}
 use Rattle.job.specs.declared.Request.{Request}
 use Rattle.job.specs.declared.Wait.{Wait}

@@ -3,29 +3,29 @@
 --
 --   job_mark, right_mark, request_mark, wait_mark, run_mark, close_mark   the marks of the six records, as 16-bit words
 --   job_size, right_size, request_size, wait_size, run_size, close_size   the bytes of each
---   right_place i            the byte where right i stands
---   request_place r q        the byte where request q stands, behind r rights
---   wait_place r n i         the byte where pair i stands, behind r rights and n requests
---   run_place r n w i        the byte where run i stands, behind r rights, n requests and w pairs
---   file_size r n w i        the bytes of a file with r rights, n requests, w pairs and i runs
+--   right_place i             the byte where right i stands
+--   request_place r q         the byte where request q stands, behind r rights
+--   wait_place r n i          the byte where pair i stands, behind r rights and n requests
+--   run_place r n w i         the byte where run i stands, behind r rights, n requests and w pairs
+--   file_size r n w i         the bytes of a file with r rights, n requests, w pairs and i runs
 --   most_bytes, most_grants   the largest file, and the largest run
---   word t, word_bytes w     the 16-bit word at the start of t, and the two bytes of the word w
---   mask t, mask_bytes m     the 32-bit mask at the start of t, and the four bytes of the mask m
---   word_sum s               the sum of the 16-bit words of s
---   a then b (_then_)       the refusal a, or b where a is none
+--   word t, word_bytes w      the 16-bit word at the start of t, and the two bytes of the word w
+--   mask t, mask_bytes m      the 32-bit mask at the start of t, and the four bytes of the mask m
+--   word_sum s                the sum of the 16-bit words of s
+--   a then b (◌then◌)         the refusal a, or b where a is none
 --   first_refusal check next before l   the first refusal in the list l, each checked with what those before it leave
 --   sizes_refusal_with m n h  the refusal of n nodes and h heads where m heads are the most
---   sizes_refusal n h        the refusal of n nodes and h heads
---   right_refusal h k r      the refusal of the right r, number k, in a job of h heads
---   fields_refusal n h q     the refusal of a request's numbers q in a job of n nodes and h heads
---   kind_refusal r k         the refusal of a request's kind number k where its head has the rights r
---   asked_refusal n h rs q   both, for a request's numbers q, where the heads have the rights rs
---   request_of q             the request that admitted numbers stand for
---   rises_to b w             the pair w comes strictly after the pair b
---   pair_refusal n b w       the refusal of the pair w in a job of n requests, where b is the pair before it
---   no_pair                  what stands before the first pair
---   extends r g             a grant for head g could still have joined the run r
---   length_refusal s         the refusal of a file for its length
+--   sizes_refusal n h         the refusal of n nodes and h heads
+--   right_refusal h k r       the refusal of the right r, number k, in a job of h heads
+--   fields_refusal n h q      the refusal of a request's numbers q in a job of n nodes and h heads
+--   kind_refusal r k          the refusal of a request's kind number k where its head has the rights r
+--   asked_refusal n h rs q    both, for a request's numbers q, where the heads have the rights rs
+--   request_of q              the request that admitted numbers stand for
+--   rises_to b w              the pair w comes strictly after the pair b
+--   pair_refusal n b w        the refusal of the pair w in a job of n requests, where b is the pair before it
+--   no_pair                   what stands before the first pair
+--   extends r g               a grant for head g could still have joined the run r
+--   length_refusal s          the refusal of a file for its length
 use Rattle.std.specs.Prelude.{Bool, true, false, cond, not, List, [], ◌∷◌, ◌++◌, ℕ, ◌+◌, ◌*◌, ◌/◌, ◌%◌, ◌^◌, eqb, ltb, leb, length}
 use Rattle.std.specs.Prelude.{get_or, drop}
 use Rattle.job.specs.declared.Request.{Request}

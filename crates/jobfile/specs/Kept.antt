@@ -2,7 +2,7 @@
 --
 --   SizesKept           heads within the lower limit get the same refusal, or none, under both limits
 --   former_refusal s, former_job s   the refusal and the job of a file as they were before there were rights
---   former_file j w      the file of a job with the balance w as it was
+--   former_file j w     the file of a job with the balance w as it was
 --   RightsKept          files without rights are refused, mean and are written as before
 use Rattle.std.specs.Prelude.{◌≡◌, List, [], ◌++◌, map, cond, ℕ, ◌+◌, ◌*◌, ◌≤◌, ltb, leb, length, drop}
 use Rattle.job.specs.Job.{Job, most_requests}

@@ -7,12 +7,12 @@
 --                       the run at the start of t
 --   header_refusal, right_record_refusal, rights_refusal, missing_refusal, request_refusal, requests_refusal, wait_refusal, waits_refusal,
 --   run_refusal, runs_refusal, close_refusal, balance_refusal      the checks
---   full_run             what stands before the first run
+--   full_run            what stands before the first run
 --   granted rs          the schedule of the runs rs
 --   nodes_in s, heads_in s, right_records s, request_records s, wait_records s, run_records s   the parts of the file s
 --   requests_start s, waits_start s, runs_start s, close_start s    the bytes where the requests, the pairs, the runs and the close
 --                       start
---   file_refusal s       the refusal of the file s, 0 for none
+--   file_refusal s      the refusal of the file s, 0 for none
 --   rights_in s, runs_in s, job_in s   the rights, the runs and the job of the file s
 --   Meaning             a number and a job: accepted j, or refused n
 --   meaning s           the number 0 and the job of an accepted file, or the number of the refusal and an empty job

@@ -3,10 +3,10 @@
 --   records_bytes bytes l             the bytes of records, one behind the other
 --   right_bytes a, request_bytes q, wait_bytes w, run_bytes r           the bytes of a right, of a request, of a pair and of a run
 --   rights_bytes as, requests_bytes qs, waits_bytes ws, runs_bytes rs   the bytes of rights, of requests, of pairs and of runs
---   next_run r g         the run under way after a grant for head g
---   longest_runs gs      the longest runs, at most 255, that make the schedule gs
---   runs_from r gs       the same with the run r under way
---   file_with j w        the file of the job j with the balance w
+--   next_run r g        the run under way after a grant for head g
+--   longest_runs gs     the longest runs, at most 255, that make the schedule gs
+--   runs_from r gs      the same with the run r under way
+--   file_with j w       the file of the job j with the balance w
 --   balance j           the balance that brings the sum of the file's words to zero
 --   written j           the file of the job j
 use Rattle.std.specs.Prelude.{cond, List, [], ◌∷◌, ◌++◌, ℕ, ◌+◌, ◌-◌, ◌%◌}

@@ -1,7 +1,7 @@
 -- Replays of a linearization by the sequential specification, over the operation and the reported answer of each request.
 --
 --   after operation B es           the labels after the operations of the entries, from the labels B
---   labels_to operation m B es      the labels after the rising entries up to point m
+--   labels_to operation m B es     the labels after the rising entries up to point m
 --   Replayed operation P claim B low es   the points rise from above low, P holds of each entry, and each is answered as claimed
 --   Silent operation claim B request      at the labels B the request is answered as claimed and changes nothing
 use mathlib.Core.Path.{◌≡◌, refl, sym, ap, ap₂, ◌∙◌, subst}

@@ -6,9 +6,9 @@
 --   Rising low es                the points rise strictly from above low
 --   occurrences request es       how often a request is listed
 --   operations operation es      the operations that the entries list, in their order
---   flat es, entries_of numbers   from entries to numbers, two an entry, and back
+--   flat es, entries_of numbers  from entries to numbers, two an entry, and back
 --   listed numbers n             the entries that the first numbers hold
---   moved_up part                 a part of the numbers, moved up one entry
+--   moved_up part                a part of the numbers, moved up one entry
 --   inserted numbers n point request   the buffer of n entries with one more
 --   Insertable numbers n         the buffer has room for one more, and its n entries rise
 use Rattle.std.specs.Prelude.{cond, List, [], ◌∷◌, ◌++◌, map, ℕ, zero, suc, ◌+◌, ◌*◌, ◌-◌, ◌≤◌, ◌<◌, eqb, ltb, length, take, drop}

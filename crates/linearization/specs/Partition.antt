@@ -4,9 +4,9 @@
 --   Operation          a request as the specification sees it: its kind and its two nodes
 --   apart              each node alone
 --   join B a b         the sets of a and b become one
---   reply_to k one      what it answers to an operation of kind k, by whether the two nodes are in one set
+--   reply_to k one     what it answers to an operation of kind k, by whether the two nodes are in one set
 --   reply B o          what the specification answers to o
---   next_of k B a b     the labels after an operation of kind k on the nodes a and b
+--   next_of k B a b    the labels after an operation of kind k on the nodes a and b
 --   next B o           the labels after o
 --   replay B os        the labels after the operations os, in their order
 --   replies B os       what it answers to them

@@ -9,7 +9,7 @@
 --   lent n              n bytes as they are lent
 --   written n ls rest   the answer of n bytes, the text of the lines ls, and the rest of the buffer
 --   untouched n          14, and a buffer of n bytes as it was lent
---   few, few_lines       one place, two requests, one entry, and their lines
+--   few, few_lines      one place, two requests, one entry, and their lines
 --   cases               the table
 use Rattle.std.specs.Prelude.{List, [], ◌∷◌, ◌++◌, ℕ, replicate}
 use Prim.Native.Char.{code}

@@ -2,9 +2,9 @@
 --
 --   Fitting r                  the numbers of the row r fit their columns
 --   AllFitting rows n          so do those of the first n rows
---   rows_to numbers n           the first n rows of the numbers
---   rows_after numbers rows n   the lent rows once n of them are written
---   page_after rows page n      the lent page once the lines of n rows are written
+--   rows_to numbers n          the first n rows of the numbers
+--   rows_after numbers rows n  the lent rows once n of them are written
+--   page_after rows page n     the lent page once the lines of n rows are written
 --
 -- Main laws: lines_to_length, how long a page is by its rows; rows_start, rows_next and rows_done, page_start, page_next and
 -- page_done: a loop leaves what it wrote, and then what was there.

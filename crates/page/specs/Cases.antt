@@ -4,7 +4,7 @@
 --   Left              what a call leaves: its answer, and the rows at exit
 --   outcome, wanted   what the definition leaves, and what is expected
 --   cases             the table
---   page_text          the page of document 01's 38 bytes
+--   page_text         the page of document 01's 38 bytes
 use Rattle.std.specs.Prelude.{List, [], ◌∷◌, ◌++◌, ℕ, zero, suc, ◌+◌, replicate}
 use Rattle.page.specs.declared.Row.{Row}
 use Rattle.page.specs.declared.Paged.{Paged}

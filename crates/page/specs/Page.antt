@@ -1,15 +1,15 @@
 -- Document 02, A1: the page made from rows, and the call's outcome.
 --
---   right_aligned text         a text right-aligned in 8 characters
+--   right_aligned text        a text right-aligned in 8 characters
 --   columns texts             texts side by side, each right-aligned
---   line_of texts              a line of such columns
+--   line_of texts             a line of such columns
 --   names                     the names of the columns
---   heading, row_line r        the line of the names, and of the row r
---   row_lines i r              the lines of row number i: its own, and a heading before it where one is due
+--   heading, row_line r       the line of the names, and of the row r
+--   row_lines i r             the lines of row number i: its own, and a heading before it where one is due
 --   lines_to rows n, page_of rows   the lines of the first n rows, and of all of them: the page
 --   page_refusal words rows page   the refusal's number for a list of so many rows and a page of so many bytes, 0 for none
 --   Outcome                   the answer, and what both buffers hold at exit
---   paged_of words rows page   the outcome for the lent rows and page
+--   paged_of words rows page  the outcome for the lent rows and page
 use Rattle.std.specs.Prelude.{cond, List, [], ◌∷◌, ◌++◌, map, ℕ, ◌+◌, ◌-◌, ◌%◌, eqb, ltb, length, get_or, drop, replicate}
 use Rattle.word.specs.Word.{decode}
 use Rattle.text.specs.Text.{decimal, each}

@@ -1,6 +1,6 @@
 -- What the code finds before it writes.
 --
---   answer_of words rows page       what the caller is told, by the lengths of the lent rows and page
+--   answer_of words rows page      what the caller is told, by the lengths of the lent rows and page
 --   Planned words rows page plan   the plan has that answer, its count of rows, and the numbers of that many
 use Rattle.std.specs.Prelude.{◌≡◌, cond, List, map, ℕ, eqb}
 use Rattle.word.specs.Word.{decode}

@@ -1,9 +1,9 @@
 -- Document 02, A1: each row has a group's lowest place, size, root and root's rank, rising by lowest place.
 --
---   no_row                     what stands past the rows
---   group_row t i              the row of the group whose lowest place is i
---   group_rows t               the rows of the groups of the table t
---   row_of numbers k           row k of a list of numbers, four a row
+--   no_row                    what stands past the rows
+--   group_row t i             the row of the group whose lowest place is i
+--   group_rows t              the rows of the groups of the table t
+--   row_of numbers k          row k of a list of numbers, four a row
 --   Numbered rows n numbers   the numbers have the first n of the rows
 use Rattle.std.specs.Prelude.{◌≡◌, List, map, ℕ, ◌+◌, ◌*◌, ◌<◌, length, get_or}
 use Rattle.word.specs.declared.Node.{Node}

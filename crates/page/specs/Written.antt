@@ -1,6 +1,6 @@
 -- What the two loops leave that fill a call's rows and write its page.
 --
---   page_length n            the bytes of a page of n rows, which is also where the lines of row n begin
+--   page_length n           the bytes of a page of n rows, which is also where the lines of row n begin
 --   filled numbers n rows   the lent rows, the first n of them replaced by those of the numbers
 --   lined rows n page       the lent page, with the lines of the first n rows written on it
 use Rattle.std.specs.Prelude.{List, ℕ, zero, suc, ◌+◌, ◌*◌, ◌/◌, get_or, set}

@@ -155,7 +155,8 @@ module _ (file table report linearization : List ℕ) where
   abbrev number : ℕ
   number = refusal file (length table) (length report) (length linearization)
 
-  pub refused_left : (p : Played) (n : ℕ) → p ≡ refused_with n → n ≡ number → n ≢ 0 → unchanged p ≡ played_of file table report linearization
+  pub refused_left : (p : Played) (n : ℕ) → p ≡ refused_with n → n ≡ number → n ≢ 0
+      → unchanged p ≡ played_of file table report linearization
   unfolding played_of
   refused_left p n is e d =
       ap unchanged (is ∙ ap refused_with e) ∙ sym (rw (ne_eqb number 0 (λ z. d (e ∙ z))) refl)

@@ -2,9 +2,9 @@
 -- accepted file are an accepted file.
 --
 --   cut k j     the job j with its first k grants: all of them, where it has no more
---   file_cut     the file of an accepted file's cut
---   nodes_left   the nodes of the table that the play of a cut leaves
---   rows_left    the rows of the report that it leaves
+--   file_cut    the file of an accepted file's cut
+--   nodes_left  the nodes of the table that the play of a cut leaves
+--   rows_left   the rows of the report that it leaves
 --   LongEnough  lent buffers that are not refused for the job j
 --   Cuts        what holds of every accepted file's cuts, one clause a sentence
 use Rattle.std.specs.Prelude.{◌≡◌, List, map, ℕ, ◌*◌, ◌≤◌, length, take, drop}

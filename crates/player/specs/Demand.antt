@@ -1,6 +1,6 @@
 -- Demand 3, the laws of every moment, those of waiting and the limits of requests, on what a play leaves in the lent buffers.
 --
---   history_of origin j    what the grants of the job j were, by the rules, from that start
+--   history_of origin j   what the grants of the job j were, by the rules, from that start
 --   LinearizedFrom        the linearization theorem from a start, of the exit buffers cut to what counts
 --   LawfulFrom            the laws of every moment from a start, of the same and of the play's own counts
 --   LinearizedHere, LawfulHere   the two from what the play starts from

@@ -1,7 +1,7 @@
 -- Document 02, A4: "Every job of up to 16 heads keeps its table, report, line-up and tally."
 --
---   former_heads            the most heads before A4
---   former_run origin j     the run of the job j with that many heads
+--   former_heads           the most heads before A4
+--   former_run origin j    the run of the job j with that many heads
 --   Kept                   a play of an accepted file with no more heads leaves what that run leaves, and so does the lent tally
 use Rattle.std.specs.Prelude.{◌≡◌, List, ℕ, ◌≤◌}
 use Rattle.job.specs.Job.{Job}

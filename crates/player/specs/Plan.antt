@@ -1,14 +1,14 @@
 -- A play in its parts: what stands before the first grant, one grant on the lent buffers, and the answer.
 --
---   plan_of c hs mask       what is known before the first grant, of these counts, heads and work mask
---   idle_plan c             the plan of these counts with no grant to play
---   accepted_plan file      the plan of an accepted file
---   laid_of                 the start, on buffers that are long enough
---   prepared_of             the buffers and the plan, for any file and any buffers
---   part_of c b             the parts of the buffers b that a job of these counts needs
+--   plan_of c hs mask      what is known before the first grant, of these counts, heads and work mask
+--   idle_plan c            the plan of these counts with no grant to play
+--   accepted_plan file     the plan of an accepted file
+--   laid_of                the start, on buffers that are long enough
+--   prepared_of            the buffers and the plan, for any file and any buffers
+--   part_of c b            the parts of the buffers b that a job of these counts needs
 --   TurnableOn, TurnedOn   what a turn on the lent buffers asks and what it leaves
 --   TurnsOn                what it leaves of buffers whose parts show the grants so far
---   closed_of c p t         the answer of an accepted play
+--   closed_of c p t        the answer of an accepted play
 use Rattle.std.specs.Prelude.{◌≡◌, cond, List, ◌++◌, map, ℕ, ◌*◌, ◌≤◌, eqb, length, take, drop, replicate}
 use Rattle.job.specs.declared.Tally.{Tally}
 use Rattle.job.specs.declared.Played.{Played}

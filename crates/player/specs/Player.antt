@@ -6,7 +6,7 @@
 --   play_refusal         the refusal of a play
 --   admission_of         what is known before anything is written
 --   origin_in file       what a play of the file starts from
---   Left, left ..       the buffers and the answer, and the same by its parts
+--   Left, left ..        the buffers and the answer, and the same by its parts
 --   played_of            what a play leaves
 use Rattle.std.specs.Prelude.{cond, List, ◌++◌, ℕ, ◌*◌, ◌≤◌, eqb, ltb, length, drop}
 use Rattle.job.specs.declared.Played.{Played}

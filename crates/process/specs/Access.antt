@@ -2,8 +2,8 @@
 -- stage.
 --
 --   raising y r    the swap that raises the root y from rank r
---   access_at k t   the access of a head with the task k at stage t
---   access_of h     the access that the head h makes next
+--   access_at k t  the access of a head with the task k at stage t
+--   access_of h    the access that the head h makes next
 use Rattle.std.specs.Prelude.{ℕ, ◌+◌}
 use Rattle.process.specs.declared.Stage.{Stage}
 use Rattle.process.specs.declared.Stage.TheVariants.{Resting, Find, RereadX, ReadRankX, ReadRankY, Link, Raise}

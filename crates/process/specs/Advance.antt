@@ -1,13 +1,13 @@
 -- Document 01, "One grant, one word", and document 02, A2: where each access leads, with the word that was seen, at grant number `now`.
 -- Comparing, choosing and finishing cost nothing, so they are part of the grant before.
 --
---   quiet, failure      nothing to record beyond one more grant used; nothing but a swap that failed
+--   quiet, failure       nothing to record beyond one more grant used; nothing but a swap that failed
 --   go_on k t        the head of task k on to stage t
---   retry k t           the same after a swap that failed
+--   retry k t            the same after a swap that failed
 --   together k, apart k now   the answer, or the next stage, once both finds have ended at one root, or at two
---   compared, ended     both finds have ended; one of them has
---   followed            what the request makes of its find's step
---   reread              a same-set's last read
+--   compared, ended      both finds have ended; one of them has
+--   followed             what the request makes of its find's step
+--   reread               a same-set's last read
 --   rank_both, after_link, linked, link   a union: both ranks are read; the head after the link; the link is written; its swap
 --   tried, raise, raise_found   a rank swap; the one after the link; the one that ends the union
 --   advance_at k w now t   the head after its access at stage t and what the grant did, one clause a stage

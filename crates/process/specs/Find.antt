@@ -1,7 +1,7 @@
 -- Document 01, "One grant, one word": a find from x by halving, as a machine of its own. It knows neither the request nor
 -- the side that it is made for.
 --
---   find_access x s   the access that a find on node x makes at step s
+--   find_access x s  the access that a find on node x makes at step s
 --   Walked           where a word may lead a find
 --   walked x w s     where the word w, seen by that access, leads the find
 use Rattle.std.specs.Prelude.{cond, ℕ, eqb}

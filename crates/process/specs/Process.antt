@@ -1,21 +1,21 @@
 -- Document 01, "One grant, one word", and document 02, A2: the record of a head, what is asked of its stage, and the start of
 -- its request.
 --
---   Traits, traits_of t   what is asked of a stage, and the answers of each
+--   Traits, traits_of t  what is asked of a stage, and the answers of each
 --   Raisable t           the rank to which stage t would raise a root fits its byte
---   is_resting h          the head h serves no request
+--   is_resting h         the head h serves no request
 --   tidies e             the find is made after the link
---   kind_of e             the kind of the request that sends a find on errand e
---   serves_x e            the find serves the first of the request's two places
---   next_errand e         the find that follows
---   node_at k e           the place that the find on errand e has come to
---   moved_to k e v        the task k with v as that place
---   first_errand k        the first find of a request of kind k
+--   kind_of e            the kind of the request that sends a find on errand e
+--   serves_x e           the find serves the first of the request's two places
+--   next_errand e        the find that follows
+--   node_at k e          the place that the find on errand e has come to
+--   moved_to k e v       the task k with v as that place
+--   first_errand k       the first find of a request of kind k
 --   restart k            the start of a request of kind k
---   tidy_up k             the start of the find after the link
---   no_wait               the number of no request, in a task
---   is_waiting h          the head h waits for a request
---   waiting_for h e       the head h with e as what it waits for
+--   tidy_up k            the start of the find after the link
+--   no_wait              the number of no request, in a task
+--   is_waiting h         the head h waits for a request
+--   waiting_for h e      the head h with e as what it waits for
 --   begin q n            the head as it begins request q, number n
 --   queued h n           the head h with n as its request
 use Rattle.std.specs.Prelude.{Bool, true, false, cond, not, ℕ, ◌+◌, ◌<◌, eqb}

@@ -118,4 +118,5 @@ filled start words size few =
     padded_length =
         length-append words (roots (length words))
         ∙ ap (λ k. length words + k)
-        (length-map (fresh_from (length words) (most_nodes - length words)) encode ∙ length_fresh (length words) (most_nodes - length words))
+        (length-map (fresh_from (length words) (most_nodes - length words)) encode
+        ∙ length_fresh (length words) (most_nodes - length words))

@@ -3,9 +3,9 @@
 -- Everywhere r gives each node's rank, which no step changes.
 --
 --   higher n r v             how many nodes come after v
---   find_need n p r v         the grants that a find from v needs at most
---   step_need n p r v s       the same from its step s on
---   tail_need n r y x         the grants that are needed at most after the find, the one from x or the one from y
+--   find_need n p r v        the grants that a find from v needs at most
+--   step_need n p r v s      the same from its step s on
+--   tail_need n r y x        the grants that are needed at most after the find, the one from x or the one from y
 --   Fixed p a x              in the find from y, the node a is a root
 --   Needs Root need m        at most m grants are needed, with what is known of x
 --   Enough n p r k stage m   m grants are enough for the task k from this stage on
@@ -199,7 +199,8 @@ module _ {n : ℕ} {t : List Node} (r : ℕ → ℕ) (admitted : Admitted n t) (
       apart : k.x ≢ k.y
       apart e = lower (sym (ap (parent t) e) ∙ fixed ∙ e)
 
-  halve_goes : (e : Errand) (rank u w : ℕ) → parent t (node_at k e) ≢ node_at k e → Enough n (parent t) r k (Find e (Halve rank u w)) (suc m)
+  halve_goes : (e : Errand) (rank u w : ℕ) → parent t (node_at k e) ≢ node_at k e
+      → Enough n (parent t) r k (Find e (Halve rank u w)) (suc m)
       → Goes (touched t (find_access (node_at k e) (Halve rank u w)))
       (followed k e (suc used) (walked (node_at k e) (at t (node_at k e)) (Halve rank u w)))
   halve_goes e rank u w lower needs =
@@ -242,7 +243,8 @@ module _ {n : ℕ} {t : List Node} (r : ℕ → ℕ) (admitted : Admitted n t) (
 
   find_enough : (B : ℕ → ℕ) (e : Errand) (s : Step) → SameSet ≡ kind_of e → FindKnows n (parent t) (rank t) B (node_at k e) s
       → Enough n (parent t) r k (Find e s) (suc m)
-      → Goes (touched t (find_access (node_at k e) s)) (followed k e (suc used) (walked (node_at k e) (seen t (find_access (node_at k e) s)) s))
+      → Goes (touched t (find_access (node_at k e) s))
+        (followed k e (suc used) (walked (node_at k e) (seen t (find_access (node_at k e) s)) s))
   find_enough B e ReadNode kind knows needs = read_node e kind needs
   find_enough B e (ReadParent rank u) kind knows needs = λ f. record { fixed = needs.fixed; enough = omega (arith, needs.enough) }
   find_enough B e (Halve rank u w) kind knows needs = halve_goes e rank u w knows.parent.lower needs

@@ -2,7 +2,7 @@
 --
 -- B gives each node a label: two nodes have one label when they share a set.
 --
---   moment_here n t B used       the moment that a head's knowledge is told against, after so many grants on the table t
+--   moment_here n t B used      the moment that a head's knowledge is told against, after so many grants on the table t
 --   Says B x y answer           the answer is right about the sets of x and y
 --   Serving n B x y t used h    what holds of the enquiry about x and y after so many grants, on the table t of n nodes
 --   Next t' next                what holds of the enquiry after the grant that led to `next`, on the table t'

@@ -1,6 +1,6 @@
 -- What an enquiry that is not refused promises beyond its steps: the sets stay, the answer is right, the budget is kept.
 --
---   parents_of words              each node's parent, by its word
+--   parents_of words             each node's parent, by its word
 --   Faithful words x y budget    what holds of the result and of the words at exit
 use Rattle.std.specs.Prelude.{◌≡◌, ◌≢◌, ◌↔◌, List, map, ℕ, ◌+◌, ◌*◌, ◌≤◌, ◌<◌, length}
 use Rattle.word.specs.Word.{decode}

@@ -1,8 +1,8 @@
 -- The enquiry on plain numbers: what the numbers and the array of its inner functions stand for. A find stands at `node`;
 -- `other` is the enquiry's other node; `fromY` tells the find from y.
 --
---   errand_of fromY                what the find is made for
---   head_at node other fromY s     the head of these numbers at stage s
+--   errand_of fromY               what the find is made for
+--   head_at node other fromY s    the head of these numbers at stage s
 --   looking node other fromY      the head that looks at the node
 --   moving node other fromY w     the head that moves on from the node, whose word says w
 --   Ready words node other used left   what looking at a node, and moving on from it, relies on

@@ -5,7 +5,7 @@
 --   Result                     what the caller is told, and the words at exit
 --   answered a used t          the result of an enquiry that was told a after so many grants
 --   steps budget used h t      the steps of head h on the table t, after the grants used so far
---   same_set x y                the request that the enquiry serves
+--   same_set x y               the request that the enquiry serves
 --   queried words x y budget   the enquiry
 use Rattle.std.specs.Prelude.{cond, List, map, ℕ, zero, suc, eqb, leb, length}
 use Rattle.job.specs.declared.Kind.TheVariants.{SameSet}

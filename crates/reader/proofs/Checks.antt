@@ -1,6 +1,6 @@
 -- The checks of a file in their order: the first that refuses gives the answer, and where none does, the counts are the job's.
 --
---   behindX s              the checks behind the part X of the file, in their order
+--   behind_X s             the checks behind the part X of the file, in their order
 --   RightsRead s g         the length and the header are accepted, and g is what reading the rights gave
 --   RequestsRead s g q     the rights are accepted too, and q is what reading the requests gave
 --   WaitsRead s g q w      the requests are accepted too, and w is what reading the pairs gave

@@ -2,7 +2,7 @@
 --
 --   ReadTo k s start none at before count   the records of the kind k from `start` to `at` are read, `count` of them; `none`
 --                                           stands before the first and `before` before the next
---   runs_between start at                    how many runs there are from the first to a place
+--   runs_between start at                   how many runs there are from the first to a place
 --   RunsTo s h start at before grants       so many of them are read, and these are their grants
 --   X-start, X-next, X-refused, X-end       the invariant holds at first, after a record, and what it gives at each way out
 --   records_told, rights_missing, rights_told_lem   and what it gives where the section ends

@@ -1,6 +1,6 @@
 -- One record of a file: whether it stands at a place, and the rights that stand in front of a request's.
 --
---   is_record size m t   a whole record of that size, with the mark m, stands at the place t
+--   is_record size m t  a whole record of that size, with the mark m, stands at the place t
 --   Righted file r      r rights stand behind the first record of the file
 use Rattle.std.specs.Prelude.{◌≡◌, Bool, false, cond, List, ℕ, ◌≤◌, eqb, ltb, length}
 use Rattle.jobfile.specs.Format.{right_place, word}

@@ -1,6 +1,6 @@
 -- Document 02, A4: heads that have no request and no grant change nothing in a run, however many they are.
 --
---   with_heads S heads   the state S with those heads in place of its own
+--   with_heads S heads  the state S with those heads in place of its own
 --   beside S more       the state S with more heads behind its own
 --
 -- Main laws: run_beside, a run leaves the heads behind its own alone; heads_open, a run with more heads is the same run.

@@ -1,8 +1,8 @@
 -- What one more happening does to what a history says.
 --
 --   Other q a        the grant a was not used for request q
---   user_of a         one more than the request that the grant a was used for, 0 for none
---   used_for past p   one more than the request that grant p was used for, 0 for none
+--   user_of a        one more than the request that the grant a was used for, 0 for none
+--   used_for past p  one more than the request that grant p was used for, 0 for none
 --
 -- Main laws: row_served and row_other, the row of a request after a grant; point_other, a grant for another request
 -- leaves a point alone; used_kept, what grant p was used for stays so.

@@ -1,7 +1,7 @@
 -- The invariant of a run: what holds of the state and of its history between any two grants.
 --
 --   labels qs B S           the sets after the replay of the entries so far
---   moment_of qs n B S       the moment that a head's knowledge is told against
+--   moment_of qs n B S      the moment that a head's knowledge is told against
 --   HeadKnows q head        what a head knows of request q
 --   claim past q            what the sequential specification is to answer to request q
 --   Candidate q past p      what the history says of a pending point

@@ -15,7 +15,7 @@
 --   Denying           x is still a root: no, at the point that was pending
 --   Outcome           one of the five
 --   Present           what stands as the grant is made, whatever the head
---   under_way          the traits of a stage of a request that has not linked, with no pending point
+--   under_way         the traits of a stage of a request that has not linked, with no pending point
 --
 -- Laws: united_merged; unwritten and unchanged, a grant that writes nothing; grant_onward, the grant leads to a later moment;
 -- goes_on, a step to a stage with no pending point; tidies_on, a step from and to a stage that has linked.

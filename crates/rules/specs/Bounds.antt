@@ -4,8 +4,8 @@
 --   levels n              "the whole part of the base-2 logarithm of n"
 --   Logarithm n l         l is that number
 --   limit kind n l        the limit of a request of that kind on n places, where l is that number
---   limit_of kind n        the same, with n alone
---   grants_of h gs         how many of the grants gs are for head h
+--   limit_of kind n       the same, with n alone
+--   grants_of h gs        how many of the grants gs are for head h
 --   Bounded n qs report   no request has used more grants than its limit
 --   Ends n qs report report' gs   with the grants gs, which lead from the one report to the other, requests have come to their ends
 use Rattle.std.specs.Prelude.{◌≡◌, ◌≢◌, cond, List, [], ◌∷◌, ℕ, suc, ◌+◌, ◌*◌, ◌-◌, ◌^◌, ◌≤◌, ◌<◌, eqb, length}

@@ -2,8 +2,8 @@
 -- numbers as those of demand 3 are.
 --
 --   some test n                  some number below n passes the test
---   is_unfinished qs report h q   request q is of head h and unfinished
---   heads_left qs report m        how many heads below m have an unfinished request
+--   is_unfinished qs report h q  request q is of head h and unfinished
+--   heads_left qs report m       how many heads below m have an unfinished request
 --   Truthful a                   what the steps say of the grant a is what its access and the word seen tell
 --   Anchored q row past          the point of a finished same-set q, told by its row
 --   Lawful                       what holds of table, report, tally and number of grants after a history, one clause a sentence

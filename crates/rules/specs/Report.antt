@@ -1,9 +1,9 @@
 -- Document 01, "Report and line-up": the four numbers of a request, and what each of its grants does to them.
 --
---   no_row               all four zero: before the request's first grant
---   row_at report q      the four numbers of request q
+--   no_row              all four zero: before the request's first grant
+--   row_at report q     the four numbers of request q
 --   unfinished report q request q has no answer yet
---   is_final a           the answer a finishes a request
+--   is_final a          the answer a finishes a request
 --   charge row now a    the row after one more grant, number `now`, that gave the answer a
 use Rattle.std.specs.Prelude.{Bool, true, false, cond, List, ℕ, ◌+◌, eqb, get_or}
 use Rattle.job.specs.declared.Answer.{Answer}

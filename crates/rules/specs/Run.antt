@@ -1,9 +1,9 @@
 -- Document 01, "Whole runs and the plain book": a run is the list of grants, each on what the one before it left.
 --
 --   run qs ws S gs        the state after the grants gs
---   action_of S head       what a grant does that serves that head
+--   action_of S head      what a grant does that serves that head
 --   Happening             what one grant was: idle, or used for request q, with what it did
---   happened_by S turn     what a grant was, by whom it serves
+--   happened_by S turn    what a grant was, by whom it serves
 --   happened qs ws S h    what a grant to head h is in the state S
 --   history qs ws S past gs  what the grants were, the newest first: the grant number of the newest is the list's length
 use Rattle.std.specs.Prelude.{List, [], ◌∷◌, ℕ}

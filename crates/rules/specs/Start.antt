@@ -1,7 +1,7 @@
 -- Document 01, "Places, words, order" and "Whole runs and the plain book": what a run starts from.
 --
 --   Start          a table, the groups that it shows, as labels, and how many they are
---   fresh_start n   the start of n places, each alone
+--   fresh_start n  the start of n places, each alone
 --   Initial n s    a run over n places may start from s
 use Rattle.std.specs.Prelude.{List, ℕ}
 use Rattle.word.specs.declared.Node.{Node}

@@ -1,16 +1,16 @@
 -- Document 01, "Whole runs and the plain book": what stands between two grants, and what stands before the first.
 --
---   no_request            what stands past the last request
---   request_at qs q       request number q
+--   no_request           what stands past the last request
+--   request_at qs q      request number q
 --   seek qs h q          the first request of head h from number q on, or the number of requests
---   seek_in h q rs        the same among the requests rs, which are numbered from q on
+--   seek_in h q rs       the same among the requests rs, which are numbered from q on
 --   State                table, heads, report, entries, counters, grants so far
 --   resting q            a head at rest before request q
---   heads_from qs h m     m heads from number h on, each before its first request
+--   heads_from qs h m    m heads from number h on, each before its first request
 --   start qs m t         m heads before their first request, on the table t
---   has_work qs head      the head has an unfinished request
+--   has_work qs head     the head has an unfinished request
 --   working qs heads     how many heads have work left
---   tally_of qs S         the four counters
+--   tally_of qs S        the four counters
 --   holds report q w     the pair w lets request q wait
 --   lowest_wait ws report q   the request that q waits for, told one higher, or none
 --   wait_of ws report head    the same of a head: what its next request waits for while it rests

@@ -1,19 +1,19 @@
 -- Document 01, "One grant, one word" and "Report and line-up": what one grant does to the state.
 --
---   Turn               whom a grant serves
---   ready qs head      the head as it stands, or as it begins its next request
+--   Turn                whom a grant serves
+--   ready qs head       the head as it stands, or as it begins its next request
 --   is_served           a grant to that head serves it
 --   turn_of             whom a grant to that head serves
 --   head_at S h         head number h
---   turn qs ws S h     whom a grant to head h serves: nobody, or the head as it stands or as it begins its next request
---   advanced S head    the head after its access, and what the grant did
---   settled qs h a     the head with its next request, if it has finished one
---   entered es q e     the entries with the one that the grant enters, if any
---   plus b n           one more than n, if b
---   served qs S h head the state after a grant to head h that serves it
---   passed S           the state after an idle grant
+--   turn qs ws S h      whom a grant to head h serves: nobody, or the head as it stands or as it begins its next request
+--   advanced S head     the head after its access, and what the grant did
+--   settled qs h a      the head with its next request, if it has finished one
+--   entered es q e      the entries with the one that the grant enters, if any
+--   plus b n            one more than n, if b
+--   served qs S h head  the state after a grant to head h that serves it
+--   passed S            the state after an idle grant
 --   step_by qs S h turn the state after a grant to head h, by whom it serves
---   step qs ws S h     the state after a grant to head h
+--   step qs ws S h      the state after a grant to head h
 use Rattle.std.specs.Prelude.{Bool, false, cond, List, ℕ, suc, eqb, get_or, set}
 use Rattle.job.specs.declared.Request.{Request}
 use Rattle.job.specs.declared.Wait.{Wait}

@@ -1,8 +1,8 @@
 -- Document 01, "Places, words, order" and "One grant, one word": the table as a list of nodes, and one access to it.
 --
 --   at t i, parent t i, rank t i   the node i of the table t, its parent and its rank
---   no_node                         what stands past the table's end
---   fresh_from i n                  n places from number i on, each its own parent
+--   no_node                        what stands past the table's end
+--   fresh_from i n                 n places from number i on, each its own parent
 --   fresh n                        the table at the start
 --   seen t a                       the word that the access a sees
 --   touched t a                    the table after the access a

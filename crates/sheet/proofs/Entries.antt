@@ -1,7 +1,7 @@
 -- The entries that a sheet shows: those of seen requests, each with its request's number on the sheet.
 --
 --   RisingOnce low es        the points rise strictly from above low, and no request is listed twice
---   shown_entries seen es     the entries that the sheet shows
+--   shown_entries seen es    the entries that the sheet shows
 --
 -- Main laws: rising_same, rising entries that give each request the same point are the same; shown_same, so are the entries
 -- that are shown of two line-ups that agree.

@@ -1,6 +1,6 @@
 -- No sheet is longer than its room: grants have at most seven digits, and a request has one entry at most.
 --
---   grant_limit   what every grant number is below
+--   grant_limit  what every grant number is below
 --   Short row    the answer has one digit, and the grants are below the limit
 --
 -- Main law: room_for_all.

@@ -1,7 +1,7 @@
 -- The texts of a sheet as functions of what two agreeing runs have in common, and against the listing's lines.
 --
---   row_lines n rows   the lines of requests with those rows, numbered from n
---   lines_of es        the lines of entries as they stand
+--   row_lines n rows  the lines of requests with those rows, numbered from n
+--   lines_of es       the lines of entries as they stand
 --
 -- Main laws: request_lines_rows and entry_lines_shown, a sheet's lines by its rows and its entries; request_lines_every,
 -- shown_every and lines_of_listing, the listing's lines where every request is seen.
@@ -45,7 +45,8 @@ module _ (seen : ℕ → Bool) (report : List Row) where
   lines_rows zero = refl
   lines_rows (suc m) =
       let rows = map (row_at report) (seen_numbers seen m) in
-      let more : number_of seen m ≡ 0 + length rows = omega (arith, length-map (seen_numbers seen m) (row_at report), passing_many seen m) in
+      let more : number_of seen m ≡ 0 + length rows =
+          omega (arith, length-map (seen_numbers seen m) (row_at report), passing_many seen m) in
       split (seen m)
       (λ s.
       rw (s, map-append)

@@ -11,11 +11,11 @@
 --   HasHead file h           the file is accepted, and h is one of its heads
 --   SameSheets               two calls give the same answer and the same bytes
 --   CallsAgreement           they do where the runs of their files agree
---   with_rights j rights      the job j with these rights
+--   with_rights j rights     the job j with these rights
 --   RightsUnread             the run of a job is that of the same job with any rights
 --   SeesAll j h              head h of the job j sees every head
 --   EveryHead                it does where there are no rights, and where its mask has every head
---   listing_lines left        what the listing prints of requests and entries after a play
+--   listing_lines left       what the listing prints of requests and entries after a play
 --   FullCall                 that is the sheet of a head that sees every head
 use Rattle.std.specs.Prelude.{◌≡◌, Bool, true, ℕ, ◌+◌, ◌*◌, ◌-◌, ◌^◌, ◌≤◌, ◌<◌, length, get_or}
 use mathlib.Core.List.{List, [], ◌++◌, map, Memᴰ}

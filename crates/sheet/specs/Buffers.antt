@@ -1,11 +1,11 @@
 -- A sheet from buffers of numbers: the numbering of the seen requests, made once, and the lines by it.
 --
 --   unseen                     what stands in the numbering for a request that is not seen
---   number_in seen q            what stands in the numbering for request q
+--   number_in seen q           what stands in the numbering for request q
 --   Numbered seen n numbers    the numbering of the first n requests
---   request_line_in              the line of request q, by the numbering and the report
---   entry_line_in                the line of entry i, by the numbering and the line-up
---   sheet_in                    the text
+--   request_line_in            the line of request q, by the numbering and the report
+--   entry_line_in              the line of entry i, by the numbering and the line-up
+--   sheet_in                   the text
 --   EntriesNumbered            the entries' requests are numbered
 --   Readable                   the buffers have what the text shows
 --   Holding rows entries r l n the report r has the rows, and the line-up l the entries, n of them

@@ -8,7 +8,7 @@
 --   Call          a file, a head, a buffer for the sheet, and what is expected of the call
 --   called c      what the definitions leave
 --   call, sheet   a case and a sheet, by their parts
---   sample_lines   the sheet of document 01's job
+--   sample_lines  the sheet of document 01's job
 --   joiners, watchers   document 01's requests by two heads with rights: one joins and the other enquires and sees both; one sees
 --                 nothing and the other itself
 --   wide          a job of 32 heads that all see all

@@ -2,14 +2,14 @@
 -- make such a rule, are no part of it.
 --
 --   seen q                      the rule: request number q of the file is seen
---   seen_numbers seen n          the seen numbers below n, rising
---   number_of seen q             the number that the seen request q has on the sheet
---   up_to n                      the numbers below n, rising
---   point_in entries q           the point of request q's entry; 0 where it has none
---   row_line n row               the line of a request: its number on the sheet and its four report numbers
---   seen_line seen report q      the line of request q where it is seen, else nothing
---   request_lines seen report    the lines of the seen requests
---   entry_lines seen entries     the lines of the seen requests' entries
+--   seen_numbers seen n         the seen numbers below n, rising
+--   number_of seen q            the number that the seen request q has on the sheet
+--   up_to n                     the numbers below n, rising
+--   point_in entries q          the point of request q's entry; 0 where it has none
+--   row_line n row              the line of a request: its number on the sheet and its four report numbers
+--   seen_line seen report q     the line of request q where it is seen, else nothing
+--   request_lines seen report   the lines of the seen requests
+--   entry_lines seen entries    the lines of the seen requests' entries
 --   sheet_text seen report entries   the text
 use Rattle.std.specs.Prelude.{Bool, true, cond, List, [], ◌∷◌, ◌++◌, ℕ, eqb, length}
 use Rattle.basics.specs.Count.{count, passing_below}

@@ -1,6 +1,6 @@
 -- The index of the requests' successors, made from the last request on.
 --
---   index_room                   the length of the index
+--   index_room                  the length of the index
 --   Indexed qs firsts index q   firsts has each head's first request from q on, index the successors of the requests from q on
 --
 -- Main laws: indexed_none, before the last request; indexed_on, one request more; indexed_all, the whole index.

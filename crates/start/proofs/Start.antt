@@ -1,8 +1,8 @@
 -- What stands before the first grant is the start of the rules, shown on the lent buffers.
 --
---   first_node i         the node i at the start
---   first_word i         its word
---   first_request qs h   the first request of head h
+--   first_node i        the node i at the start
+--   first_word i        its word
+--   first_request qs h  the first request of head h
 --
 -- Main laws: fresh_word and first_request_lem, each place of the table and of the first requests; first_heads and
 -- first_flags, the heads and their flags; start_rows, the report's zeros are rows; start_standing, the buffers show the

@@ -1,10 +1,10 @@
 -- Document 01, "One grant, one word": what stands before the first grant, by the numbers of the heads' first requests.
 --
---   first_requests qs h m     the first request of each of the m heads from h on
---   first_task ws report q    the task of a head that rests before request q
---   at_rest task              the head that rests with that task
---   is_request requests q     q is the number of a request, of that many
---   work_flag requests head   the head has a request left, of that many
+--   first_requests qs h m    the first request of each of the m heads from h on
+--   first_task ws report q   the task of a head that rests before request q
+--   at_rest task             the head that rests with that task
+--   is_request requests q    q is the number of a request, of that many
+--   work_flag requests head  the head has a request left, of that many
 use Rattle.std.specs.Prelude.{Bool, List, [], ◌∷◌, ℕ, zero, suc, ltb}
 use Rattle.job.specs.declared.Request.{Request}
 use Rattle.job.specs.declared.Wait.{Wait}

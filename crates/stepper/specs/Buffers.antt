@@ -1,9 +1,9 @@
 -- The lent report as a list of numbers.
 --
---   row_in numbers at         the row whose four numbers start at a place
+--   row_in numbers at        the row whose four numbers start at a place
 --   stored numbers at row    the report with those four written
---   flat_rows rows            the report's numbers, four a request
---   rows_of numbers           the rows of a report, four numbers each
+--   flat_rows rows           the report's numbers, four a request
+--   rows_of numbers          the rows of a report, four numbers each
 use Rattle.std.specs.Prelude.{List, [], ◌∷◌, ℕ, ◌+◌, get_or, set}
 use Rattle.rules.specs.declared.Row.{Row}
 

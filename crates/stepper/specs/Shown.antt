@@ -1,19 +1,19 @@
 -- How the lent buffers show a state of the rules: the table as words, four numbers a request, two an entry, one bit a head.
 --
---   Buffers                   heads, table, report, linearization, the number of entries and the work mask
---   buffers ..                the same, by its parts
---   noted ws report head      the head with what it waits for in its record
---   shown qs ws S lent        what the buffers hold in state S; numbers past the entries are as lent
---   Done, done_of a            what a grant adds to the tally
+--   Buffers                     heads, table, report, linearization, the number of entries and the work mask
+--   buffers ..                  the same, by its parts
+--   noted ws report head        the head with what it waits for in its record
+--   shown qs ws S lent          what the buffers hold in state S; numbers past the entries are as lent
+--   Done, done_of a             what a grant adds to the tally
 --   idle_done, used_done event  the same of one that serves nobody, and of one that does
 --   requests_in file, waits_in file   the requests and the pairs of a file
---   start_of origin j          the rules' state of the job j before its first grant, from that start
---   state_after origin j gs    the same after the grants gs
---   history_after origin j gs  what those grants were, the newest first
---   Standing                  the buffers show the state after the grants gs, and the next grant is the one of that number
---   Grantable                 they do, for a grant to head h
---   Stepped                   what a grant makes of the buffers, after the grants gs
---   Grants                    what it makes of them after any grants, from any start, whose state they show
+--   start_of origin j           the rules' state of the job j before its first grant, from that start
+--   state_after origin j gs     the same after the grants gs
+--   history_after origin j gs   what those grants were, the newest first
+--   Standing                    the buffers show the state after the grants gs, and the next grant is the one of that number
+--   Grantable                   they do, for a grant to head h
+--   Stepped                     what a grant makes of the buffers, after the grants gs
+--   Grants                      what it makes of them after any grants, from any start, whose state they show
 use Rattle.std.specs.Prelude.{◌≡◌, true, false, ℕ, suc, ◌*◌, ◌≤◌, ◌<◌, length, drop}
 use mathlib.Core.List.{List, [], ◌++◌, map, Memᴰ}
 use Rattle.job.specs.declared.Request.{Request}

@@ -2,7 +2,7 @@
 --
 --   WaitsFor j S h e   head h waits for request e, told by the rules' state
 --   Known j S b        the records of the heads say so, and of no other request
---   later_at ws i       the later request of pair i
+--   later_at ws i      the later request of pair i
 --   Parted ws q at     the pairs before place `at` are those of requests before q, and no others
 --   frees waits a       an answer a, in a file with that many pairs, may free a head
 --   is_due k h head done   the record of head k is looked at again after the request `done` of head h is finished

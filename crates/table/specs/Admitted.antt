@@ -1,9 +1,9 @@
 -- A table that a host lends: its refusals, which are 15 and 16 of document 01, and what they leave.
 --
---   word_at words i       the word of node i
---   is_faulty words i     the word of node i cannot stand in a table
---   any_faulty words k    one of the first k words cannot
---   table_refusal words   the refusal's number, 0 for none
+--   word_at words i      the word of node i
+--   is_faulty words i    the word of node i cannot stand in a table
+--   any_faulty words k   one of the first k words cannot
+--   table_refusal words  the refusal's number, 0 for none
 --   Admitted n t         a table t of n nodes that is not refused
 use Rattle.std.specs.Prelude.{◌≡◌, ◌≢◌, Bool, true, false, cond, List, ℕ, zero, suc, ◌≤◌, ◌<◌, eqb, ltb, leb, length, get_or}
 use Rattle.word.specs.declared.Node.{Node}

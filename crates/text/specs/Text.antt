@@ -1,9 +1,9 @@
 -- Document 01, "Played cases": fields are decimal, one space apart, and every line ends with a line feed.
 --
---   digits_by small n digits   the digits of n, by those of its tenth where n is not small
---   digits_within fuel n       the digits of n, for any fuel above n
+--   digits_by small n digits  the digits of n, by those of its tenth where n is not small
+--   digits_within fuel n      the digits of n, for any fuel above n
 --   decimal n                 n in ASCII decimal: no leading zeros, and "0" for 0
---   last_two n                 the last two digits of n
+--   last_two n                the last two digits of n
 --   fields ns                 the numbers ns, a space before each
 --   line name ns              one line: its name, the numbers, a line feed
 --   each f n                  f 0, f 1 and so on, n of them, one after the other

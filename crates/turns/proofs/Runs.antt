@@ -22,7 +22,8 @@ use Rattle.turns.specs.Turns.{runs_of, no_run, opened_of, remaining, Openable}
 
 -- ---- the runs of an accepted file
 
-follows_some : (heads : ℕ) (before : Run) (rs : List Run) → Follows heads before rs → (i : ℕ) → i < length rs → 0 < (get_or rs i no_run).count
+follows_some : (heads : ℕ) (before : Run) (rs : List Run) → Follows heads before rs → (i : ℕ) → i < length rs
+    → 0 < (get_or rs i no_run).count
 follows_some heads before [] f i l = absurd (omega arith)
 follows_some heads before (r ∷ rs) f zero l = f.0.some
 follows_some heads before (r ∷ rs) f (suc i) l = follows_some heads r rs f.1 i (omega arith)

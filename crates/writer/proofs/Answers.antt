@@ -1,6 +1,6 @@
 -- The writer's answer, test by test, and what it says that nothing is refused.
 --
---   numbers_refusal d    the refusal of the numbers of a draft, before the length of its file
+--   numbers_refusal d   the refusal of the numbers of a draft, before the length of its file
 --   rights_refuse, count_refuse, each_refuses, pairs_refuse, grants_refuse   which it is, once what stands before is not refused
 --   length_file         the length of a draft's file
 --   answer_numbers, answer_length, answer_buffer, answer_written   the four ways that a check ends

@@ -1,7 +1,7 @@
 -- The pairs that the writer is given: how they stand in a list of numbers, two each.
 --
 --   pairs_next, pairs_end   the pairs from a position on: one and those behind it, or none
---   given_pairs              pairs in a list of numbers
+--   given_pairs             pairs in a list of numbers
 --   pairs_count             how many pairs there are
 --   pairs_fit               pairs that are not refused fit the largest job
 use Rattle.std.proofs.Common.{◌≡◌, ℕ, ◌+◌, ◌/◌, ◌<◌, ◌≤◌, List, [], ◌∷◌, length, drop, refl, ◌∙◌, add-zero, arith, length-drop}

@@ -1,7 +1,7 @@
 -- The requests that the writer is given: how they stand in a list of numbers, four each.
 --
 --   fields_next, fields_end   the requests from a position on: one and those behind it, or none
---   given_fields               requests in a list of numbers
+--   given_fields              requests in a list of numbers
 --   fields_count              how many requests there are
 --   count_refuses, count_passes   the test of their number
 --   asked_fields, asked_kind  the refusal of a request, by what is told of its numbers and of its head

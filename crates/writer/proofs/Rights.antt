@@ -1,6 +1,6 @@
 -- The rights that the writer is given (02, A5): how they stand in a list of numbers, three each.
 --
---   given_rights         rights in a list of numbers
+--   given_rights        rights in a list of numbers
 --   rights_count        how many rights there are
 --   right_given, right_absent   the right of a head: its three numbers, or every right
 --   rights_fit          rights that are not refused fit the largest job

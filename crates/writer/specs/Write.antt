@@ -7,10 +7,10 @@
 --   answer d room       the writer's answer
 --   Left                the answer and the lent buffer
 --   writes d out        what the writer leaves
---   right_from l at      the three numbers of l from a position on, as a right
---   fields_from l at     the four numbers of l from a position on, as a request's
---   pair_from l at       the two numbers of l from a position on, as a pair
---   close_bytes t        the close of a file whose other records are t
+--   right_from l at     the three numbers of l from a position on, as a right
+--   fields_from l at    the four numbers of l from a position on, as a request's
+--   pair_from l at      the two numbers of l from a position on, as a pair
+--   close_bytes t       the close of a file whose other records are t
 use Rattle.std.specs.Prelude.{ℕ, ◌+◌, ◌-◌, ◌%◌, cond, List, ◌++◌, length, drop, ◌==◌, nat_lt, slice_index}
 use Rattle.job.specs.declared.Wait.{Wait}
 use Rattle.job.specs.declared.Right.{Right}

@@ -12,7 +12,8 @@ pub bounds-firsts-h : goal.bounds-firsts-h
 bounds-firsts-h c = few_heads c.requires.playing _ (omega (arith, playing_count c.requires.playing)) _ c.request_at-request.ensures
 
 pub bounds-firsts-h-in-loop-q : goal.bounds-firsts-h-in-loop-q
-bounds-firsts-h-in-loop-q c = few_heads c.requires.playing _ (omega (arith, playing_count c.requires.playing)) _ c.request_at-request.ensures
+bounds-firsts-h-in-loop-q c =
+    few_heads c.requires.playing _ (omega (arith, playing_count c.requires.playing)) _ c.request_at-request.ensures
 
 pub loop-q-preserved : goal.loop-q-preserved
 loop-q-preserved c =
