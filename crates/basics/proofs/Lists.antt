@@ -1,9 +1,9 @@
 -- Lists read and written at one place, under a map, and taken apart.
 --
---   get_d_mapped   what stands at a place of the mapped list
+--   get_or_mapped   what stands at a place of the mapped list
 --   set_mapped     a store in the mapped list is the map of a store
---   get_d_set_each what holds at every place, and of what is stored, holds at every place after the store
---   get_d_sets_in, get_d_sets_below   what stands at a place after several stores in a row: among them, or before them
+--   get_or_set_each what holds at every place, and of what is stored, holds at every place after the store
+--   get_or_sets_in, get_or_sets_below   what stands at a place after several stores in a row: among them, or before them
 --   length_three   the length of three pieces
 --   take_next      one element more: what a loop over a list adds in a turn
 use mathlib.Core.Path.{◌≡◌, refl, ap, ◌∙◌}
@@ -15,10 +15,10 @@ use lib.ListN.{length, get_or, set, take, length-append, length-set}
 use lib.Seq.{sets, take-suc, get_or-set_same, get_or-set_other}
 
 module _ {A B : Type 0} (f : A → B) where
-  pub get_d_mapped : (l : List A) (i : ℕ) (d : A) (e : B) → i < length l → get_or (map f l) i e ≡ f (get_or l i d)
-  get_d_mapped [] i d e h = absurd (omega arith)
-  get_d_mapped (a ∷ l) zero d e h = refl
-  get_d_mapped (a ∷ l) (suc i) d e h = get_d_mapped l i d e (omega arith)
+  pub get_or_mapped : (l : List A) (i : ℕ) (d : A) (e : B) → i < length l → get_or (map f l) i e ≡ f (get_or l i d)
+  get_or_mapped [] i d e h = absurd (omega arith)
+  get_or_mapped (a ∷ l) zero d e h = refl
+  get_or_mapped (a ∷ l) (suc i) d e h = get_or_mapped l i d e (omega arith)
 
   pub set_mapped : (l : List A) (i : ℕ) (v : A) → set (map f l) i (f v) ≡ map f (set l i v)
   set_mapped [] i v = refl
@@ -26,28 +26,28 @@ module _ {A B : Type 0} (f : A → B) where
   set_mapped (a ∷ l) (suc i) v = ap {B = List B} (λ r. f a ∷ r) (set_mapped l i v)
 
 module _ {A : Type 0} where
-  pub get_d_set_each : (P : A → Type 0) (l : List A) (i : ℕ) (v d : A) → P v → ((j : ℕ) → P (get_or l j d))
+  pub get_or_set_each : (P : A → Type 0) (l : List A) (i : ℕ) (v d : A) → P v → ((j : ℕ) → P (get_or l j d))
       → (j : ℕ) → P (get_or (set l i v) j d)
-  get_d_set_each P [] i v d new each j = each j
-  get_d_set_each P (a ∷ l) zero v d new each zero = new
-  get_d_set_each P (a ∷ l) zero v d new each (suc j) = each (suc j)
-  get_d_set_each P (a ∷ l) (suc i) v d new each zero = each 0
-  get_d_set_each P (a ∷ l) (suc i) v d new each (suc j) = get_d_set_each P l i v d new (λ k. each (suc k)) j
+  get_or_set_each P [] i v d new each j = each j
+  get_or_set_each P (a ∷ l) zero v d new each zero = new
+  get_or_set_each P (a ∷ l) zero v d new each (suc j) = each (suc j)
+  get_or_set_each P (a ∷ l) (suc i) v d new each zero = each 0
+  get_or_set_each P (a ∷ l) (suc i) v d new each (suc j) = get_or_set_each P l i v d new (λ k. each (suc k)) j
 
-  pub get_d_sets_below : (vs l : List A) (i j : ℕ) (d : A) → j < i → get_or (sets l i vs) j d ≡ get_or l j d
-  get_d_sets_below [] l i j d h = refl
-  get_d_sets_below (v ∷ vs) l i j d h =
-      get_d_sets_below vs (set l i v) (suc i) j d (omega arith) ∙ get_or-set_other l i j v d (λ e. omega arith)
+  pub get_or_sets_below : (vs l : List A) (i j : ℕ) (d : A) → j < i → get_or (sets l i vs) j d ≡ get_or l j d
+  get_or_sets_below [] l i j d h = refl
+  get_or_sets_below (v ∷ vs) l i j d h =
+      get_or_sets_below vs (set l i v) (suc i) j d (omega arith) ∙ get_or-set_other l i j v d (λ e. omega arith)
 
-  pub get_d_sets_in : (vs l : List A) (i j : ℕ) (d : A) → j < length vs → i + length vs ≤ length l
+  pub get_or_sets_in : (vs l : List A) (i j : ℕ) (d : A) → j < length vs → i + length vs ≤ length l
       → get_or (sets l i vs) (i + j) d ≡ get_or vs j d
-  get_d_sets_in [] l i j d h k = absurd (omega arith)
-  get_d_sets_in (v ∷ vs) l i zero d h k =
+  get_or_sets_in [] l i j d h k = absurd (omega arith)
+  get_or_sets_in (v ∷ vs) l i zero d h k =
       let start : i + 0 ≡ i = omega arith in
-      rw start (get_d_sets_below vs (set l i v) (suc i) i d (omega arith) ∙ get_or-set_same l i v d (omega arith))
-  get_d_sets_in (v ∷ vs) l i (suc j) d h k =
+      rw start (get_or_sets_below vs (set l i v) (suc i) i d (omega arith) ∙ get_or-set_same l i v d (omega arith))
+  get_or_sets_in (v ∷ vs) l i (suc j) d h k =
       let next : i + suc j ≡ suc i + j = omega arith in
-      rw next (get_d_sets_in vs (set l i v) (suc i) j d (omega arith) (simp length-set (omega arith)))
+      rw next (get_or_sets_in vs (set l i v) (suc i) j d (omega arith) (simp length-set (omega arith)))
 
 pub length_three : (a b c : List ℕ) → length (a ++ (b ++ c)) ≡ length a + length b + length c
 length_three a b c = omega (arith, length-append a (b ++ c), length-append b c)

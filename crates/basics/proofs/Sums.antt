@@ -1,12 +1,12 @@
 -- Laws of sums.
 --
---   sum_next     a list with one number more behind it
---   sum_ones     ones add up to the length
---   sum_to_le    one of the numbers is at most their sum
---   sum_to_same  numbers that agree add up to the same
---   sum_to_more  one of the numbers grows
---   sum_to_none  zeros add up to zero
---   sum_to_count a count is a sum of ones
+--   sum_next       a list with one number more behind it
+--   sum_ones       ones add up to the length
+--   sum_to_le      one of the numbers is at most their sum
+--   sum_to_same    numbers that agree add up to the same
+--   sum_to_more    one of the numbers grows
+--   sum_to_none    zeros add up to zero
+--   sum_to_count   a count is a sum of ones
 use mathlib.Core.Path.{◌≡◌, refl, ap}
 use mathlib.Core.Logic.{◌≢◌}
 use mathlib.Core.Bool.{Bool, cond}

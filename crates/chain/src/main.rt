@@ -30,5 +30,6 @@ fn main(rt: HostRuntime) {
     let told = query::query(&mut table, 0, 1, 65535);
     let answer = told.answer;
     let used = told.used;
+    // A line that can't be written is left out: what is printed is held against the stored line.
     let _ = println!(rt; "{answer} {used}");
 }

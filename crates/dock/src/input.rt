@@ -12,7 +12,8 @@ pub struct Input {
     pub bytes: usize,
 }
 
-// One read: no bytes where the input ends. No signal interrupts it, since the program handles none.
+// One read: no bytes where the input ends. A read that a signal interrupts counts as one that fails; the program handles no
+// signal.
 fn read_some<R: Read>(reader: &mut R, buffer: &mut [u8]) -> Input
     ensures bytes_in_bounds { result.bytes ≤ length buffer.new }
     ensures consumed { result.failed ≡ false

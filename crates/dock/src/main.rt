@@ -3,7 +3,7 @@
 
 mod input;
 
-ghost use Rattle.std.specs.Prelude.{◌≡◌, ◌≤◌, ◌<◌, length, IfSome};
+ghost use Rattle.std.specs.Prelude.{◌≡◌, ◌≤◌, ◌<◌, length, take, IfSome};
 ghost use Rattle.std.specs.Io.KnownBytes.{Appends, Keeps};
 ghost use Rattle.listing.specs.Listing.{listing};
 ghost use Rattle.jobfile.specs.Format.{most_bytes};
@@ -51,7 +51,8 @@ fn print_input(buffer: &[u8], bytes: usize, out: &mut [u8]) -> usize
     requires bytes_in_bounds { bytes ≤ length buffer.now }
     requires longest_in_bounds { longest ≤ length out.old }
     ensures put_input { PutInput buffer.now bytes out.old out.new result }
-    ensures prefix_len { result ≤ length out.new }
+    ensures printed_in_bounds { result ≤ length out.new }
+    ensures printed_taken { result ≡ length (take result out.new) }
 {
     print_job(&buffer[..bytes], out)
 }
@@ -64,7 +65,7 @@ pub enum Ended {
     Unwritten,
 }
 
-// Reads a job file up to the input's end and prints its text. Where the input can't be read, nothing is printed. Of a reader
+// Reads a job file, as far as it can matter, and prints its text. Where the input can't be read, nothing is printed. Of a reader
 // and a writer whose bytes are known: the text of what was left to read stands behind what was written.
 fn run<R: Read, W: Write>(reader: &mut R, writer: &mut W) -> Ended
     ensures printed { result ≡ Printed → IfSome (R.remaining reader.old)

@@ -6,7 +6,7 @@
 --   beneath n p r v    how many of n nodes are no roots and come before v
 --   reached n p r v    the same, and v itself where it is none
 --
--- Main laws: beneath-few, they are fewer than the nodes; beneath_later and reached_later, they only become more;
+-- Main laws: low_few, they are fewer than the nodes; beneath_later and reached_later, they only become more;
 -- reached_root, reached_lower and reached_before, what v itself adds, and where a node after v stands.
 use mathlib.Core.Path.{◌≡◌, refl, ap, sym, ◌∙◌}
 use mathlib.Core.Logic.{◌≢◌}

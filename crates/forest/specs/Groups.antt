@@ -1,10 +1,10 @@
 -- Document 02, A1: the groups of a table. `root` gives the root that each place leads to.
 --
---   root_by ends i above on the root by way of i: i itself where the way ends, or what the parent `above` leads on to
---   root_within fuel p i    the root that following parents p from i leads to, in fewer steps than `fuel`
---   size n root r           how many of the places below n have the root r
---   is_lowest root i        i is the lowest place of its group
---   lowest_places root n    the lowest places of the groups of n places, rising
+--   root_by ends i above on   the root by way of i: i itself where the way ends, or what the parent `above` leads on to
+--   root_within fuel p i      the root that following parents p from i leads to, in fewer steps than `fuel`
+--   size n root r             how many of the places below n have the root r
+--   is_lowest root i          i is the lowest place of its group
+--   lowest_places root n      the lowest places of the groups of n places, rising
 use Rattle.std.specs.Prelude.{Bool, true, false, List, ℕ, zero, suc, eqb}
 use Rattle.basics.specs.Count.{count, passing_below}
 

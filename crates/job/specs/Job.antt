@@ -1,14 +1,14 @@
 -- A job as document 01 has it: a number of nodes, a number of heads, requests, and the schedule of grants; (02, A3) the
 -- pairs of requests of which the later one waits for the earlier one; and (02, A5) what each head may ask and see.
 --
---   kind_number k   the number that stands for the kind k in a file
---   kind_of n       the kind that the number n stands for
---   answer_number a the number that stands for the answer a in the report
+--   kind_number k     the number that stands for the kind k in a file
+--   kind_of n         the kind that the number n stands for
+--   answer_number a   the number that stands for the answer a in the report
 --   most_nodes, most_heads, most_requests   the sizes of the largest job
---   may_ask r k     the rights r have the kind k among them
---   every_right h   every right, and sight of every head, for head h
---   right_of rs h   the record of head h, or every right where there are no records
---   Job             nodes, heads, rights, requests, waits and schedule
+--   may_ask r k       the rights r have the kind k among them
+--   every_right h     every right, and sight of every head, for head h
+--   right_of rs h     the record of head h, or every right where there are no records
+--   Job               nodes, heads, rights, requests, waits and schedule
 --   rights_of j h, sight_of j h   what head h of the job j may ask, and the mask of the heads that it may see
 use Rattle.std.specs.Prelude.{Bool, true, cond, List, ℕ, eqb, get_or}
 use Rattle.job.specs.declared.Kind.{Kind}

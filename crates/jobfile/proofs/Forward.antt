@@ -68,14 +68,14 @@ module _ (j : Job) (w : ℕ) (a : Admitted j) where
   file = file_with j w
 
   -- what stands behind the pairs, behind the requests, and behind the rights
-  abbrev behind_waits_lem : List ℕ
-  behind_waits_lem = runs_bytes (longest_runs j.schedule) ++ close w
+  abbrev behind_waits : List ℕ
+  behind_waits = runs_bytes (longest_runs j.schedule) ++ close w
 
-  abbrev behind_requests_lem : List ℕ
-  behind_requests_lem = waits_bytes j.waits ++ behind_waits_lem
+  abbrev behind_requests : List ℕ
+  behind_requests = waits_bytes j.waits ++ behind_waits
 
-  abbrev behind_rights_lem : List ℕ
-  behind_rights_lem = requests_bytes j.requests ++ behind_requests_lem
+  abbrev behind_rights : List ℕ
+  behind_rights = requests_bytes j.requests ++ behind_requests
 
   nodes_here : nodes_in file ≡ j.nodes
   unfolding file_with
@@ -86,58 +86,58 @@ module _ (j : Job) (w : ℕ) (a : Admitted j) where
   heads_here = word_back j.heads
 
   -- no record is taken for one of a section before its own
-  no_wait_lem : word behind_waits_lem ≡ wait_mark → ⊥
-  no_wait_lem = section_other (run_layout 0) wait_mark (longest_runs j.schedule) (close w) (λ e. omega arith) (λ e. omega arith)
+  no_wait : word behind_waits ≡ wait_mark → ⊥
+  no_wait = section_other (run_layout 0) wait_mark (longest_runs j.schedule) (close w) (λ e. omega arith) (λ e. omega arith)
 
-  no_request_lem : word behind_requests_lem ≡ request_mark → ⊥
-  no_request_lem =
-      section_other (wait_layout 0) request_mark j.waits behind_waits_lem (λ e. omega arith)
+  no_request : word behind_requests ≡ request_mark → ⊥
+  no_request =
+      section_other (wait_layout 0) request_mark j.waits behind_waits (λ e. omega arith)
       (section_other (run_layout 0) request_mark (longest_runs j.schedule) (close w) (λ e. omega arith) (λ e. omega arith))
 
-  no_right : word behind_rights_lem ≡ right_mark → ⊥
+  no_right : word behind_rights ≡ right_mark → ⊥
   no_right =
-      section_other (request_layout 0 0 []) right_mark j.requests behind_requests_lem (λ e. omega arith)
-      (section_other (wait_layout 0) right_mark j.waits behind_waits_lem (λ e. omega arith)
+      section_other (request_layout 0 0 []) right_mark j.requests behind_requests (λ e. omega arith)
+      (section_other (wait_layout 0) right_mark j.waits behind_waits (λ e. omega arith)
       (section_other (run_layout 0) right_mark (longest_runs j.schedule) (close w) (λ e. omega arith) (λ e. omega arith)))
 
   -- each section stands behind the one before it
-  rights_here : drop job_size file ≡ rights_bytes j.rights ++ behind_rights_lem
+  rights_here : drop job_size file ≡ rights_bytes j.rights ++ behind_rights
   unfolding file_with
   rights_here = refl
 
-  requests_here : drop (requests_start file) file ≡ behind_rights_lem
-  requests_here = written_behind (right_layout 0) file job_size j.rights behind_rights_lem rights_here no_right
+  requests_here : drop (requests_start file) file ≡ behind_rights
+  requests_here = written_behind (right_layout 0) file job_size j.rights behind_rights rights_here no_right
 
-  waits_here : drop (waits_start file) file ≡ behind_requests_lem
+  waits_here : drop (waits_start file) file ≡ behind_requests
   waits_here =
-      written_behind (request_layout 0 0 []) file (requests_start file) j.requests behind_requests_lem requests_here no_request_lem
+      written_behind (request_layout 0 0 []) file (requests_start file) j.requests behind_requests requests_here no_request
 
-  runs_here : drop (runs_start file) file ≡ behind_waits_lem
-  runs_here = written_behind (wait_layout 0) file (waits_start file) j.waits behind_waits_lem waits_here no_wait_lem
+  runs_here : drop (runs_start file) file ≡ behind_waits
+  runs_here = written_behind (wait_layout 0) file (waits_start file) j.waits behind_waits waits_here no_wait
 
   close_here : drop (close_start file) file ≡ close w
   close_here = written_behind (run_layout 0) file (runs_start file) (longest_runs j.schedule) (close w) runs_here (λ e. omega arith)
 
   -- and is read back
   rights_read : rights_in file ≡ j.rights
-  rights_read = written_read (right_layout 0) file job_size j.rights behind_rights_lem rights_here no_right
+  rights_read = written_read (right_layout 0) file job_size j.rights behind_rights rights_here no_right
 
   requests_read : map request_at (request_records file) ≡ j.requests
   requests_read =
-      written_read (request_layout 0 0 []) file (requests_start file) j.requests behind_requests_lem requests_here no_request_lem
+      written_read (request_layout 0 0 []) file (requests_start file) j.requests behind_requests requests_here no_request
 
   waits_read : map wait_at (wait_records file) ≡ j.waits
-  waits_read = written_read (wait_layout 0) file (waits_start file) j.waits behind_waits_lem waits_here no_wait_lem
+  waits_read = written_read (wait_layout 0) file (waits_start file) j.waits behind_waits waits_here no_wait
 
   runs_read : runs_in file ≡ longest_runs j.schedule
   runs_read = written_read (run_layout 0) file (runs_start file) (longest_runs j.schedule) (close w) runs_here (λ e. omega arith)
 
   right_count : length (right_records file) ≡ length j.rights
-  right_count = written_count (right_layout 0) file job_size j.rights behind_rights_lem rights_here no_right
+  right_count = written_count (right_layout 0) file job_size j.rights behind_rights rights_here no_right
 
   request_count : length (request_records file) ≡ length j.requests
   request_count =
-      written_count (request_layout 0 0 []) file (requests_start file) j.requests behind_requests_lem requests_here no_request_lem
+      written_count (request_layout 0 0 []) file (requests_start file) j.requests behind_requests requests_here no_request
 
   job_here : job_in file ≡ j
   unfolding job_in
@@ -161,8 +161,8 @@ module _ (j : Job) (w : ℕ) (a : Admitted j) where
   rights_pass : rights_refusal (heads_in file) 0 (right_records file) ≡ 0
   rights_pass =
       rw heads_here
-      (written_passes (right_layout j.heads) file job_size j.rights behind_rights_lem rights_here no_right 0
-      (holding_pass j.heads 0 j.rights behind_rights_lem (holding_all j.heads j.rights a.complete a.each_right)))
+      (written_passes (right_layout j.heads) file job_size j.rights behind_rights rights_here no_right 0
+      (holding_pass j.heads 0 j.rights behind_rights (holding_all j.heads j.rights a.complete a.each_right)))
 
   none_missing : missing_refusal (heads_in file) (length (right_records file)) (drop (requests_start file) file) ≡ 0
   none_missing = rw (heads_here, right_count) (complete_passes j.heads (length j.rights) _ a.complete)
@@ -170,9 +170,9 @@ module _ (j : Job) (w : ℕ) (a : Admitted j) where
   requests_pass : requests_refusal (nodes_in file) (heads_in file) (rights_in file) 0 (request_records file) ≡ 0
   requests_pass =
       rw (nodes_here, heads_here, rights_read)
-      (written_passes (request_layout j.nodes j.heads j.rights) file (requests_start file) j.requests behind_requests_lem
-      requests_here no_request_lem 0
-      (asking_pass j.nodes j.heads j.rights 0 j.requests behind_requests_lem
+      (written_passes (request_layout j.nodes j.heads j.rights) file (requests_start file) j.requests behind_requests
+      requests_here no_request 0
+      (asking_pass j.nodes j.heads j.rights 0 j.requests behind_requests
       (asking_all j.nodes j.heads j.rights j.requests a.few_requests a.each_request)))
 
   waits_pass : waits_refusal (length (request_records file)) no_pair (wait_records file) ≡ 0
@@ -180,8 +180,8 @@ module _ (j : Job) (w : ℕ) (a : Admitted j) where
       let count = length j.requests in
       let rising = rising_all count j.waits a.each_wait a.rising in
       ap (λ n. waits_refusal n no_pair (wait_records file)) request_count
-      ∙ written_passes (wait_layout count) file (waits_start file) j.waits behind_waits_lem waits_here no_wait_lem no_pair
-      (rising_pass count no_pair j.waits behind_waits_lem rising)
+      ∙ written_passes (wait_layout count) file (waits_start file) j.waits behind_waits waits_here no_wait no_pair
+      (rising_pass count no_pair j.waits behind_waits rising)
 
   runs_pass : runs_refusal (heads_in file) full_run (run_records file) ≡ 0
   runs_pass =

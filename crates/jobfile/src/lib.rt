@@ -1,8 +1,7 @@
 // The format of job files in numbers: the marks and sizes of records, the numbers of a request, a run.
-
-// The marks of the six records, as 16-bit words, low byte first; a pair's is of 02, A3, a right's of 02, A5.
 #![tactic(auto)]
 
+// The marks of the six records, as 16-bit words, low byte first; a pair's is of 02, A3, a right's of 02, A5.
 pub const JOB_MARK: u16 = 0x4B44;
 
 pub const RIGHT_MARK: u16 = 0x5452;

@@ -61,8 +61,8 @@ pub fn add(tally: &mut Tally, progress: Progress)
     *tally = tally_after(*tally, progress);
 }
 
-// Plays a job file on lent buffers and a lent tally: the tally is zeroed at an accepted start
-// and added to at each grant; a refusal writes nothing.
+// Plays a job file on lent buffers and a lent tally: the tally is zeroed at an accepted start and added to at each grant; a
+// refusal writes nothing.
 pub fn grouping_play_lent(
     file: &[u8],
     table: &mut [Word],

@@ -69,7 +69,7 @@ module _ (point request : ℕ) where
 
 -- and one that is not listed is no entry's
 pub occurrences_absent : {e : Entry} {es : List Entry} (q : ℕ) → occurrences q es ≡ 0 → Memᴰ e es → e.request ≢ q
-occurrences_absent {e = e} {es = []} q zero-times x8 e-is = elim x8 [ ]
+occurrences_absent {e = e} {es = []} q zero-times member e-is = elim member [ ]
 occurrences_absent {es = f ∷ es} q zero-times (Memᴰ.head same) e-is =
     let f_is : f.request ≡ q = ap (λ g. g.request) (sym same) ∙ e-is in
     let listed : suc (occurrences q es) ≡ 0 = rw (eq-eqb f.request q f_is) at zero-times in
@@ -82,7 +82,7 @@ occurrences_absent {es = f ∷ es} q zero-times (Memᴰ.tail member) e-is =
 -- ---- the order of rising entries
 
 pub rising_member : {low : ℕ} {e : Entry} {es : List Entry} → Rising low es → Memᴰ e es → low < e.point
-rising_member {e = e} (empty {low = low}) x4 = elim x4 [ ]
+rising_member {e = e} (empty {low = low}) member = elim member [ ]
 rising_member (rises first rest) (Memᴰ.head same) = omega (arith, ap (λ g. g.point) same)
 rising_member (rises first rest) (Memᴰ.tail member) = omega (arith, rising_member rest member)
 

@@ -109,7 +109,7 @@ module _ (operation : ℕ → Operation) (point request : ℕ) where
 
 module _ {operation : ℕ → Operation} {P : Entry → Type 0} {claim : ℕ → Answer} where
   pub replayed_fact : {B : Labels} {low : ℕ} {es : List Entry} → Replayed operation P claim B low es → (e : Entry) → Memᴰ e es → P e
-  replayed_fact (ended {B = B} {low = low}) e x5 = elim x5 [ ]
+  replayed_fact (ended {B = B} {low = low}) e member = elim member [ ]
   replayed_fact (placed rise fact answered rest) e (Memᴰ.head same) = subst P (sym same) fact
   replayed_fact (placed rise fact answered rest) e (Memᴰ.tail member) = replayed_fact rest e member
 

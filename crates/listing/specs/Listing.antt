@@ -1,21 +1,21 @@
 -- Document 01, "Played cases": the text that a played job prints, and refusal 14 where a buffer is too short for it.
 --
---   job_name .. refused_name the names of the lines
---   job_line p, tally_line y the lines of the counts and of the tally
---   refused_line number      the line of a refusal
---   request_line n a f l u   the line of a request, by its number and its four
---   entry_line p q           the line of an entry, by its point and its request
---   report_line n report i   the line of request i under the number n, from the report's buffer
---   row s buffer i           line number i of section s, from the numbers in the section's buffer
---   row_size s               how many numbers of its buffer a line of section s shows
---   rows p t r l             the lines of all words, requests and entries
---   accepted p t r l         the text of a play that was not refused
---   listing p t r l          the text of the play p with table t, report r and linearization l
---   sources_short p t r l    a buffer of numbers is shorter than what its lines show
---   too_short p t r l out    that, or `out` is shorter than the text
---   listed p t r l out       the answer: 14, or the number of bytes
---   printed p t r l out      the buffer `out` afterwards
---   Enough p t r l           table t, report r and linearization l hold all that the text of p shows
+--   job_name .. refused_name   the names of the lines
+--   job_line p, tally_line y   the lines of the counts and of the tally
+--   refused_line number        the line of a refusal
+--   request_line n a f l u     the line of a request, by its number and its four
+--   entry_line p q             the line of an entry, by its point and its request
+--   report_line n report i     the line of request i under the number n, from the report's buffer
+--   row s buffer i             line number i of section s, from the numbers in the section's buffer
+--   row_size s                 how many numbers of its buffer a line of section s shows
+--   rows p t r l               the lines of all words, requests and entries
+--   accepted p t r l           the text of a play that was not refused
+--   listing p t r l            the text of the play p with table t, report r and linearization l
+--   sources_short p t r l      a buffer of numbers is shorter than what its lines show
+--   too_short p t r l out      that, or `out` is shorter than the text
+--   listed p t r l out         the answer: 14, or the number of bytes
+--   printed p t r l out        the buffer `out` afterwards
+--   Enough p t r l             table t, report r and linearization l hold all that the text of p shows
 use Rattle.std.specs.Prelude.{Bool, true, cond, List, [], ◌∷◌, ◌++◌, ℕ, ◌+◌, ◌*◌, ◌≤◌, eqb, ltb, length, get_or, drop}
 use Rattle.job.specs.declared.Played.{Played}
 use Rattle.job.specs.declared.Tally.{Tally}

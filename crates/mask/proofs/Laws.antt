@@ -16,7 +16,7 @@ use lib.Dec.{eqb}
 use lib.Count.{ones, ones_step}
 use lib.ListN.{length, get_or, set, length-map}
 use lib.Seq.{map-set_same}
-use Rattle.basics.proofs.Lists.{get_d_mapped, set_mapped}
+use Rattle.basics.proofs.Lists.{get_or_mapped, set_mapped}
 use Rattle.mask.specs.Mask.{bit_of, mask_of, count_of}
 
 -- ---- one flag more below a mask
@@ -93,7 +93,7 @@ mask_count (b ∷ bs) =
 module _ {A : Type 0} (f : A → Bool) (d : A) where
   -- the test of bit h tells whether the h-th item passes
   pub flag_of : (l : List A) (h : ℕ) → h < length l → eqb (mask_of (map f l) / 2 ^ h % 2) 1 ≡ f (get_or l h d)
-  flag_of l h within = mask_flag (map f l) h (omega (arith, length-map l f)) ∙ get_d_mapped f l h d false within
+  flag_of l h within = mask_flag (map f l) h (omega (arith, length-map l f)) ∙ get_or_mapped f l h d false within
 
   -- an item that changes without changing its test keeps the mask
   pub mask_kept : (l : List A) (h : ℕ) (v : A) → f v ≡ f (get_or l h d) → mask_of (map f (set l h v)) ≡ mask_of (map f l)
@@ -101,7 +101,7 @@ module _ {A : Type 0} (f : A → Bool) (d : A) where
 
   module _ (l : List A) (h : ℕ) (within : h < length l) (passes : f (get_or l h d) ≡ true) where
     on : get_or (map f l) h false ≡ true
-    on = get_d_mapped f l h d false within ∙ passes
+    on = get_or_mapped f l h d false within ∙ passes
 
     -- the mask has the bit of an item that passes
     pub left_least : 2 ^ h ≤ mask_of (map f l)

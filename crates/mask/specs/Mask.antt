@@ -1,8 +1,8 @@
 -- Document 01, "One grant, one word": flags kept as a bit mask, and their count.
 --
---   bit_of b    a flag as a binary digit
---   mask_of bs  the flags bs as one number: bit h is the h-th flag, the first flag the lowest bit
---   count_of bs how many of the flags bs are set
+--   bit_of b      a flag as a binary digit
+--   mask_of bs    the flags bs as one number: bit h is the h-th flag, the first flag the lowest bit
+--   count_of bs   how many of the flags bs are set
 use Rattle.std.specs.Prelude.{Bool, cond, List, [], ◌∷◌, ℕ, suc, ◌+◌, ◌*◌}
 
 -- 1 for a flag that is set, 0 for one that is not.

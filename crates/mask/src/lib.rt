@@ -16,7 +16,7 @@ pub fn is_set(mask: u32, bit: u32) -> bool
 // The mask less the digit of one flag: the mask without that flag, where the flag was set.
 pub fn cleared(mask: u32, bit: u32) -> u32
     requires bit_bound { bit < 32 }
-    requires bit_bound_2 { 2 ^ bit ≤ mask }
+    requires bit_in_mask { 2 ^ bit ≤ mask }
     ensures { result ≡ mask - 2 ^ bit }
 {
     mask - (1u32 << bit)

@@ -9,7 +9,7 @@ use native.Mathlib.Omega.{arith}
 use native.Mathlib.Decide.{ℕ_discrete}
 use lib.ListN.{length, get_or, set, replicate, length-set, length-replicate, length-map}
 use lib.Seq.{sets, get_or-take}
-use Rattle.basics.proofs.Lists.{get_d_mapped, get_d_sets_in, get_d_sets_below}
+use Rattle.basics.proofs.Lists.{get_or_mapped, get_or_sets_in, get_or_sets_below}
 use Rattle.word.specs.declared.Node.{Node}
 use Rattle.job.specs.Job.{most_nodes}
 use Rattle.word.specs.Word.{decode, rank_of, most_rank}
@@ -35,7 +35,7 @@ pub rows_at : (t : List Node) (k : ℕ) → k < length (group_rows t)
     → get_or (group_rows t) k no_row ≡ group_row t (get_or (lowest_places (root_in t) (length t)) k 0)
 unfolding group_rows
 rows_at t k l =
-    get_d_mapped (group_row t) (lowest_places (root_in t) (length t)) k 0 no_row (omega (arith, rows_length t))
+    get_or_mapped (group_row t) (lowest_places (root_in t) (length t)) k 0 no_row (omega (arith, rows_length t))
 
 module _ {n : ℕ} {t : List Node} (admitted : Admitted n t) {groups : Groups} (g : Gathered t n groups) where
   pub groups_count : groups.count ≡ length (group_rows t)
@@ -57,7 +57,7 @@ module _ {n : ℕ} {t : List Node} (admitted : Admitted n t) {groups : Groups} (
     group_root =
         sym (get_or-take groups.count groups.root k 0 l)
         ∙ ap (λ (p : List ℕ). get_or p k 0) g.root
-        ∙ get_d_mapped (root_in t) (lowest_places (root_in t) n) k 0 0 (omega (arith, g.count))
+        ∙ get_or_mapped (root_in t) (lowest_places (root_in t) n) k 0 0 (omega (arith, g.count))
 
     pub root_inside : get_or groups.root k 0 < n
     unfolding place
@@ -113,7 +113,7 @@ stored_sets numbers k a b c d =
 
 module _ (numbers : List ℕ) (k : ℕ) (room : 4 * k + 4 ≤ length numbers) (a b c d : ℕ) where
   stored_at : (j : ℕ) → j < 4 → get_or (stored numbers k a b c d) (4 * k + j) 0 ≡ get_or (a ∷ b ∷ c ∷ d ∷ []) j 0
-  stored_at j l = rw (stored_sets numbers k a b c d) (get_d_sets_in (a ∷ b ∷ c ∷ d ∷ []) numbers (4 * k) j 0 l room)
+  stored_at j l = rw (stored_sets numbers k a b c d) (get_or_sets_in (a ∷ b ∷ c ∷ d ∷ []) numbers (4 * k) j 0 l room)
 
   stored_here : row_of (stored numbers k a b c d) k ≡ record { lowest = a; size = b; root = c; rank = d }
   stored_here =
@@ -127,7 +127,7 @@ module _ (numbers : List ℕ) (k : ℕ) (room : 4 * k + 4 ≤ length numbers) (a
   stored_below : (j : ℕ) → j < k → row_of (stored numbers k a b c d) j ≡ row_of numbers j
   stored_below j l =
       let same : (m : ℕ) → m < 4 * k → get_or (sets numbers (4 * k) (a ∷ b ∷ c ∷ d ∷ [])) m 0 ≡ get_or numbers m 0 =
-      λ m h. get_d_sets_below (a ∷ b ∷ c ∷ d ∷ []) numbers (4 * k) m 0 h in
+      λ m h. get_or_sets_below (a ∷ b ∷ c ∷ d ∷ []) numbers (4 * k) m 0 h in
       let first = same (4 * j) (omega arith) in
       let second = same (4 * j + 1) (omega arith) in
       let third = same (4 * j + 2) (omega arith) in

@@ -33,8 +33,8 @@ pub struct Paged {
     pub bytes: u32,
 }
 
-// Fills the list of rows with the groups of a table and prints the page: the table is only read,
-// rows and bytes past those written stay, and a refusal writes nothing.
+// Fills the list of rows with the groups of a table and prints the page: the table is only read, rows and bytes past those
+// written stay, and a refusal writes nothing.
 pub fn grouping_page(table: &[Word], rows: &mut [Row], page: &mut [u8]) -> Paged
     ensures exact { record { answer = result; rows = rows.new; page = page.new }
         ≡ paged_of table.now rows.old page.old }

@@ -43,11 +43,11 @@ module _ {A : Type 0} where
   take_on : (k l : ℕ) (xs : List A) → k ≤ l → take k xs ++ drop k (take l xs) ≡ take l xs
   take_on k l xs h = ap (λ r. r ++ drop k (take l xs)) (sym (take_less k l xs h)) ∙ take-append-drop k (take l xs)
 
-get_d_take : (k : ℕ) (gs : List ℕ) (g none : ℕ) → g < length (take k gs) → get_or (take k gs) g none ≡ get_or gs g none
-get_d_take zero gs g none l = absurd (omega arith)
-get_d_take (suc k) [] g none l = absurd (omega arith)
-get_d_take (suc k) (h ∷ gs) zero none l = refl
-get_d_take (suc k) (h ∷ gs) (suc g) none l = get_d_take k gs g none (omega arith)
+get_or_take : (k : ℕ) (gs : List ℕ) (g none : ℕ) → g < length (take k gs) → get_or (take k gs) g none ≡ get_or gs g none
+get_or_take zero gs g none l = absurd (omega arith)
+get_or_take (suc k) [] g none l = absurd (omega arith)
+get_or_take (suc k) (h ∷ gs) zero none l = refl
+get_or_take (suc k) (h ∷ gs) (suc g) none l = get_or_take k gs g none (omega arith)
 
 length_cut : (k : ℕ) (gs : List ℕ) → length (take k gs) ≤ length gs
 length_cut zero gs = omega arith
@@ -74,7 +74,7 @@ module _ (j : Job) (admitted : Admitted j) (k : ℕ) where
         each_wait = admitted.each_wait;
         rising = admitted.rising;
         each_grant = λ g none l.
-            omega (arith, get_d_take k j.schedule g none l, admitted.each_grant g none (omega (arith, l, length_cut k j.schedule)));
+            omega (arith, get_or_take k j.schedule g none l, admitted.each_grant g none (omega (arith, l, length_cut k j.schedule)));
         short = omega (arith, cut_short, admitted.short);
       }
 

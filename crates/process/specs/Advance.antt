@@ -2,7 +2,7 @@
 -- Comparing, choosing and finishing cost nothing, so they are part of the grant before.
 --
 --   quiet, failure       nothing to record beyond one more grant used; nothing but a swap that failed
---   go_on k t        the head of task k on to stage t
+--   go_on k t            the head of task k on to stage t
 --   retry k t            the same after a swap that failed
 --   together k, apart k now   the answer, or the next stage, once both finds have ended at one root, or at two
 --   compared, ended      both finds have ended; one of them has

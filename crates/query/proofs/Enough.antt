@@ -244,7 +244,7 @@ module _ {n : ℕ} {t : List Node} (r : ℕ → ℕ) (admitted : Admitted n t) (
   find_enough : (B : ℕ → ℕ) (e : Errand) (s : Step) → SameSet ≡ kind_of e → FindKnows n (parent t) (rank t) B (node_at k e) s
       → Enough n (parent t) r k (Find e s) (suc m)
       → Goes (touched t (find_access (node_at k e) s))
-        (followed k e (suc used) (walked (node_at k e) (seen t (find_access (node_at k e) s)) s))
+      (followed k e (suc used) (walked (node_at k e) (seen t (find_access (node_at k e) s)) s))
   find_enough B e ReadNode kind knows needs = read_node e kind needs
   find_enough B e (ReadParent rank u) kind knows needs = λ f. record { fixed = needs.fixed; enough = omega (arith, needs.enough) }
   find_enough B e (Halve rank u w) kind knows needs = halve_goes e rank u w knows.parent.lower needs

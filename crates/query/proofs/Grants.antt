@@ -1,7 +1,7 @@
 -- The enquiry's grants on plain numbers, one a law: where looking at a node and moving on from it lead.
 --
---   swapping node other fromY w above   the head that swaps the node's word from w to the parent `above`
---   again node other fromY u            the head that reads the word of u again
+--   swapping node other from_y w above   the head that swaps the node's word from w to the parent `above`
+--   again node other from_y u            the head that reads the word of u again
 --   rereading x y point                 the head that reads x's word again
 --
 -- Main laws: look_moves, look_turns, look_meets and look_differs; reread_root and reread_lower; move_reads, move_swaps and
@@ -32,10 +32,10 @@ use Rattle.query.specs.Query.{answered, steps}
 use Rattle.query.specs.Numbers.{errand_of, head_at, looking, moving, packed, ended}
 
 abbrev pub swapping : ℕ → ℕ → Bool → Node → ℕ → Head
-swapping node other fromY w above = head_at node other fromY (Find (errand_of fromY) (Halve w.rank w.parent above))
+swapping node other from_y w above = head_at node other from_y (Find (errand_of from_y) (Halve w.rank w.parent above))
 
 abbrev pub again : ℕ → ℕ → Bool → ℕ → Head
-again node other fromY u = head_at node other fromY (Find (errand_of fromY) (ReadAgain u))
+again node other from_y u = head_at node other from_y (Find (errand_of from_y) (ReadAgain u))
 
 abbrev pub rereading : ℕ → ℕ → ℕ → Head
 rereading x y point = head_at x y false (RereadX point)
@@ -43,8 +43,8 @@ rereading x y point = head_at x y false (RereadX point)
 -- ---- one grant
 
 module _ (t : List Node) (node other left used left' used' : ℕ) (one : left ≡ suc left') (next : used' ≡ suc used) where
-  pub look_moves : (fromY : Bool) → parent t node ≢ node
-      → steps left used (looking node other fromY) t ≡ steps left' used' (moving node other fromY (at t node)) t
+  pub look_moves : (from_y : Bool) → parent t node ≢ node
+      → steps left used (looking node other from_y) t ≡ steps left' used' (moving node other from_y (at t node)) t
   unfolding access_of advance_of
   look_moves false lower = rw (one, next, ne_eqb (parent t node) node lower) refl
   look_moves true lower = rw (one, next, ne_eqb (parent t node) node lower) refl
@@ -72,21 +72,21 @@ module _ (t : List Node) (node other left used left' used' : ℕ) (one : left �
   unfolding access_of advance_of
   reread_lower point lower = rw (one, next, ne_eqb (parent t node) node lower) refl
 
-  pub move_reads : (fromY : Bool) (w : Node)
-      → steps left used (moving node other fromY w) t ≡ steps left' used' (swapping node other fromY w (parent t w.parent)) t
+  pub move_reads : (from_y : Bool) (w : Node)
+      → steps left used (moving node other from_y w) t ≡ steps left' used' (swapping node other from_y w (parent t w.parent)) t
   unfolding access_of advance_of
   move_reads false w = rw (one, next) refl
   move_reads true w = rw (one, next) refl
 
-  pub move_swaps : (fromY : Bool) (w : Node) (above : ℕ)
-      → steps left used (swapping node other fromY w above) t
-      ≡ steps left' used' (again node other fromY w.parent) (touched t (Cas node w (record { rank = w.rank; parent = above })))
+  pub move_swaps : (from_y : Bool) (w : Node) (above : ℕ)
+      → steps left used (swapping node other from_y w above) t
+      ≡ steps left' used' (again node other from_y w.parent) (touched t (Cas node w (record { rank = w.rank; parent = above })))
   unfolding access_of advance_of
   move_swaps false w above = split (same (at t node) w) (λ e. rw (one, next, e) refl) (λ e. rw (one, next, e) refl)
   move_swaps true w above = split (same (at t node) w) (λ e. rw (one, next, e) refl) (λ e. rw (one, next, e) refl)
 
-  pub move_ends : (fromY : Bool) (u : ℕ)
-      → steps left used (again node other fromY u) t ≡ steps left' used' (looking (parent t u) other fromY) t
+  pub move_ends : (from_y : Bool) (u : ℕ)
+      → steps left used (again node other from_y u) t ≡ steps left' used' (looking (parent t u) other from_y) t
   unfolding access_of advance_of
   move_ends false u = rw (one, next) refl
   move_ends true u = rw (one, next) refl

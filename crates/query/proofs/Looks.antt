@@ -28,31 +28,31 @@ pub never : {words : List ℕ} {node other used left end : ℕ} (h : Head) → R
 never {words} {used = used} {left = left} {end = end} h ready none told =
     spent words ready.admitted left used h end none (omega (arith, ready.room)) told
 
-module _ {words : List ℕ} {node other used left : ℕ} (ready : Ready words node other used left) (fromY : Bool) (some : left ≢ 0) where
+module _ {words : List ℕ} {node other used left : ℕ} (ready : Ready words node other used left) (from_y : Bool) (some : left ≢ 0) where
   abbrev t : List Node
   t = map decode words
 
   abbrev looks : Result
-  looks = steps left used (looking node other fromY) t
+  looks = steps left used (looking node other from_y) t
 
   pub looked_on : {up : ℕ} → up ≡ parent_of (word_at words node) → up ≢ node
-      → looks ≡ steps (left - 1) (used + 1) (moving node other fromY (decode (word_at words node))) t
+      → looks ≡ steps (left - 1) (used + 1) (moving node other from_y (decode (word_at words node))) t
   looked_on its lower =
       let read = admitted_at words ready.admitted node ready.inside in
-      look_moves t node other left used (left - 1) (used + 1) (omega (arith, some)) (omega arith) fromY
+      look_moves t node other left used (left - 1) (used + 1) (omega (arith, some)) (omega arith) from_y
       (λ e. lower (its ∙ sym (ap (λ v. v.parent) read) ∙ e))
-      ∙ ap (λ w. steps (left - 1) (used + 1) (moving node other fromY w) t) read
+      ∙ ap (λ w. steps (left - 1) (used + 1) (moving node other from_y w) t) read
 
   module _ {up : ℕ} (its : up ≡ parent_of (word_at words node)) (found : up ≡ node) where
     root : parent t node ≡ node
     root = ap (λ v. v.parent) (admitted_at words ready.admitted node ready.inside) ∙ sym its ∙ found
 
-    pub looked_turned : fromY ≡ false → looks ≡ steps (left - 1) (used + 1) (looking other node true) t
+    pub looked_turned : from_y ≡ false → looks ≡ steps (left - 1) (used + 1) (looking other node true) t
     looked_turned first =
         rw first
         (look_turns t node other left used (left - 1) (used + 1) (omega (arith, some)) (omega arith) root)
 
-    module _ (second : fromY ≡ true) where
+    module _ (second : from_y ≡ true) where
       pub looked_met : {end : ℕ} → other ≡ node → end ≡ packed Yes (used + 1) → ended end words ≡ looks
       looked_met {end} e told =
           rw second

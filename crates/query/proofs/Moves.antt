@@ -105,20 +105,20 @@ module _ {words : List ℕ} {node other used left : ℕ} (ready : Ready words no
     abbrev swapped : List Node
     swapped = touched t (Cas node (decode word) (record { rank = rank_of word; parent = above }))
 
-    pub moved_once : (fromY : Bool) → 1 ≤ left
-        → steps left used (moving node other fromY (decode word)) t
-        ≡ steps (left - 1) (used + 1) (swapping node other fromY (decode word) above) t
-    moved_once fromY l =
-        move_reads t node other left used (left - 1) (used + 1) (omega arith) (omega arith) fromY (decode word)
-        ∙ ap (λ u. steps (left - 1) (used + 1) (swapping node other fromY (decode word) (parent t u)) t) (sym its)
-        ∙ ap (λ u. steps (left - 1) (used + 1) (swapping node other fromY (decode word) u) t) grandparent
+    pub moved_once : (from_y : Bool) → 1 ≤ left
+        → steps left used (moving node other from_y (decode word)) t
+        ≡ steps (left - 1) (used + 1) (swapping node other from_y (decode word) above) t
+    moved_once from_y l =
+        move_reads t node other left used (left - 1) (used + 1) (omega arith) (omega arith) from_y (decode word)
+        ∙ ap (λ u. steps (left - 1) (used + 1) (swapping node other from_y (decode word) (parent t u)) t) (sym its)
+        ∙ ap (λ u. steps (left - 1) (used + 1) (swapping node other from_y (decode word) u) t) grandparent
 
-    pub once_spent : {end : ℕ} (fromY : Bool) → left ≡ 1 → end ≡ packed Unfinished (used + 1)
-        → ended end words ≡ steps left used (moving node other fromY (decode word)) t
-    once_spent {end} fromY one told =
-        spent words ready.admitted (left - 1) (used + 1) (swapping node other fromY (decode word) above) end (omega (arith, one))
+    pub once_spent : {end : ℕ} (from_y : Bool) → left ≡ 1 → end ≡ packed Unfinished (used + 1)
+        → ended end words ≡ steps left used (moving node other from_y (decode word)) t
+    once_spent {end} from_y one told =
+        spent words ready.admitted (left - 1) (used + 1) (swapping node other from_y (decode word) above) end (omega (arith, one))
         (omega (arith, one, ready.room)) told
-        ∙ sym (moved_once fromY (omega (arith, one)))
+        ∙ sym (moved_once from_y (omega (arith, one)))
 
     swapped_admitted : Admitted most_nodes swapped
     swapped_admitted =
@@ -138,21 +138,21 @@ module _ {words : List ℕ} {node other used left : ℕ} (ready : Ready words no
       admitted' : Admitted most_nodes (map decode words')
       admitted' = subst (Admitted most_nodes) (sym nodes') swapped_admitted
 
-      moved_twice : (fromY : Bool) → 2 ≤ left
-          → steps left used (moving node other fromY (decode word)) t
-          ≡ steps (left - 2) (used + 2) (again node other fromY up) (map decode words')
-      moved_twice fromY l =
-          moved_once fromY (omega arith)
-          ∙ move_swaps t node other (left - 1) (used + 1) (left - 2) (used + 2) (omega arith) (omega arith) fromY (decode word) above
-          ∙ ap (λ u. steps (left - 2) (used + 2) (again node other fromY u) swapped) (sym its)
-          ∙ ap (steps (left - 2) (used + 2) (again node other fromY up)) (sym nodes')
+      moved_twice : (from_y : Bool) → 2 ≤ left
+          → steps left used (moving node other from_y (decode word)) t
+          ≡ steps (left - 2) (used + 2) (again node other from_y up) (map decode words')
+      moved_twice from_y l =
+          moved_once from_y (omega arith)
+          ∙ move_swaps t node other (left - 1) (used + 1) (left - 2) (used + 2) (omega arith) (omega arith) from_y (decode word) above
+          ∙ ap (λ u. steps (left - 2) (used + 2) (again node other from_y u) swapped) (sym its)
+          ∙ ap (steps (left - 2) (used + 2) (again node other from_y up)) (sym nodes')
 
-      pub twice_spent : {end : ℕ} (fromY : Bool) → left ≡ 2 → end ≡ packed Unfinished (used + 2)
-          → ended end words' ≡ steps left used (moving node other fromY (decode word)) t
-      twice_spent {end} fromY two told =
-          spent words' admitted' (left - 2) (used + 2) (again node other fromY up) end (omega (arith, two))
+      pub twice_spent : {end : ℕ} (from_y : Bool) → left ≡ 2 → end ≡ packed Unfinished (used + 2)
+          → ended end words' ≡ steps left used (moving node other from_y (decode word)) t
+      twice_spent {end} from_y two told =
+          spent words' admitted' (left - 2) (used + 2) (again node other from_y up) end (omega (arith, two))
           (omega (arith, two, ready.room)) told
-          ∙ sym (moved_twice fromY (omega (arith, two)))
+          ∙ sym (moved_twice from_y (omega (arith, two)))
 
       module _ {next : ℕ} (seen-again : next ≡ parent_of (word_at words' up)) (three : 3 ≤ left) where
         next_parent : parent (map decode words') up ≡ next
@@ -168,11 +168,11 @@ module _ {words : List ℕ} {node other used left : ℕ} (ready : Ready words no
               room = omega (arith, ready.room, three);
             }
 
-        pub moved : (fromY : Bool)
-            → steps left used (moving node other fromY (decode word)) t
-            ≡ steps (left - 3) (used + 3) (looking next other fromY) (map decode words')
-        moved fromY =
-            moved_twice fromY (omega (arith, three))
+        pub moved : (from_y : Bool)
+            → steps left used (moving node other from_y (decode word)) t
+            ≡ steps (left - 3) (used + 3) (looking next other from_y) (map decode words')
+        moved from_y =
+            moved_twice from_y (omega (arith, three))
             ∙ move_ends (map decode words') node other (left - 2) (used + 2) (left - 3) (used + 3) (omega (arith, three)) (omega arith)
-            fromY up
-            ∙ ap (λ v. steps (left - 3) (used + 3) (looking v other fromY) (map decode words')) next_parent
+            from_y up
+            ∙ ap (λ v. steps (left - 3) (used + 3) (looking v other from_y) (map decode words')) next_parent

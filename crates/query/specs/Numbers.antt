@@ -1,10 +1,10 @@
 -- The enquiry on plain numbers: what the numbers and the array of its inner functions stand for. A find stands at `node`;
--- `other` is the enquiry's other node; `fromY` tells the find from y.
+-- `other` is the enquiry's other node; `from_y` tells the find from y.
 --
---   errand_of fromY               what the find is made for
---   head_at node other fromY s    the head of these numbers at stage s
---   looking node other fromY      the head that looks at the node
---   moving node other fromY w     the head that moves on from the node, whose word says w
+--   errand_of from_y               what the find is made for
+--   head_at node other from_y s    the head of these numbers at stage s
+--   looking node other from_y      the head that looks at the node
+--   moving node other from_y w     the head that moves on from the node, whose word says w
 --   Ready words node other used left   what looking at a node, and moving on from it, relies on
 --   Lower words node word         what moving on relies on besides: the word was read of a node that is no root
 --   packed answer used            the answer's number and the grants used as one number
@@ -38,11 +38,11 @@ head_at node other true s = record { stage = s; task = record { x = other; y = n
 
 -- Looking at a place: its word is read next.
 abbrev pub looking : ℕ → ℕ → Bool → Head
-looking node other fromY = head_at node other fromY (Find (errand_of fromY) ReadNode)
+looking node other from_y = head_at node other from_y (Find (errand_of from_y) ReadNode)
 
 -- Moving on from it: its word was read, and its parent's word is read next.
 abbrev pub moving : ℕ → ℕ → Bool → Node → Head
-moving node other fromY w = head_at node other fromY (Find (errand_of fromY) (ReadParent w.rank w.parent))
+moving node other from_y w = head_at node other from_y (Find (errand_of from_y) (ReadParent w.rank w.parent))
 
 -- The array has 4,096 words, all admitted.
 pub record Ready (words : List ℕ) (node other used left : ℕ) : Type 0 where

@@ -55,7 +55,7 @@ pub fn refuse(number: u32) -> Checked
 // Checks a file whose length and header are accepted, record by record to its end.
 fn check_records(file: &[u8]) -> Checked
     requires file_len_bound { length file.now ≤ most_bytes }
-    requires file_value { header_refusal file.now ≡ 0 }
+    requires header_admitted { header_refusal file.now ≡ 0 }
     ensures { result ≡ counts_of (meaning file.now) }
 {
     let nodes = word_at(file, 2) as u32;

@@ -27,7 +27,7 @@ use Rattle.rules.specs.Waits.{pair, Lowest}
 -- a request that waits for none has no unfinished one among those that it waits for
 pub lowest_none : (ws : List Wait) (report : List Row) (q : ℕ) → lowest_wait ws report q ≡ no_wait
     → (w : Wait) → Memᴰ w ws → w.later ≡ q → unfinished report w.earlier ≡ false
-lowest_none [] report q none w x3 own = elim x3 [ ]
+lowest_none [] report q none w member own = elim member [ ]
 lowest_none (v ∷ ws) report q none w (Memᴰ.head same) own =
     split (holds report q v)
     (λ t. let some : suc v.earlier ≡ no_wait = rw t at none in absurd (omega arith))
@@ -71,7 +71,7 @@ lowest_found ws report q e rises found =
   where
     least : (ws : List Wait) → Rises ws → lowest_wait ws report q ≡ suc e → (f : ℕ) → Memᴰ (pair q f) ws → unfinished report f ≡ true
         → e ≤ f
-    least [] rises found f x4 u = elim x4 [ ]
+    least [] rises found f member u = elim member [ ]
     least (w ∷ ws) rises found f (Memᴰ.head is) u =
         let here : holds report q w ≡ true = ap (holds report q) (sym is) ∙ rw (eq-eqb q q refl) u in
         let first : suc w.earlier ≡ suc e = rw here at found in

@@ -16,7 +16,7 @@ use native.Mathlib.Omega.{arith}
 use native.Mathlib.Decide.{ℕ_discrete, dec_lt}
 use lib.ListN.{length, get_or, get_or-eq_default}
 use borrow.Author.Tests.{eq-eqb, ne_eqb, eqb-true, eqb-false, lt-ltb, ltb-true}
-use Rattle.basics.proofs.Lists.{get_d_set_each}
+use Rattle.basics.proofs.Lists.{get_or_set_each}
 use Rattle.basics.proofs.Conditions.{split, cond_both}
 use Rattle.job.specs.declared.Request.{Request}
 use Rattle.job.specs.declared.Wait.{Wait}
@@ -249,7 +249,7 @@ module _ (qs : List Request) (ws : List Wait) where
   unfolding step
   step_unwaiting S h none =
       split (is_served qs ws S.report (head_at S h))
-      (λ t. rw t (get_d_set_each (λ k. k.task.waits ≡ no_wait) S.heads h (settled qs h (advanced S (ready qs (head_at S h)))) (resting 0)
+      (λ t. rw t (get_or_set_each (λ k. k.task.waits ≡ no_wait) S.heads h (settled qs h (advanced S (ready qs (head_at S h)))) (resting 0)
       (next_unwaiting qs S h none) none))
       (λ f. rw f none)
 

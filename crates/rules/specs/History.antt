@@ -1,15 +1,15 @@
 -- What a history says of a request: its report row, whether it has linked, and its linearization point.
 -- A history is a list of happenings, the newest first; the newest is the grant whose number is the list's length.
 --
---   first_where f past, last_where f past the first and the last grant with f, 0 if there is none
---   last_but_one f past                   the last grant with f but one, 0 if there is none
---   count_where f past                    the number of grants with f
---   is_idle a, has_failed a, has_link a   the grant was idle, a swap that failed, or a link that wrote
+--   first_where f past, last_where f past   the first and the last grant with f, 0 if there is none
+--   last_but_one f past                     the last grant with f but one, 0 if there is none
+--   count_where f past                      the number of grants with f
+--   is_idle a, has_failed a, has_link a     the grant was idle, a swap that failed, or a link that wrote
 --   is_of q a, ends_find_of q a, links_for q a   it was used for q, ended a find from y of q, or linked q
---   answer_of q past                      the number of q's answer
---   row_of q past                         the report row of request q
---   link_of q past                        the grant at which q has linked, 0 if it has not
---   point_of k q past                     the point of request q, of kind k
+--   answer_of q past                        the number of q's answer
+--   row_of q past                           the report row of request q
+--   link_of q past                          the grant at which q has linked, 0 if it has not
+--   point_of k q past                       the point of request q, of kind k
 use Rattle.std.specs.Prelude.{Bool, true, false, cond, List, [], ◌∷◌, ℕ, suc, eqb, length}
 use Rattle.job.specs.declared.Kind.{Kind}
 use Rattle.job.specs.declared.Kind.TheVariants.{Union, SameSet}

@@ -1,11 +1,11 @@
 -- Demand 3: what a run leaves is linearizable. The statement, over plain lists: the requests of the job, the table, the
 -- report, the entries of the line-up, and the history of the run. Words in quotation marks are the demand's own.
 --
---   operation_at qs q  request q as the sequential specification (document 01: the plain book) sees it
---   promised n         what the specification is to answer to a listed request whose report row has the answer n
---   is_listed row link a request with this report row, which linked at the grant `link` (0: not), is in the line-up
---   Playable           an accepted job: nodes have words, requests are about nodes, grants are for heads
---   Linearized         the demand, one clause a sentence
+--   operation_at qs q    request q as the sequential specification (document 01: the plain book) sees it
+--   promised n           what the specification is to answer to a listed request whose report row has the answer n
+--   is_listed row link   a request with this report row, which linked at the grant `link` (0: not), is in the line-up
+--   Playable             an accepted job: nodes have words, requests are about nodes, grants are for heads
+--   Linearized           the demand, one clause a sentence
 use Rattle.std.specs.Prelude.{◌≡◌, ◌≢◌, ◌↔◌, Bool, true, cond, not, ℕ, ◌<◌, ◌≤◌, eqb, length}
 use mathlib.Core.List.{List, map, Memᴰ}
 use Rattle.job.specs.declared.Answer.{Answer}

@@ -17,7 +17,7 @@ use lib.ListN.{length, get_or, length-map, get_or-eq_default}
 use borrow.Author.Tests.{eq-eqb, ne_eqb}
 use Rattle.basics.specs.Count.{count}
 use Rattle.basics.proofs.Conditions.{split}
-use Rattle.basics.proofs.Lists.{get_d_mapped}
+use Rattle.basics.proofs.Lists.{get_or_mapped}
 use Rattle.basics.proofs.Counts.{count_before}
 use Rattle.basics.proofs.Passing.{passing_many, passing_at}
 use Rattle.linearization.specs.Entry.{Entry, Rising, rises, occurrences}
@@ -146,7 +146,7 @@ module _ (seen : ℕ → Bool) where
       go (yes l) =
           let there = passing_at seen n i l in
           ap (point_in (shown_entries es)) (sym there.counted) ∙ shown_point es _ there.passes
-          ∙ sym (get_d_mapped (point_in es) (seen_numbers seen n) i 0 0 (omega (arith, passing_many seen n)))
+          ∙ sym (get_or_mapped (point_in es) (seen_numbers seen n) i 0 0 (omega (arith, passing_many seen n)))
       go (no l) = shown_past n es inside i (omega arith)
           ∙ sym (get_or-eq_default (map (point_in es) (seen_numbers seen n)) 0
           (omega (arith, length-map (seen_numbers seen n) (point_in es), passing_many seen n)))

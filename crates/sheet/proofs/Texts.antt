@@ -46,7 +46,7 @@ module _ (seen : ℕ → Bool) (report : List Row) where
   lines_rows (suc m) =
       let rows = map (row_at report) (seen_numbers seen m) in
       let more : number_of seen m ≡ 0 + length rows =
-          omega (arith, length-map (seen_numbers seen m) (row_at report), passing_many seen m) in
+      omega (arith, length-map (seen_numbers seen m) (row_at report), passing_many seen m) in
       split (seen m)
       (λ s.
       rw (s, map-append)

@@ -1,17 +1,17 @@
 -- Document 02, A5: what the call for a head's sheet answers and leaves in the lent buffer.
 --
---   run_text seen S        the text of what a run left in the state S
---   text_from origin j h   the text of head h's sheet, of the run of the job j from that start
---   run_in file            the run of an accepted file
---   text_of file h         the text of head h's sheet
---   room_refusal room text 14 where a buffer of that length has no room for the text
---   sheet_refusal          the refusal of a sheet, 0 for none
---   Sheet                  the answer, and the buffer afterwards
---   refused n              the answer of a refusal
---   refusal n out          the sheet that is refused with the number n
---   filled text out        the sheet that is the text
---   written_of text out    one of the two, by the buffer's length
---   sheet_of file h out    the sheet, for any bytes, any head and any buffer
+--   run_text seen S          the text of what a run left in the state S
+--   text_from origin j h     the text of head h's sheet, of the run of the job j from that start
+--   run_in file              the run of an accepted file
+--   text_of file h           the text of head h's sheet
+--   room_refusal room text   14 where a buffer of that length has no room for the text
+--   sheet_refusal            the refusal of a sheet, 0 for none
+--   Sheet                    the answer, and the buffer afterwards
+--   refused n                the answer of a refusal
+--   refusal n out            the sheet that is refused with the number n
+--   filled text out          the sheet that is the text
+--   written_of text out      one of the two, by the buffer's length
+--   sheet_of file h out      the sheet, for any bytes, any head and any buffer
 use Rattle.std.specs.Prelude.{Bool, cond, List, ◌++◌, ℕ, eqb, ltb, leb, length, drop}
 use Rattle.job.specs.Job.{Job}
 use Rattle.listing.specs.declared.Listed.{Listed}

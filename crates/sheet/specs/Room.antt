@@ -1,8 +1,8 @@
 -- Document 02, A5: how long a sheet gets, so that a buffer can be lent that has room for each.
 --
---   request_room, entry_room the most bytes of a request's line and of an entry's
---   most_sheet               the most bytes of a sheet
---   EveryRoom file h         the sheet is no longer, and a buffer with so many bytes is not refused
+--   request_room, entry_room   the most bytes of a request's line and of an entry's
+--   most_sheet                 the most bytes of a sheet
+--   EveryRoom file h           the sheet is no longer, and a buffer with so many bytes is not refused
 use Rattle.std.specs.Prelude.{◌≡◌, List, ℕ, ◌+◌, ◌*◌, ◌≤◌, length}
 use Rattle.job.specs.Job.{most_requests}
 use Rattle.sheet.specs.Call.{text_of, sheet_of}

@@ -61,8 +61,8 @@ fn sheet_for(
     )
 }
 
-// Writes the sheet of one head of a job file into `out`: any bytes, any head, any buffer. It plays the
-// file on buffers for the largest job, and a refusal writes nothing.
+// Writes the sheet of one head of a job file into `out`: any bytes, any head, any buffer. It plays the file on buffers for the
+// largest job, and a refusal writes nothing.
 pub fn grouping_sheet(file: &[u8], head: u32, out: &mut [u8]) -> Listed
     ensures { record { answer = result; out = out.new } ≡ sheet_of file.now head out.old }
 {

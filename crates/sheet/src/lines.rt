@@ -13,7 +13,7 @@ use listing::sections::{put_entry_line, put_request};
 // Writes the line of request q, if it is seen.
 fn put_seen_request(numbers: &[u16], report: &[u32], q: u32, out: &mut [u8], at: usize) -> usize
     requires q_in_bounds { q < length numbers.now }
-    requires q_in_bounds_2 { 4 * (q + 1) ≤ length report.now }
+    requires row_in_bounds { 4 * (q + 1) ≤ length report.now }
     ensures { Wrote (request_line_in numbers.now report.now q) at out.old out.new result }
 {
     let number = numbers[q as usize] as u32;
@@ -26,7 +26,7 @@ fn put_seen_request(numbers: &[u16], report: &[u32], q: u32, out: &mut [u8], at:
 // Writes the lines of the seen requests.
 fn put_requests(numbers: &[u16], report: &[u32], requests: u32, out: &mut [u8], at: usize) -> usize
     requires requests_in_bounds { requests ≤ length numbers.now }
-    requires requests_in_bounds_2 { 4 * requests ≤ length report.now }
+    requires rows_in_bounds { 4 * requests ≤ length report.now }
     ensures { Wrote (each (request_line_in numbers.now report.now) requests) at
         out.old out.new result }
 {
@@ -48,7 +48,7 @@ fn put_seen_entry(
     at: usize,
 ) -> usize
     requires i_in_bounds { 2 * (i + 1) ≤ length linearization.now }
-    requires i_in_bounds_2 { get_or linearization.now (2 * i + 1) 0 < length numbers.now }
+    requires request_in_bounds { get_or linearization.now (2 * i + 1) 0 < length numbers.now }
     ensures { Wrote (entry_line_in numbers.now linearization.now i) at out.old out.new result }
 {
     let base = 2 * (i as usize);

@@ -12,7 +12,7 @@ use mathlib.Core.List.{List, [], ◌∷◌, map}
 use Prim.Native.Nat.{ℕ, zero, suc, ◌+◌, ◌*◌, ◌≤◌, ◌<◌}
 use native.Mathlib.Omega.{arith}
 use lib.ListN.{length, get_or, replicate, length-map}
-use Rattle.basics.proofs.Lists.{get_d_mapped}
+use Rattle.basics.proofs.Lists.{get_or_mapped}
 use Rattle.job.specs.declared.Request.{Request}
 use Rattle.job.specs.declared.Wait.{Wait}
 use Rattle.job.specs.Job.{Job, most_heads}
@@ -46,7 +46,7 @@ length_words n = length-map (fresh n) encode ∙ length_fresh 0 n
 pub fresh_word : (n i : ℕ) → i < n → get_or (map encode (fresh n)) i 0 ≡ first_word i
 fresh_word n i l =
     let same : 0 + i ≡ i = omega arith in
-    get_d_mapped encode (fresh n) i no_node 0 (omega (arith, length_fresh 0 n)) ∙ ap encode (fresh_at 0 n i l) ∙ ap first_word same
+    get_or_mapped encode (fresh n) i no_node 0 (omega (arith, length_fresh 0 n)) ∙ ap encode (fresh_at 0 n i l) ∙ ap first_word same
 
 -- ---- the report
 

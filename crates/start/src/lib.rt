@@ -70,9 +70,8 @@ pub const INDEX_ROOM: usize = 514;
 // For each request the next one of its head, or the number of requests: an index for the grants, in a lent array. It is made
 // from the last request on, with the first request of each head so far.
 #[tactic(auto, using(crate::proofs::Index::few_requests, reader::proofs::Playing::playing_count))]
-pub fn index_requests(file: &[u8], counts: Checked, index: &mut [u16])
-    requires playing { Playing file.now counts }
-    requires room { length index.old ≡ 514 }
+pub fn index_requests(file: &[u8], counts: Checked, index: &mut [u16; INDEX_ROOM])
+    requires { Playing file.now counts }
     ensures { Indexes (requests_in file.now) index.new }
 {
     let requests = counts.requests;
@@ -87,7 +86,7 @@ pub fn index_requests(file: &[u8], counts: Checked, index: &mut [u16])
     }
 }
 
-// The same as an array of its own.
+// The same, in an array of its own that is the result.
 pub fn successors(file: &[u8], counts: Checked) -> [u16; INDEX_ROOM]
     requires { Playing file.now counts }
     ensures { Indexes (requests_in file.now) result }

@@ -1,7 +1,8 @@
 -- What a served grant asks of its parts, and what it leaves, from a state that the buffers show.
 --
 -- Main laws: what each part asks of a grant (ready_raisable, ready_touchable, ready_room, ready_insertable ..);
--- serve_stepped, what the parts leave together; idle_stepped and waiting_stepped, the grant that serves nobody.
+-- serve_stepped, what the parts leave together; idle_stepped and waiting_stepped, the grant that serves nobody; and of the parts
+-- as one record, Parts: parts_renewable, the records that are not looked at again, and parts_grants, the rules' step.
 use mathlib.Core.Path.{◌≡◌, refl, sym, ap, ◌∙◌, subst}
 use mathlib.Core.Logic.{◌≢◌}
 use mathlib.Core.Bool.{Bool, true, false, cond, not}

@@ -62,7 +62,7 @@ above_trans a b =
 
 module _ (count : ℕ) where
   rising_above : (v : Wait) (ws : List Wait) → Rising count v ws → (w : Wait) → Memᴰ w ws → Above v w
-  rising_above v [] rising w x'' = elim x'' [ ]
+  rising_above v [] rising w member = elim member [ ]
   rising_above v (x ∷ ws) rising w (Memᴰ.head same) = rw same (rises_above v x rising.0.rises)
   rising_above v (x ∷ ws) rising w (Memᴰ.tail m) =
       above_trans (rises_above v x rising.0.rises) (rising_above x ws rising.1 w m)
@@ -73,7 +73,7 @@ module _ (count : ℕ) where
       (λ u m same. (rising_above w ws rising.1 u m).earlier (sym same), rising_rises w ws rising.1)
 
   rising_pair : (v : Wait) (ws : List Wait) → Rising count v ws → (w : Wait) → Memᴰ w ws → Pairs count w
-  rising_pair v [] rising w x'' = elim x'' [ ]
+  rising_pair v [] rising w member = elim member [ ]
   rising_pair v (x ∷ ws) rising w (Memᴰ.head same) =
       let p = rising.0 in
       rw same (record { later = p.later; earlier = p.earlier })

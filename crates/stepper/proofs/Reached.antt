@@ -44,7 +44,7 @@ pub record Reached (origin : Start) (qs : List Request) (ws : List Wait) (n : �
 -- ---- the grants of a schedule, one by one
 
 pub below_member : (k h : ℕ) (gs : List ℕ) → ((g none : ℕ) → g < length gs → get_or gs g none < k) → Memᴰ h gs → h < k
-below_member k h [] below x'' = elim x'' [ ]
+below_member k h [] below member = elim member [ ]
 below_member k h (g ∷ gs) below (Memᴰ.head same) = omega (arith, same, below 0 0 (omega arith))
 below_member k h (g ∷ gs) below (Memᴰ.tail m) = below_member k h gs (λ i none l. below (suc i) none (omega arith)) m
 

@@ -11,7 +11,7 @@ use Prim.Native.Nat.{ℕ, ◌+◌, ◌≤◌, ◌<◌}
 use native.Mathlib.Omega.{arith}
 use lib.Dec.{eqb}
 use lib.ListN.{length, get_or, set, length-map}
-use Rattle.basics.proofs.Lists.{get_d_mapped}
+use Rattle.basics.proofs.Lists.{get_or_mapped}
 use Rattle.basics.proofs.Conditions.{split}
 use Rattle.basics.proofs.Taken.{Taken, taken_none, taken_on, taken_all}
 use Rattle.job.specs.declared.Answer.{Answer}
@@ -53,7 +53,7 @@ module _ {b : Bool} {f : Head → Head} {before l : List Head} {k : ℕ} (r : Re
   renewed_on v h is =
       record {
         swept = λ t. taken_on k l v (omega (arith, size)) (is ∙ ap f ((r.swept t).kept k (omega arith))
-            ∙ sym (get_d_mapped f before k (resting 0) (resting 0) (omega (arith, size)))) (r.swept t);
+            ∙ sym (get_or_mapped f before k (resting 0) (resting 0) (omega (arith, size)))) (r.swept t);
         left = λ n. absurd (omega (arith, r.past n));
         past = λ n. omega (arith, r.past n);
       }

@@ -12,7 +12,7 @@ use lib.ListN.{length, get_or, set, drop}
 use lib.Seq.{get_or-set_same, get_or-set_other}
 use borrow.Author.Tests.{eqb-true, eq-eqb, ne_eqb}
 use Rattle.basics.proofs.Conditions.{split, both_left}
-use Rattle.basics.proofs.Lists.{get_d_mapped}
+use Rattle.basics.proofs.Lists.{get_or_mapped}
 use Rattle.job.specs.Job.{answer_number, most_heads}
 use Rattle.job.specs.declared.Request.{Request}
 use Rattle.job.specs.declared.Wait.{Wait}
@@ -77,7 +77,7 @@ pub record_shown : {origin : Start} {qs : List Request} {ws : List Wait} {n : �
     → get_or b.heads h (resting 0) ≡ noted ws S.report (head_at S h)
 record_shown {ws = ws} {S = S} here h present =
     ap (λ c. get_or c.heads h (resting 0)) here.shows
-    ∙ get_d_mapped (noted ws S.report) S.heads h (resting 0) (resting 0) (omega (arith, here.heads))
+    ∙ get_or_mapped (noted ws S.report) S.heads h (resting 0) (resting 0) (omega (arith, here.heads))
 
 module _ {origin : Start} {qs : List Request} {ws : List Wait} {n : ℕ} {b : Buffers} {number : ℕ} {S : State} {past : List Happening}
     {lent : List ℕ} (here : Reached origin qs ws n b number S past lent) (h : ℕ) (present : h < most_heads)

@@ -16,7 +16,7 @@ use lib.ListN.{length, get_or, set}
 use lib.Seq.{get_or-set_other}
 use borrow.Author.Tests.{eq-eqb, ne_eqb, eqb-false}
 use Rattle.basics.proofs.Conditions.{split, cond_both}
-use Rattle.basics.proofs.Lists.{get_d_mapped, set_mapped}
+use Rattle.basics.proofs.Lists.{get_or_mapped, set_mapped}
 use Rattle.job.specs.declared.Wait.{Wait}
 use Rattle.job.specs.Job.{most_heads}
 use Rattle.process.specs.declared.Head.{Head}
@@ -76,7 +76,7 @@ module _ (ws : List Wait) {R R' : List Row} {r : ℕ} (a : Answered R R' r) wher
           let apart : k ≢ h = λ e. true≢false (rw (eq-eqb k h e) at due) in
           let is : after k ≡ noted ws R head =
           get_or-set_other (map (noted ws R) heads) h k next (resting 0) apart
-          ∙ get_d_mapped (noted ws R) heads k (resting 0) (resting 0) (omega (arith, size)) in
+          ∙ get_or_mapped (noted ws R) heads k (resting 0) (resting 0) (omega (arith, size)) in
           let test : eqb (wait_of ws R head) (r + 1) ≡ false =
           ap (λ g. eqb g.task.waits (r + 1)) (sym is) ∙ (rw (ne_eqb k h apart) at due) in
           let other : wait_of ws R head ≢ suc r = λ e. eqb-false (wait_of ws R head) (r + 1) test (e ∙ sym (add-one r)) in

@@ -10,7 +10,7 @@ use rules::Row;
 // The report after one more grant, of that number, for a request.
 pub fn charge_row(report: &mut [u32], request: u16, number: u32, answer: Answer)
     requires request_in_bounds { 4 * request + 4 ≤ length report.old }
-    requires request_bound { (row_in report.old (4 * request)).used < 4294967295 }
+    requires used_bound { (row_in report.old (4 * request)).used < 4294967295 }
     ensures { report.new ≡ stored report.old (4 * request)
         (charge (row_in report.old (4 * request)) number answer) }
 {
@@ -32,8 +32,8 @@ pub fn charge_row(report: &mut [u32], request: u16, number: u32, answer: Answer)
 pub fn enter(linearization: &mut [u32], entries: u32, point: u32, request: u32) -> u32
     requires insertable { point ≢ 0 → Insertable linearization.old entries }
     requires entries_bound { entries < 4294967295 }
-    ensures value { result ≡ cond (eqb point 0) entries (entries + 1) }
-    ensures linearization_after { linearization.new ≡ cond (eqb point 0) linearization.old
+    ensures counted { result ≡ cond (eqb point 0) entries (entries + 1) }
+    ensures entered { linearization.new ≡ cond (eqb point 0) linearization.old
         (inserted linearization.old entries point request) }
 {
     if point == 0 {

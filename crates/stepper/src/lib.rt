@@ -45,7 +45,7 @@ pub struct Granted {
 // The work mask after head h has moved on to request `next`: its bit is cleared where there is none.
 fn work_left(mask: u32, h: u32, next: u16, requests: u32) -> u32
     requires h_bound { h < 32 }
-    requires h_bound_2 { 2 ^ h ≤ mask }
+    requires bit_in_mask { 2 ^ h ≤ mask }
     ensures { result ≡ cond (ltb next requests) mask (mask - 2 ^ h) }
 {
     if (next as u32) < requests {
@@ -119,7 +119,7 @@ fn serve(
 ) -> Granted
     requires grantable { Grantable file.now counts h number (buffers before table.old report.old linearization.old entries mask) }
     requires indexes { Indexes (requests_in file.now) successors.now }
-    requires h_value { eqb (mask / 2 ^ h % 2) 1 ≡ true }
+    requires bit_set { eqb (mask / 2 ^ h % 2) 1 ≡ true }
     ensures { Grants file.now h number
         (buffers before table.old report.old linearization.old entries mask)
         (buffers result.heads table.new report.new linearization.new result.entries result.mask) result.done }

@@ -6,7 +6,7 @@ use mathlib.Core.List.{List, [], ◌∷◌, map}
 use Prim.Native.Nat.{ℕ, suc, ◌<◌}
 use native.Mathlib.Omega.{arith}
 use lib.ListN.{length}
-use Rattle.basics.proofs.Lists.{get_d_mapped}
+use Rattle.basics.proofs.Lists.{get_or_mapped}
 use Rattle.word.specs.declared.Node.{Node}
 use Rattle.word.specs.Word.{rank_of, parent_of, decode, encode}
 use Rattle.word.proofs.Laws.{decode_encode, encode_decode}
@@ -17,7 +17,7 @@ use Rattle.table.specs.Touch.{Worded}
 -- the node of a word that is read
 module _ (words : List ℕ) (i : ℕ) (inside : i < length words) where
   pub at_decoded : at (map decode words) i ≡ decode (word_at words i)
-  at_decoded = get_d_mapped decode words i 0 no_node inside
+  at_decoded = get_or_mapped decode words i 0 no_node inside
 
   pub parent_decoded : parent (map decode words) i ≡ parent_of (word_at words i)
   parent_decoded = ap (λ v. v.parent) at_decoded
@@ -41,3 +41,6 @@ encode_words (word ∷ words) w =
     let first : encode (decode word) ≡ word = encode_decode word (w.rank 0 (omega arith)) (w.parent 0 (omega arith)) in
     let others : map encode (map decode words) ≡ words = encode_words words (worded_tail (decode word) (map decode words) w) in
     λ i. first i ∷ others i
+
+-- What `stepped` is shown by.
+pub ruleset round_trip = (encode_words)

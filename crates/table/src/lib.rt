@@ -101,7 +101,7 @@ fn walk(table: &mut [Word], task: Task, errand: Errand, step: Step, number: u32)
 
 // One grant of a head: the one access of its stage, and where that leads. In a grant no other function reads or writes
 // the table.
-#[tactic(auto, using(crate::proofs::Words::encode_words), unfolding(process::specs::Access::access_of, process::specs::Advance::advance_of))]
+#[tactic(auto, using(crate::proofs::Words::round_trip), unfolding(process::specs::Access::access_of, process::specs::Advance::advance_of))]
 pub fn stepped(table: &mut [Word], head: Head, number: u32) -> Advanced
     requires touchable { Touchable (map decode table.old) (access_of head) }
     requires raisable { Raisable head.stage }

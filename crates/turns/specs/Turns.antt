@@ -1,21 +1,21 @@
 -- The grants of a file: its cursor, one turn, and the tally.
 --
---   Addable t              a tally that can be added to
---   added_of t d n         the tally t after a grant that was d, with n heads that have work left
---   counted_of t d mask    the same, where n is the mask's count of ones
---   runs_of file           the runs of a file
---   schedule_in file       the grants of a file
---   state_at origin file k the rules' state of a file's job after its first k grants, from that start
---   opened_of rs c         the cursor c at a grant
---   taken_of c             the cursor c after a grant
---   remaining rs c         the grants from the cursor c on
---   buffers_of p t r l     the buffers t, r, l with what the play carries
---   StandingAt             the buffers show the state after the grants so far
---   Turnable, Turned       what a turn asks and what it leaves
---   Turns                  what it leaves of buffers that show the grants so far, from any start
---   first_progress hs m    what a play carries before its first grant
---   first_tally m          the tally before the first grant
---   run_of origin j        the rules' run of the job j from that start
+--   Addable t                a tally that can be added to
+--   added_of t d n           the tally t after a grant that was d, with n heads that have work left
+--   counted_of t d mask      the same, where n is the mask's count of ones
+--   runs_of file             the runs of a file
+--   schedule_in file         the grants of a file
+--   state_at origin file k   the rules' state of a file's job after its first k grants, from that start
+--   opened_of rs c           the cursor c at a grant
+--   taken_of c               the cursor c after a grant
+--   remaining rs c           the grants from the cursor c on
+--   buffers_of p t r l       the buffers t, r, l with what the play carries
+--   StandingAt               the buffers show the state after the grants so far
+--   Turnable, Turned         what a turn asks and what it leaves
+--   Turns                    what it leaves of buffers that show the grants so far, from any start
+--   first_progress hs m      what a play carries before its first grant
+--   first_tally m            the tally before the first grant
+--   run_of origin j          the rules' run of the job j from that start
 use Rattle.std.specs.Prelude.{◌≡◌, false, cond, List, ◌++◌, ℕ, ◌+◌, ◌-◌, ◌<◌, eqb, length, get_or, take, drop, replicate}
 use Rattle.std.specs.Int.Count.{ones}
 use Rattle.reader.specs.declared.Checked.{Checked}

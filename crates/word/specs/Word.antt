@@ -1,12 +1,12 @@
 -- Document 01, "Places, words, order": what a word says of its node, and which node comes before which.
 --
---   rank_of w, parent_of w the rank and the parent in the word w
---   decode w, encode n     from a word to its node and back
---   same a b               the nodes a and b have the same rank and the same parent
---   before ra a rb b       node a of rank ra comes before node b of rank rb
---   key r i                rank r and number i of a node as one number, in that order
---   rank_limit, node_limit ranks and node numbers below these have a word
---   most_rank              the highest rank that a node of a table can have
+--   rank_of w, parent_of w   the rank and the parent in the word w
+--   decode w, encode n       from a word to its node and back
+--   same a b                 the nodes a and b have the same rank and the same parent
+--   before ra a rb b         node a of rank ra comes before node b of rank rb
+--   key r i                  rank r and number i of a node as one number, in that order
+--   rank_limit, node_limit   ranks and node numbers below these have a word
+--   most_rank                the highest rank that a node of a table can have
 use Rattle.std.specs.Prelude.{Bool, cond, false, ℕ, ◌+◌, ◌*◌, ◌/◌, ◌%◌, eqb, ltb}
 use Rattle.word.specs.declared.Node.{Node}
 

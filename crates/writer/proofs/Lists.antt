@@ -1,7 +1,6 @@
 -- Lists of numbers that are read so many at a time, as the writer is given them, and what the loops over them keep.
 --
 --   Given A             how records for an A stand in a list of numbers
---   given-some          a list with a record's numbers has a record
 --   Passing g check next none l at before   no record before the position at is refused; `none` stands before the first, and
 --                       `before` before the next
 --   passing_start, passing_stops, passing_on, passing_all   it holds at first, and what it gives at each way out

@@ -72,7 +72,7 @@ fn put_header(out: &mut [u8], nodes: u16, heads: u16)
 fn put_right(out: &mut [u8], at: usize, right: Right)
     requires right_size_in_bounds { at + right_size ≤ length out.old }
     requires head_lt_most_heads { right.head < most_heads }
-    requires rights_bound { right.rights ≤ 3 }
+    requires rights_fit { right.rights ≤ 3 }
     ensures { out.new ≡ sets out.old at (right_bytes right) }
 {
     let low = right.sight % 65536;
@@ -93,9 +93,9 @@ fn put_right(out: &mut [u8], at: usize, right: Right)
 fn put_rights(out: &mut [u8], start: usize, rights: &[u32]) -> usize
     requires rights_in_bounds { start + right_size * length (rights_given rights.now) ≤ length out.old }
     requires rights_len_bound { length (rights_given rights.now) ≤ most_heads }
-    requires rights_value { each_right_refusal most_heads 0 (rights_given rights.now) ≡ 0 }
-    ensures value { result ≡ start + right_size * length (rights_given rights.now) }
-    ensures out_after { out.new ≡ sets out.old start (rights_bytes (rights_given rights.now)) }
+    requires rights_admitted { each_right_refusal most_heads 0 (rights_given rights.now) ≡ 0 }
+    ensures end { result ≡ start + right_size * length (rights_given rights.now) }
+    ensures written { out.new ≡ sets out.old start (rights_bytes (rights_given rights.now)) }
 {
     let mut at = start;
     let mut i = 0;
@@ -111,7 +111,7 @@ fn put_rights(out: &mut [u8], start: usize, rights: &[u32]) -> usize
 #[tactic(auto, using(jobfile::proofs::Refusals::fit, crate::proofs::Stores::request_written))]
 fn put_request(out: &mut [u8], at: usize, fields: Fields)
     requires request_size_in_bounds { at + request_size ≤ length out.old }
-    requires fields_value { fields_refusal most_nodes most_heads fields ≡ 0 }
+    requires fields_admitted { fields_refusal most_nodes most_heads fields ≡ 0 }
     ensures { out.new ≡ sets out.old at (request_bytes (request_of fields)) }
 {
     put_record(
@@ -129,9 +129,9 @@ fn put_request(out: &mut [u8], at: usize, fields: Fields)
 #[tactic(auto, using(crate::proofs::Stores::storing_ends))]
 fn put_requests(out: &mut [u8], start: usize, requests: &[u32]) -> usize
     requires requests_in_bounds { start + request_size * length (fields_of requests.now) ≤ length out.old }
-    requires requests_value { each_refusal most_nodes most_heads [] (fields_of requests.now) ≡ 0 }
-    ensures value { result ≡ start + request_size * length (fields_of requests.now) }
-    ensures out_after { out.new ≡ sets out.old start (requests_bytes (map request_of (fields_of requests.now))) }
+    requires requests_admitted { each_refusal most_nodes most_heads [] (fields_of requests.now) ≡ 0 }
+    ensures end { result ≡ start + request_size * length (fields_of requests.now) }
+    ensures written { out.new ≡ sets out.old start (requests_bytes (map request_of (fields_of requests.now))) }
 {
     let mut at = start;
     let mut i = 0;
@@ -156,9 +156,9 @@ fn put_wait(out: &mut [u8], at: usize, wait: Wait)
 #[tactic(auto, using(crate::proofs::Stores::storing_ends))]
 fn put_waits(out: &mut [u8], start: usize, waits: &[u32]) -> usize
     requires waits_in_bounds { start + wait_size * length (pairs_of waits.now) ≤ length out.old }
-    requires waits_value { pairs_refusal most_requests no_pair (pairs_of waits.now) ≡ 0 }
-    ensures value { result ≡ start + wait_size * length (pairs_of waits.now) }
-    ensures out_after { out.new ≡ sets out.old start (waits_bytes (pairs_of waits.now)) }
+    requires waits_admitted { pairs_refusal most_requests no_pair (pairs_of waits.now) ≡ 0 }
+    ensures end { result ≡ start + wait_size * length (pairs_of waits.now) }
+    ensures written { out.new ≡ sets out.old start (waits_bytes (pairs_of waits.now)) }
 {
     let mut at = start;
     let mut i = 0;
@@ -182,8 +182,8 @@ fn put_run(out: &mut [u8], at: usize, run: Run)
 // Writes the longest runs of the grants, and gives the position behind them.
 fn put_runs(out: &mut [u8], start: usize, grants: &[u8]) -> usize
     requires { start + run_size * length (longest_runs grants.now) ≤ length out.old }
-    ensures value { result ≡ start + run_size * length (longest_runs grants.now) }
-    ensures out_after { out.new ≡ sets out.old start (runs_bytes (longest_runs grants.now)) }
+    ensures end { result ≡ start + run_size * length (longest_runs grants.now) }
+    ensures written { out.new ≡ sets out.old start (runs_bytes (longest_runs grants.now)) }
 {
     let mut at = start;
     let mut i = 0;

@@ -1,7 +1,6 @@
 -- `bounds::limits_of`: what no job has is refused; else the leading zeros give the logarithm, and no sum is too large.
-use Rattle.std.proofs.Common.{◌≡◌, ℕ, ◌<◌, arith, sym, ◌∙◌}
+use Rattle.std.proofs.Common.{◌≡◌, ℕ, ◌<◌, arith, sym, ◌∙◌, ne_eqb}
 use lib.Count.{count_leading_zeros, leading_top}
-use borrow.Author.Tests.{ne_eqb}
 use Rattle.jobfile.proofs.Refusals.{Sized, sized}
 use Rattle.rules.proofs.Bounds.{levels_logarithm}
 use Rattle.bounds.specs.Bounds.{refusal_of, limits_of}

@@ -19,8 +19,8 @@ returns-then-counts-ne0 c =
       bounded = end.bounded;
     }
 
-pub index_requests-requires-clause-playing : goal.index_requests-requires-clause-playing
-index_requests-requires-clause-playing c =
+pub index_requests-requires : goal.index_requests-requires
+index_requests-requires c =
     let a = c.args in
     let made = c.prepare-plan in
     (lending_start (entry a.file.now a.table.now a.report.now a.linearization.now) _ _ _ made.result made.ensures.1 made.ensures.0

@@ -12,24 +12,24 @@ use Rattle.reader.proofs.check_records.Goals.{After-read_runs-runs, After-close_
 
 rights : (c : After-read_rights-rights) → RightsRead c.args.file.now c.read_rights-rights.result
 rights c =
-    rights_told_lem (c.requires.file_len_bound, c.requires.file_value) c.word_at-heads.ensures c.read_rights-rights.ensures
+    rights_told_lem (c.requires.file_len_bound, c.requires.header_admitted) c.word_at-heads.ensures c.read_rights-rights.ensures
 
 requests : (c : After-read_requests-requests) → RequestsRead c.args.file.now c.read_rights-rights.result c.read_requests-requests.result
 requests c =
-    let g = rights_told_lem (c.requires.file_len_bound, c.requires.file_value) c.word_at-heads.ensures c.read_rights-rights.ensures in
+    let g = rights_told_lem (c.requires.file_len_bound, c.requires.header_admitted) c.word_at-heads.ensures c.read_rights-rights.ensures in
     requests_told g c.if-rights-ne0.false c.word_at-nodes.ensures c.word_at-heads.ensures c.read_requests-requests.ensures
 
 waits : (c : After-read_waits-waits)
     → WaitsRead c.args.file.now c.read_rights-rights.result c.read_requests-requests.result c.read_waits-waits.result
 waits c =
-    let g = rights_told_lem (c.requires.file_len_bound, c.requires.file_value) c.word_at-heads.ensures c.read_rights-rights.ensures in
+    let g = rights_told_lem (c.requires.file_len_bound, c.requires.header_admitted) c.word_at-heads.ensures c.read_rights-rights.ensures in
     let q = requests_told g c.if-rights-ne0.false c.word_at-nodes.ensures c.word_at-heads.ensures c.read_requests-requests.ensures in
     waits_told q c.if-requests-ne0.false c.request_place-waits_start.ensures c.read_waits-waits.ensures
 
 runs : (c : After-read_runs-runs)
     → RunsRead c.args.file.now c.read_rights-rights.result c.read_requests-requests.result c.read_waits-waits.result c.read_runs-runs.result
 runs c =
-    let g = rights_told_lem (c.requires.file_len_bound, c.requires.file_value) c.word_at-heads.ensures c.read_rights-rights.ensures in
+    let g = rights_told_lem (c.requires.file_len_bound, c.requires.header_admitted) c.word_at-heads.ensures c.read_rights-rights.ensures in
     let q = requests_told g c.if-rights-ne0.false c.word_at-nodes.ensures c.word_at-heads.ensures c.read_requests-requests.ensures in
     let w = waits_told q c.if-requests-ne0.false c.request_place-waits_start.ensures c.read_waits-waits.ensures in
     runs_told w c.if-waits-ne0.false c.word_at-heads.ensures c.wait_place-runs_start.ensures c.read_runs-runs.ensures
@@ -38,7 +38,7 @@ close : (c : After-close_refusal-number)
     → CloseRead c.args.file.now c.read_rights-rights.result c.read_requests-requests.result c.read_waits-waits.result
     c.read_runs-runs.result c.close_refusal-number.result
 close c =
-    let g = rights_told_lem (c.requires.file_len_bound, c.requires.file_value) c.word_at-heads.ensures c.read_rights-rights.ensures in
+    let g = rights_told_lem (c.requires.file_len_bound, c.requires.header_admitted) c.word_at-heads.ensures c.read_rights-rights.ensures in
     let q = requests_told g c.if-rights-ne0.false c.word_at-nodes.ensures c.word_at-heads.ensures c.read_requests-requests.ensures in
     let w = waits_told q c.if-requests-ne0.false c.request_place-waits_start.ensures c.read_waits-waits.ensures in
     let r = runs_told w c.if-waits-ne0.false c.word_at-heads.ensures c.wait_place-runs_start.ensures c.read_runs-runs.ensures in
@@ -46,7 +46,7 @@ close c =
 
 pub read_rights-rights-requires-clause-job_size_in_bounds : goal.read_rights-rights-requires-clause-job_size_in_bounds
 read_rights-rights-requires-clause-job_size_in_bounds c =
-    (header_passed _ c.requires.file_value).whole
+    (header_passed _ c.requires.header_admitted).whole
 
 pub returns-then-rights-ne0 : goal.returns-then-rights-ne0
 returns-then-rights-ne0 c =

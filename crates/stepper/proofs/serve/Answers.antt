@@ -1,6 +1,7 @@
 -- Each part asks what the state shown grants it, and the parts together make the rules' step; a head that waits is left as it is.
--- After the access the heads' records are as the report wants them, one after the other.
-use Rattle.std.proofs.Common.{◌≡◌, set, cond, map, List, sym, ◌∙◌, arith}
+-- After the access the heads' records are as the report wants them, one after the other. The test for a wait is found and not
+-- named, so that a wrong test is refused by the goals.
+use Rattle.std.proofs.Common.{◌≡◌, set, cond, map, List, ◌∙◌, arith, rules}
 use Rattle.job.specs.Job.{most_heads}
 use Rattle.process.specs.declared.Head.{Head}
 use Rattle.stepper.specs.Buffers.{rows_of}
@@ -27,12 +28,12 @@ parts : (c : After-first_due-k)
     c.enter-listed.result c.work_left-work.result c.settled_head-next.result
 parts c =
     record {
-      service = service_of c.requires.grantable c.requires.h_value c.if-is_waiting.ensures c.ready_head-head.ensures;
+      service = service_of c.requires.grantable c.requires.bit_set (search rules) c.ready_head-head.ensures;
       moves = c.stepped-moved.ensures.leads;
       touches = c.stepped-moved.ensures.leaves;
       charges = c.charge_row.ensures;
-      enters = c.enter-listed.ensures.linearization_after;
-      counted = c.enter-listed.ensures.value;
+      enters = c.enter-listed.ensures.entered;
+      counted = c.enter-listed.ensures.counted;
       settles = c.settled_head-next.ensures;
       masks = c.work_left-work.ensures;
     }
@@ -52,20 +53,20 @@ pub returns-then-is_waiting : goal.returns-then-is_waiting
 returns-then-is_waiting c =
     λ origin gs lent standing.
     let ready = c.requires.grantable in
-    waiting_stepped ready.playing ready.head standing c.idled.result c.idled.ensures (sym c.if-is_waiting.ensures)
+    waiting_stepped ready.playing ready.head standing c.idled.result c.idled.ensures (search rules)
 
 pub ready_head-head-requires-clause-request_lt_requests : goal.ready_head-head-requires-clause-request_lt_requests
 ready_head-head-requires-clause-request_lt_requests c =
-    ready_next c.requires.grantable c.requires.h_value (sym c.if-is_waiting.ensures)
+    ready_next c.requires.grantable c.requires.bit_set (search rules)
 
 pub stepped-moved-requires : goal.stepped-moved-requires
 stepped-moved-requires c =
-    let s = service_of c.requires.grantable c.requires.h_value c.if-is_waiting.ensures c.ready_head-head.ensures in
+    let s = service_of c.requires.grantable c.requires.bit_set (search rules) c.ready_head-head.ensures in
     record { touchable = ready_touchable s; raisable = ready_raisable s }
 
 pub settled_head-next-requires : goal.settled_head-next-requires
 settled_head-next-requires c =
-    let s = service_of c.requires.grantable c.requires.h_value c.if-is_waiting.ensures c.ready_head-head.ensures in
+    let s = service_of c.requires.grantable c.requires.bit_set (search rules) c.ready_head-head.ensures in
     record {
       playing = c.requires.grantable.playing;
       indexed = c.requires.indexes;
@@ -75,12 +76,12 @@ settled_head-next-requires c =
 
 pub charge_row-requires : goal.charge_row-requires
 charge_row-requires c =
-    let s = service_of c.requires.grantable c.requires.h_value c.if-is_waiting.ensures c.ready_head-head.ensures in
-    record { request_in_bounds = ready_room s; request_bound = ready_used s (omega arith) }
+    let s = service_of c.requires.grantable c.requires.bit_set (search rules) c.ready_head-head.ensures in
+    record { request_in_bounds = ready_room s; used_bound = ready_used s (omega arith) }
 
 pub enter-listed-requires : goal.enter-listed-requires
 enter-listed-requires c =
-    let s = service_of c.requires.grantable c.requires.h_value c.if-is_waiting.ensures c.ready_head-head.ensures in
+    let s = service_of c.requires.grantable c.requires.bit_set (search rules) c.ready_head-head.ensures in
     record { insertable = ready_insertable s _ c.stepped-moved.ensures.leads; entries_bound = ready_small s }
 
 pub returns-then-at-lt-HALF : goal.returns-then-at-lt-HALF
@@ -99,7 +100,7 @@ loop-k-init c = renewed_start _ _ _ _ c.first_due-k.ensures
 
 pub renewed_head-requires : goal.renewed_head-requires
 renewed_head-requires c =
-    let s = service_of c.requires.grantable c.requires.h_value c.if-is_waiting.ensures c.ready_head-head.ensures in
+    let s = service_of c.requires.grantable c.requires.bit_set (search rules) c.ready_head-head.ensures in
     record {
       playing = c.requires.grantable.playing;
       requests_in_bounds = ready_rows s.asked _ _ _ c.charge_row.ensures;

@@ -1,4 +1,6 @@
-use Rattle.std.proofs.Common.{◌≡◌, ℕ, ◌+◌, ◌≤◌, List, ◌++◌, rules, length, take, drop, sym, ap, ◌∙◌, subst, le_refl, drop_at, length-take-le}
+-- `input::read_input`: what one read gave stands behind what was read before it.
+use Rattle.std.proofs.Common.{◌≡◌, ℕ, ◌+◌, ◌≤◌, List, ◌++◌, rules, length, take, drop, sym, ap, ◌∙◌, subst, le_refl, drop_at}
+use Rattle.std.proofs.Common.{length-take-le}
 use Rattle.std.proofs.lemmas.Slice.{take-put_mid_below}
 use Rattle.std.specs.Io.KnownBytes.{Consumes}
 use Rattle.std.proofs.KnownBytes.{Consumes-trans}
@@ -14,8 +16,12 @@ take_read a k n xs ys within fits =
     ∙ ap (λ l. take a xs ++ take n l) (drop_at (take a xs) (ys ++ post_of a k xs) a (length-take-le a xs within))
     ∙ ap (λ l. take a xs ++ l) (take-append-le n ys (post_of a k xs) fits)
 
--- src/input.rt:42:5
 pub loop-done-preserved : goal.loop-done-preserved
 loop-done-preserved g c =
-    let read = take_read _ _ _ c.loop-done.buffer c.read_some-some.new.buffer c.loop-done.invariant.0 c.read_some-some.ensures.bytes_in_bounds in
-    (search rules, search rules, subst (Consumes _ _) (sym read) (Consumes-trans _ _ _ _ _ c.loop-done.invariant.2 (c.read_some-some.ensures.consumed c.if-some.false)))
+    let some = c.read_some-some in
+    let before = c.loop-done.invariant in
+    let read = take_read _ _ _ c.loop-done.buffer some.new.buffer before.0 some.ensures.bytes_in_bounds in (
+      search rules,
+      search rules,
+      subst (Consumes _ _) (sym read) (Consumes-trans _ _ _ _ _ before.2 (some.ensures.consumed c.if-some.false)),
+    )

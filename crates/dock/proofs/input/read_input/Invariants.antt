@@ -1,3 +1,4 @@
+-- `input::read_input`: what was read so far stands at the start of the buffer, which keeps its length.
 use Rattle.std.proofs.Common.{length, ◌-◌, ◌≡◌, ◌≤◌, take}
 use Rattle.std.specs.Io.KnownBytes.{Consumes}
 use Rattle.dock.proofs.input.read_input.Given as goal

@@ -1,5 +1,5 @@
 -- `build::balance` adds one byte a turn and keeps the sum below 65,536.
-use Rattle.std.proofs.Common.{length, ◌-◌, ◌≤◌, ◌≡◌}
+use Rattle.std.proofs.Common.{length, ◌-◌, ◌≤◌}
 use Rattle.edges.proofs.build.balance.Given as goal
 
 abbrev pub invariant-loop-i : goal.invariant-loop-i

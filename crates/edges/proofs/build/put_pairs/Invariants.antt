@@ -1,5 +1,5 @@
 -- `build::put_pairs` stores one pair a turn, and the buffers keep their lengths.
-use Rattle.std.proofs.Common.{length, ◌-◌, ◌≤◌, ◌≡◌}
+use Rattle.std.proofs.Common.{length, ◌-◌, ◌≡◌}
 use Rattle.edges.proofs.build.put_pairs.Given as goal
 
 abbrev pub invariant-loop-i : goal.invariant-loop-i

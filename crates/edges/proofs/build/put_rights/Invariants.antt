@@ -1,5 +1,5 @@
 -- `build::put_rights` stores one right a turn, and the buffers keep their lengths.
-use Rattle.std.proofs.Common.{length, ◌-◌, ◌≤◌, ◌≡◌}
+use Rattle.std.proofs.Common.{length, ◌-◌, ◌≡◌}
 use Rattle.edges.proofs.build.put_rights.Given as goal
 
 abbrev pub invariant-loop-head : goal.invariant-loop-head

@@ -1,5 +1,5 @@
 -- `play::play` goes from row to row.
-use Rattle.std.proofs.Common.{length, ◌-◌, ◌≤◌, ◌≡◌}
+use Rattle.std.proofs.Common.{length, ◌-◌, ◌≤◌}
 use Rattle.edges.proofs.play.play.Given as goal
 
 abbrev pub invariant-loop-from : goal.invariant-loop-from

@@ -1,5 +1,5 @@
 -- `text::decimal` goes through the digits.
-use Rattle.std.proofs.Common.{length, ◌-◌, ◌≤◌, ◌≡◌}
+use Rattle.std.proofs.Common.{length, ◌-◌, ◌≤◌}
 use Rattle.edges.proofs.text.decimal.Given as goal
 
 abbrev pub invariant-loop-i : goal.invariant-loop-i

@@ -1,5 +1,5 @@
 -- `text::find_behind` passes what is not the character, or is too early, and ends at it or at the end.
-use Rattle.std.proofs.Common.{length, ◌-◌, ◌≤◌, ◌≡◌}
+use Rattle.std.proofs.Common.{length, ◌-◌, ◌≤◌}
 use Rattle.edges.proofs.text.find_behind.Given as goal
 
 abbrev pub invariant-loop-i : goal.invariant-loop-i

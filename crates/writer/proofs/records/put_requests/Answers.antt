@@ -8,6 +8,6 @@ pub loop-i-preserved : goal.loop-i-preserved
 loop-i-preserved c =
     requests_stored_on c.loop-i.invariant _ c.fields_at.ensures (omega arith) _ c.put_request.ensures
 
-pub returns-clause-value : goal.returns-clause-value
-returns-clause-value c =
+pub returns-clause-end : goal.returns-clause-end
+returns-clause-end c =
     rw length-map at (stored_end c.loop-i.invariant.storing (requests_over c.args.requests.now c.loop-i.i (omega arith)))

@@ -7,8 +7,8 @@ pub put_right-requires-clause-head_lt_most_heads : goal.put_right-requires-claus
 put_right-requires-clause-head_lt_most_heads c =
     (given_fits c.loop-i.invariant _ c.right_at.ensures (omega arith)).head
 
-pub put_right-requires-clause-rights_bound : goal.put_right-requires-clause-rights_bound
-put_right-requires-clause-rights_bound c =
+pub put_right-requires-clause-rights_fit : goal.put_right-requires-clause-rights_fit
+put_right-requires-clause-rights_fit c =
     (given_fits c.loop-i.invariant _ c.right_at.ensures (omega arith)).rights
 
 pub loop-i-preserved : goal.loop-i-preserved

@@ -13,7 +13,7 @@ loop-i-init c =
     record {
       within = omega arith;
       storing = record { size = refl; place = refl; same = refl };
-      fits = rising_each most_requests no_pair ws (rising_checked most_requests no_pair ws c.requires.waits_value);
+      fits = rising_each most_requests no_pair ws (rising_checked most_requests no_pair ws c.requires.waits_admitted);
     }
 
 pub put_wait-requires-clause-pairs : goal.put_wait-requires-clause-pairs
