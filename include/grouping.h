@@ -20,7 +20,8 @@
  * included. A program that finds these two only when they are first called (gcc's default; -z now or -static find them
  * at the start) needs about 4 KB more in that first call, for the loader.
  *
- * Link target/libgrouping.a, which tools/library makes (x86-64). The header is C11 or C++11, and later. */
+ * Link target/libgrouping.a, which tools/library makes for x86-64-v2 (SSE4.2, POPCNT). The header is C11 or C++11, and
+ * later. */
 #ifndef GROUPING_H
 #define GROUPING_H
 

@@ -70,6 +70,7 @@ fn missing(place: &str, names: &str) -> Vec<String> {
                     text.contains(&format!("{item} {name}("))
                         || text.contains(&format!("{item} {name} "))
                         || text.contains(&format!("{item} {name}:"))
+                        || text.contains(&format!("{item} {name}<"))
                 })
             })
         }
