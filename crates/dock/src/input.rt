@@ -39,6 +39,8 @@ pub fn read_input<R: Read>(reader: &mut R, buffer: &mut [u8]) -> Input
     ensures bytes_in_bounds { result.bytes ≤ length buffer.new }
     ensures holds { result.failed ≡ false
         → IfSome (R.remaining reader.old) (λ input. Holds input buffer.new result.bytes) }
+    ensures consumed { result.failed ≡ false
+        → Consumes (R.remaining reader.old) (R.remaining reader.new) (take result.bytes buffer.new) }
 {
     let mut done: usize = 0;
     while done < buffer.len() {

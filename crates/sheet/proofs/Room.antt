@@ -7,7 +7,7 @@
 use mathlib.Core.Path.{refl, sym, ap, ◌∙◌, subst}
 use mathlib.Core.Bool.{Bool, cond}
 use mathlib.Core.List.{List, [], ◌∷◌, Memᴰ}
-use Prim.Native.Nat.{ℕ, suc, ◌*◌, ◌≤◌, ◌<◌}
+use Prim.Native.Nat.{ℕ, ◌*◌, ◌≤◌, ◌<◌}
 use native.Mathlib.Omega.{arith}
 use lib.Dec.{eqb}
 use lib.ListN.{length, length-append}
@@ -30,12 +30,12 @@ use Rattle.rules.specs.Report.{row_at}
 use Rattle.rules.specs.State.{request_at}
 use Rattle.rules.specs.Run.{Happening}
 use Rattle.rules.specs.Run.Happening.{idle, serving}
-use Rattle.rules.specs.History.{count_where, answer_of, row_of, link_of, point_of, is_of, ends_find_of, links_for}
+use Rattle.rules.specs.History.{answer_of, row_of, link_of, point_of, is_of, ends_find_of, links_for}
 use Rattle.rules.proofs.History.{last_bound, row_last_bound, row_first_bound}
 use Rattle.rules.proofs.Invariant.{Invariant}
 use Rattle.rules.proofs.Theorem.{invariant_linearized}
 use Rattle.stepper.proofs.Reached.{admitted_granted, after_now}
-use Rattle.stepper.proofs.Needs.{invariant_few}
+use Rattle.stepper.proofs.Needs.{invariant_few, count_bound}
 use Rattle.player.specs.Player.{origin_in}
 use Rattle.player.specs.Demand.{history_of}
 use Rattle.player.proofs.Demand.{run_ended, origin_initial}
@@ -115,11 +115,6 @@ module _ (seen : ℕ → Bool) where
       omega (arith, length-append first (entry_lines seen es), line_here, rest)
 
 -- ---- no number of a history is beyond its length
-
-count_bound : (f : Happening → Bool) (past : List Happening) → count_where f past ≤ length past
-count_bound f [] = omega arith
-count_bound f (a ∷ past) =
-    cond_both (λ k. k ≤ suc (length past)) (f a) (omega (arith, count_bound f past)) (omega (arith, count_bound f past))
 
 answer_small : (a : Answer) → answer_number a < 10
 answer_small Unfinished = omega arith

@@ -11,4 +11,5 @@ pub mod Waiting
 pub mod Reached
 pub mod Served
 pub mod Needs
+pub mod Parts
 pub mod Known

@@ -7,9 +7,10 @@ use Rattle.process.specs.declared.Head.{Head}
 use Rattle.stepper.specs.Buffers.{rows_of}
 use Rattle.stepper.specs.Shown.{buffers, waits_in, noted}
 use Rattle.stepper.specs.Waits.{frees}
-use Rattle.stepper.proofs.Needs.{service_of, Parts, parts_grants, parts_renewable, waiting_stepped, ready_next}
-use Rattle.stepper.proofs.Needs.{ready_records, ready_rows, ready_small, ready_raisable, ready_touchable, ready_number}
-use Rattle.stepper.proofs.Needs.{ready_room, ready_used, ready_insertable, ready_moved, ready_own}
+use Rattle.stepper.proofs.Needs.{waiting_stepped}
+use Rattle.stepper.proofs.Parts.{service_of, Parts, parts_grants, parts_renewable, ready_next, ready_records, ready_rows}
+use Rattle.stepper.proofs.Parts.{ready_small, ready_raisable, ready_touchable, ready_number, ready_room, ready_used}
+use Rattle.stepper.proofs.Parts.{ready_insertable, ready_moved, ready_own}
 use Rattle.stepper.proofs.Renewed.{renewed_start, renewed_some, renewed_here, renewed_on, renewed_end, frees_final, renewed_noted}
 use Rattle.stepper.proofs.serve.Goals as goal
 use Rattle.stepper.proofs.serve.Goals.{After-first_due-k}
