@@ -3,16 +3,15 @@
 --   get_or_mapped   what stands at a place of the mapped list
 --   set_mapped     a store in the mapped list is the map of a store
 --   get_or_set_each what holds at every place, and of what is stored, holds at every place after the store
---   get_or_sets_in, get_or_sets_below   what stands at a place after several stores in a row: among them, or before them
 --   length_three   the length of three pieces
 --   take_next      one element more: what a loop over a list adds in a turn
-use mathlib.Core.Path.{◌≡◌, refl, ap, ◌∙◌}
+use mathlib.Core.Path.{◌≡◌, refl, ap}
 use mathlib.Core.List.{List, [], ◌∷◌, ◌++◌, map}
-use Prim.Native.Nat.{ℕ, zero, suc, ◌+◌, ◌≤◌, ◌<◌}
+use Prim.Native.Nat.{ℕ, zero, suc, ◌+◌, ◌<◌}
 use native.Mathlib.Numerals.{add-one}
 use native.Mathlib.Omega.{arith}
-use lib.ListN.{length, get_or, set, take, length-append, length-set}
-use lib.Seq.{sets, take-suc, get_or-set_same, get_or-set_other}
+use lib.ListN.{length, get_or, set, take, length-append}
+use lib.Seq.{take-suc}
 
 module _ {A B : Type 0} (f : A → B) where
   pub get_or_mapped : (l : List A) (i : ℕ) (d : A) (e : B) → i < length l → get_or (map f l) i e ≡ f (get_or l i d)
@@ -33,21 +32,6 @@ module _ {A : Type 0} where
   get_or_set_each P (a ∷ l) zero v d new each (suc j) = each (suc j)
   get_or_set_each P (a ∷ l) (suc i) v d new each zero = each 0
   get_or_set_each P (a ∷ l) (suc i) v d new each (suc j) = get_or_set_each P l i v d new (λ k. each (suc k)) j
-
-  pub get_or_sets_below : (vs l : List A) (i j : ℕ) (d : A) → j < i → get_or (sets l i vs) j d ≡ get_or l j d
-  get_or_sets_below [] l i j d h = refl
-  get_or_sets_below (v ∷ vs) l i j d h =
-      get_or_sets_below vs (set l i v) (suc i) j d (omega arith) ∙ get_or-set_other l i j v d (λ e. omega arith)
-
-  pub get_or_sets_in : (vs l : List A) (i j : ℕ) (d : A) → j < length vs → i + length vs ≤ length l
-      → get_or (sets l i vs) (i + j) d ≡ get_or vs j d
-  get_or_sets_in [] l i j d h k = absurd (omega arith)
-  get_or_sets_in (v ∷ vs) l i zero d h k =
-      let start : i + 0 ≡ i = omega arith in
-      rw start (get_or_sets_below vs (set l i v) (suc i) i d (omega arith) ∙ get_or-set_same l i v d (omega arith))
-  get_or_sets_in (v ∷ vs) l i (suc j) d h k =
-      let next : i + suc j ≡ suc i + j = omega arith in
-      rw next (get_or_sets_in vs (set l i v) (suc i) j d (omega arith) (simp length-set (omega arith)))
 
 pub length_three : (a b c : List ℕ) → length (a ++ (b ++ c)) ≡ length a + length b + length c
 length_three a b c = omega (arith, length-append a (b ++ c), length-append b c)

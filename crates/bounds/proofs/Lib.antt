@@ -1,2 +1,3 @@
--- The cases of limits hold.
+-- A refusal told, and the cases of limits hold.
+mod Refusals
 pub mod Cases

@@ -1,3 +1,4 @@
--- The limits of requests on a number of places, and cases of them.
+-- The limits of requests on a number of places, what planners are told of them, and cases of them.
 pub mod Bounds
+pub mod Told
 pub mod Cases

@@ -8,6 +8,7 @@ ghost use Rattle.job.specs.Job.{most_nodes};
 ghost use Rattle.chain.specs.Chain.{linked};
 
 use job::MOST_NODES;
+use query::Queried;
 use word::Word;
 
 // Fills a table: each word has rank 0 and the next node as its parent, and the last node is the root.
@@ -17,19 +18,15 @@ fn link_up(table: &mut [Word])
 {
     let last = table.len() - 1;
     table[last] = last as Word;
-    let mut i = last;
-    while 0 < i {
-        table[i - 1] = i as Word;
-        i -= 1;
+    for i in (0..last).rev() {
+        table[i] = (i + 1) as Word;
     }
 }
 
 fn main(rt: HostRuntime) {
     let mut table = [0; MOST_NODES];
     link_up(&mut table);
-    let told = query::query(&mut table, 0, 1, 65535);
-    let answer = told.answer;
-    let used = told.used;
+    let Queried { answer, used, .. } = Queried::from(query::query(&mut table, 0, 1, 65535));
     // A line that can't be written is left out: what is printed is held against the stored line.
     let _ = println!(rt; "{answer} {used}");
 }

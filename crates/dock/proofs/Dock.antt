@@ -1,18 +1,20 @@
 -- Every play can be printed: its buffers hold what its text shows, and the text fits into `longest` bytes.
 --
 --   PrintableLeft left   `Printable`, of what a play left
-use mathlib.Core.Path.{◌≡◌, sym, ap, ◌∙◌, subst}
+use mathlib.Core.Path.{◌≡◌, refl, sym, ap, ◌∙◌, subst}
 use mathlib.Core.Bool.{false}
 use mathlib.Core.List.{List, map}
 use Prim.Native.Nat.{ℕ, ◌*◌, ◌≤◌}
 use native.Mathlib.Omega.{arith}
 use lib.Dec.{eqb}
-use lib.ListN.{length, take, drop, replicate, length-append, length-map}
-use lib.Seq.{length-take-le}
+use lib.ListN.{length, drop, replicate, length-append, length-map}
 use borrow.Author.Tests.{eqb-true, le-ltb}
+use Rattle.std.proofs.Common.{Result, Ok, Err}
+use Rattle.std.specs.Result.{result_unwrap_or}
 use Rattle.basics.proofs.Conditions.{split}
 use Rattle.job.specs.Job.{most_nodes, most_requests}
 use Rattle.job.specs.declared.Played.{Played}
+use Rattle.job.specs.declared.refusal.Refusal.{Refusal}
 use Rattle.word.specs.Word.{encode}
 use Rattle.linearization.specs.Entry.{flat}
 use Rattle.linearization.proofs.Numbers.{length_flat}
@@ -26,9 +28,8 @@ use Rattle.stepper.proofs.Needs.{invariant_few}
 use Rattle.turns.specs.Turns.{run_of}
 use Rattle.player.specs.Player.{Left, cut_of, origin_in, lent_refusal, play_refusal, played_of}
 use Rattle.player.proofs.Demand.{run_ended, origin_initial}
-use Rattle.listing.specs.declared.Listed.{Listed}
-use Rattle.listing.specs.Listing.{listing, sources_short, listed, printed}
-use Rattle.listing.proofs.Listing.{Fitting, listing_lines_lem}
+use Rattle.listing.specs.Listing.{listing, sources_short, listed, listed_told, printed}
+use Rattle.listing.proofs.Listing.{Fitting, listing_short}
 use Rattle.dock.specs.Dock.{text_of, output, longest, Put, Printable}
 
 -- ---- what a play leaves
@@ -89,42 +90,48 @@ printable file table report linearization bytes =
 
 -- ---- its text
 
+told_bytes : (answer : Result ℕ Refusal) → result_unwrap_or answer 0 ≡ (listed_told answer).bytes
+told_bytes (Ok bytes) = refl
+told_bytes (Err refusal) = refl
+
 module _ (played : Played) (table report linearization out : List ℕ) (printable : Printable played table report linearization)
     (room : longest ≤ length out) (fitting : Fitting played table report linearization) where
   abbrev text : List ℕ
   text = listing played table report linearization
 
   text_fits : length text ≤ length out
-  text_fits = omega (arith, listing_lines_lem played table report linearization fitting, printable.lines, room)
+  text_fits = omega (arith, listing_short played table report linearization fitting, printable.lines, room)
 
   long_enough : sources_short played table report linearization ≡ false
   long_enough =
       let enough = printable.enough in
       simp (le-ltb _ _ enough.words, le-ltb _ _ enough.requests, le-ltb _ _ enough.entries)
 
-  pub put_whole : (answer : Listed) (after : List ℕ)
-      → answer ≡ listed played table report linearization out
+  -- so that the listing answers with the text's length
+  pub put_whole : (answer : Result ℕ Refusal) (bytes : ℕ) (after : List ℕ)
+      → bytes ≡ result_unwrap_or answer 0
+      → listed_told answer ≡ listed played table report linearization out
       → after ≡ printed played table report linearization out
-      → Put text out after answer.bytes
+      → Put text out after bytes
   unfolding listed printed
-  put_whole answer after told left =
+  put_whole answer bytes after is told left =
       record {
-        counted = ap (λ a. a.bytes) told ∙ rw (long_enough, le-ltb _ _ text_fits);
+        counted = is ∙ told_bytes answer ∙ ap (λ a. a.bytes) told ∙ rw (long_enough, le-ltb _ _ text_fits);
         stored = left ∙ rw (long_enough, le-ltb _ _ text_fits);
       }
+
+-- what is told of a play can be printed as what it left
+pub told_printable : (left : Left) (told : Played) → told ≡ left.result → PrintableLeft left
+    → Printable told left.table left.report left.linearization
+told_printable left told is held = subst (λ p. Printable p left.table left.report left.linearization) (sym is) held
 
 -- the text of the play is what the program prints
 pub put_output : (file : List ℕ) (left : Left)
     → left ≡ played_of file (replicate most_nodes 0) (replicate (4 * most_requests) 0) (replicate (2 * most_requests) 0)
-    → {before after : List ℕ} {bytes : ℕ} → Put (text_of left) before after bytes → Put (output file) before after bytes
+    → (told : Played) → told ≡ left.result
+    → {before after : List ℕ} {bytes : ℕ} → Put (listing told left.table left.report left.linearization) before after bytes
+    → Put (output file) before after bytes
 unfolding output
-put_output file left is {before} {after} {bytes} put = subst (λ text. Put text before after bytes) (ap text_of is) put
-
--- ---- the part of a buffer that is printed
-
-module _ {text before after : List ℕ} {bytes : ℕ} (put : Put text before after bytes) where
-  pub put_within : bytes ≤ length after
-  put_within = omega (arith, put.counted, ap length put.stored, length-append text (drop (length text) before))
-
-  pub put_part : bytes ≡ length (take bytes after)
-  put_part = sym (length-take-le bytes after put_within)
+put_output file left is told same {before} {after} {bytes} put =
+    subst (λ text. Put text before after bytes)
+    (ap (λ p. listing p left.table left.report left.linearization) same ∙ ap text_of is) put

@@ -3,19 +3,22 @@
 
 mod input;
 
-ghost use Rattle.std.specs.Prelude.{◌≡◌, ◌≤◌, ◌<◌, length, take, IfSome};
+ghost use Rattle.std.specs.Prelude.{◌≡◌, ◌≤◌, ◌<◌, length, take, Err, IfSome, OnOk};
 ghost use Rattle.std.specs.Io.KnownBytes.{Appends, Keeps};
 ghost use Rattle.listing.specs.Listing.{listing};
 ghost use Rattle.jobfile.specs.Format.{most_bytes};
 ghost use Rattle.dock.specs.Dock.{output, longest, Put, PutInput, Printable};
-ghost use Rattle.dock.specs.declared.Ended.TheVariants.{Printed, Unread};
+ghost use Rattle.dock.specs.declared.Failure.TheVariants.{Unread};
 
 use input::read_input;
 use job::{MOST_NODES, MOST_REQUESTS, Played};
+use std::fmt;
 use std::io::{Read, Write};
 use word::Word;
 
-// Writes the text of a play into `out`, which has room for every text, and answers the text's length.
+// Writes the text of a play into `out`, which has room for every text, and answers the text's length. Nothing here is too short,
+// so that the listing is never turned down. That room is asked for in three functions: `out` is lent on twice, and a struct of it
+// with the fact would be longer than the three clauses.
 fn put_text(
     played: Played,
     table: &[Word],
@@ -28,8 +31,7 @@ fn put_text(
     ensures { Put (listing played table.now report.now linearization.now)
         out.old out.new result }
 {
-    let listed = listing::list(played, table, report, linearization, out);
-    listed.bytes
+    listing::list(played, table, report, linearization, out).unwrap_or(0)
 }
 
 // Plays a job file on buffers for the largest job, and writes its text or its refusal's line into `out`.
@@ -40,7 +42,7 @@ fn print_job(file: &[u8], out: &mut [u8]) -> usize
     let mut table = [0u32; MOST_NODES];
     let mut report = [0u32; 4 * MOST_REQUESTS];
     let mut linearization = [0u32; 2 * MOST_REQUESTS];
-    let played = player::play(file, &mut table, &mut report, &mut linearization);
+    let played = Played::from(player::play(file, &mut table, &mut report, &mut linearization));
     put_text(played, &table, &report, &linearization, out)
 }
 
@@ -57,46 +59,42 @@ fn print_input(buffer: &[u8], bytes: usize, out: &mut [u8]) -> usize
     print_job(&buffer[..bytes], out)
 }
 
-// How a run of the program ended.
-#[derive(Clone, Copy)]
-pub enum Ended {
-    Printed,
+// Why a run of the program printed no text, or only a part of it.
+#[derive(Clone, Copy, Debug, PartialEq, Eq)]
+pub enum Failure {
     Unread,
     Unwritten,
 }
 
-// Reads a job file, as far as it can matter, and prints its text. Where the input can't be read, nothing is printed. Of a reader
-// and a writer whose bytes are known: the text of what was left to read stands behind what was written.
-fn run<R: Read, W: Write>(reader: &mut R, writer: &mut W) -> Ended
-    ensures printed { result ≡ Printed → IfSome (R.remaining reader.old)
-        (λ file. Appends (W.contents writer.old) (W.contents writer.new) (output file)) }
-    ensures unread { result ≡ Unread → Keeps (W.contents writer.old) (W.contents writer.new) }
-{
-    let mut buffer = [0u8; 32769];
-    let input = read_input(reader, &mut buffer);
-    if input.failed {
-        return Ended::Unread;
-    }
-    let bytes = input.bytes;
-    let mut out = [0u8; 327808];
-    let printed = print_input(&buffer, bytes, &mut out);
-    match writer.write_all(&out[..printed]) {
-        Ok(()) => Ended::Printed,
-        Err(_) => Ended::Unwritten,
+impl fmt::Display for Failure {
+    fn fmt<W: fmt::Write>(&self, f: &mut fmt::Formatter<W>) -> fmt::Result {
+        f.write_str(match self {
+            Failure::Unread => "standard input can't be read",
+            Failure::Unwritten => "standard output can't be written",
+        })
     }
 }
 
-// One line on standard error for what standard output can't tell.
-fn complain(rt: &impl Eprint, line: &str) {
-    let _ = rt.eprintln(line);
+// Reads a job file, as far as it can matter, and prints its text. Where the input can't be read, nothing is printed. Of a reader
+// and a writer whose bytes are known: the text of what was left to read stands behind what was written.
+fn run<R: Read, W: Write>(reader: &mut R, writer: &mut W) -> Result<(), Failure>
+    ensures printed { OnOk result (IfSome (R.remaining reader.old)
+        (λ file. Appends (W.contents writer.old) (W.contents writer.new) (output file))) }
+    ensures unread { result ≡ Err Unread → Keeps (W.contents writer.old) (W.contents writer.new) }
+{
+    let mut buffer = [0u8; 32769];
+    let bytes = read_input(reader, &mut buffer).map_err(|_| Failure::Unread)?;
+    let mut out = [0u8; 327808];
+    let printed = print_input(&buffer, bytes, &mut out);
+    writer
+        .write_all(&out[..printed])
+        .map_err(|_| Failure::Unwritten)
 }
 
 // Where the input can't be read, nothing is printed; where the text can't be written whole, standard error says so.
 fn main(rt: HostRuntime) {
-    match run(&mut rt.stdin(), &mut rt.stdout()) {
-        Ended::Printed => {}
-        Ended::Unread => complain(&rt, "dock: standard input can't be read"),
-        Ended::Unwritten => complain(&rt, "dock: standard output can't be written"),
+    if let Err(failure) = run(&mut rt.stdin(), &mut rt.stdout()) {
+        let _ = eprintln!(rt; "dock: {failure}");
     }
 }
 
@@ -152,15 +150,15 @@ mod tests {
         let file = b"DK\x01\0";
         let mut out = Vec::new(rt.alloc());
         let mut whole = &file[..];
-        assert!(rt; matches!(run(&mut whole, &mut out), Ended::Printed));
+        assert_eq!(rt; run(&mut whole, &mut out), Ok(()));
         assert!(rt; out.as_slice() == b"refused 2\n".as_slice());
         let mut nothing = Vec::new(rt.alloc());
         let mut torn = Torn { left: &file[..] };
-        assert!(rt; matches!(run(&mut torn, &mut nothing), Ended::Unread));
+        assert_eq!(rt; run(&mut torn, &mut nothing), Err(Failure::Unread));
         assert!(rt; nothing.is_empty());
         let mut whole = &file[..];
         let mut full = Full { bytes: 0 };
-        assert!(rt; matches!(run(&mut whole, &mut full), Ended::Unwritten));
+        assert_eq!(rt; run(&mut whole, &mut full), Err(Failure::Unwritten));
         assert_eq!(rt; full.bytes, 1);
         Ok(())
     }

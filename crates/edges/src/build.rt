@@ -1,5 +1,4 @@
-// What the words of a field stand for: the bytes of a file or of a list of grants, and the numbers of a list. Each word is
-// stored as both, and who wants one of them lends no room for the other.
+// What the words of a field stand for: the bytes of a file or of a list of grants, or the numbers of a list.
 //
 //   4B         a byte; 00*32768 is that many
 //   J          a job's record, two places and two heads
@@ -13,272 +12,167 @@
 //   T*4094     that many pairs of bytes 00 01, as the grants of such runs are
 //   =          a close that balances the bytes before it
 //   17         in a list of numbers, that number
-//
-// What finds no room is left out; the buffers of `play` have room for every row of `main`.
-ghost use Rattle.std.specs.Prelude.{◌≤◌};
+use crate::list::{Full, List};
+use crate::text::{Fault, copies};
 
-use crate::text::{copies, decimal, find, first_bytes, hexadecimal};
+// Room for 5,322 pairs: 5,321 beside 104 requests are the most that a file can have.
+pub const PAIRS: usize = 5322;
 
-// Stores a byte, and gives the position behind it.
-fn put_byte(file: &mut [u8], at: usize, byte: u8) -> usize {
-    if file.len() <= at {
-        return at;
-    }
-    file[at] = byte;
-    at + 1
-}
-
-// Stores some bytes, and gives the position behind them.
-fn put_bytes(file: &mut [u8], start: usize, bytes: &[u8]) -> usize {
-    let mut at = start;
-    let mut i = 0;
-    while i < bytes.len() {
-        at = put_byte(file, at, bytes[i]);
-        i += 1;
-    }
-    at
-}
-
-// What a byte at a position adds to the sum of the 16-bit words: a word's second byte is its high one.
-fn weight(byte: u8, at: usize) -> u32
-    ensures { result ≤ 65280 }
-{
-    if at % 2 == 0 {
-        byte as u32
-    } else {
-        256 * (byte as u32)
-    }
-}
-
-// What is missing to the next multiple of 65,536 in the sum of all words.
-fn balance(bytes: &[u8]) -> u32
-    ensures { result ≤ 65535 }
-{
-    let mut sum: u32 = 0;
-    let mut i = 0;
-    while i < bytes.len() {
-        sum = (sum + weight(bytes[i], i)) % 65536;
-        i += 1;
-    }
-    (65536 - sum) % 65536
-}
-
-// Stores a 16-bit field, low byte first, and gives the position behind it.
-fn put_sixteen(file: &mut [u8], at: usize, number: u16) -> usize {
-    let at = put_byte(file, at, (number % 256) as u8);
-    put_byte(file, at, (number / 256) as u8)
-}
-
-// Stores a close that balances the bytes before it, and gives the position behind it.
-fn put_close(file: &mut [u8], start: usize) -> usize {
-    let end = put_bytes(file, start, b"\x43\x4C");
-    let word = balance(first_bytes(file, end));
-    put_sixteen(file, end, word as u16)
-}
-
-// Stores a number, and gives the position behind it.
-fn put_number(list: &mut [u32], at: usize, number: u32) -> usize {
-    if list.len() <= at {
-        return at;
-    }
-    list[at] = number;
-    at + 1
-}
-
-// What a word is in a list of numbers: a union of 0 and 1 for head 0, or a number.
-#[derive(Clone, Copy)]
-pub enum Meant {
-    Request,
-    Number(u32),
-}
-
-// Stores the numbers of a word, and gives the position behind them.
-fn put_meant(list: &mut [u32], at: usize, meant: Meant) -> usize {
-    match meant {
-        Meant::Request => {
-            let at = put_number(list, at, 0);
-            let at = put_number(list, at, 1);
-            let at = put_number(list, at, 0);
-            put_number(list, at, 1)
-        }
-        Meant::Number(number) => put_number(list, at, number),
-    }
-}
-
-// The positions behind the bytes and the numbers stored.
-#[derive(Clone, Copy)]
-pub struct Ends {
-    pub bytes: usize,
-    pub numbers: usize,
-}
-
-// Stores bytes and numbers that many times, and gives the positions behind them.
-fn put_copies(
-    file: &mut [u8],
-    list: &mut [u32],
-    start: Ends,
-    bytes: &[u8],
-    meant: Meant,
+// Adds some items that many times.
+fn add_copies<T: Copy, const N: usize>(
+    all: &mut List<T, N>,
+    items: &[T],
     count: u32,
-) -> Ends {
-    let mut at = start;
-    let mut i = 0;
-    while i < count {
-        at.bytes = put_bytes(file, at.bytes, bytes);
-        at.numbers = put_meant(list, at.numbers, meant);
-        i += 1;
+) -> Result<(), Full> {
+    for _ in 0..count {
+        all.extend_from_slice(items)?;
     }
-    at
+    Ok(())
 }
 
-// The bit of a head in a mask.
-fn bit_of(head: u32) -> u32 {
-    if 32 <= head {
-        return 0;
+// What is missing to the next multiple of 65,536 in the sum of all 16-bit words: a word's second byte is its high one.
+fn balance(bytes: &[u8]) -> u16 {
+    let mut sum: u16 = 0;
+    for word in bytes.chunks(2) {
+        let low = word.first().copied().unwrap_or(0);
+        let high = word.get(1).copied().unwrap_or(0);
+        sum = sum.wrapping_add(u16::from_le_bytes([low, high]));
     }
-    1u32 << head
+    sum.wrapping_neg()
 }
 
-// Stores the right of a head that may ask for both kinds and sees itself alone, and gives the positions behind it.
-fn put_right(file: &mut [u8], list: &mut [u32], at: Ends, head: u32) -> Ends {
-    let sight = bit_of(head);
-    let bytes = put_bytes(file, at.bytes, b"\x52\x54");
-    let bytes = put_byte(file, bytes, (head % 256) as u8);
-    let bytes = put_byte(file, bytes, 3);
-    let bytes = put_sixteen(file, bytes, (sight % 65536) as u16);
-    let numbers = put_number(list, at.numbers, head);
-    let numbers = put_number(list, numbers, 3);
-    Ends {
-        bytes: put_sixteen(file, bytes, (sight / 65536) as u16),
-        numbers: put_number(list, numbers, sight),
-    }
+// Adds a close that balances the bytes before it.
+fn add_close<const N: usize>(file: &mut List<u8, N>) -> Result<(), Full> {
+    file.extend_from_slice(b"CL")?;
+    let balance = balance(file.as_slice());
+    file.extend_from_slice(&balance.to_le_bytes())
 }
 
-// Stores the rights of that many heads, and gives the positions behind them.
-fn put_rights(file: &mut [u8], list: &mut [u32], start: Ends, count: u32) -> Ends {
-    let mut at = start;
-    let mut head = 0;
-    while head < count {
-        at = put_right(file, list, at, head);
-        head += 1;
+// The right of a head that may ask for both kinds and sees itself alone: head, kinds and mask.
+fn right_of(head: u32) -> [u32; 3] {
+    let sight = if head < 32 { 1 << head } else { 0 };
+    [head, 3, sight]
+}
+
+// Adds the records of the rights of that many heads.
+fn add_right_records<const N: usize>(file: &mut List<u8, N>, count: u32) -> Result<(), Full> {
+    for head in 0..count {
+        let [head, kinds, sight] = right_of(head);
+        let [head, _, _, _] = head.to_le_bytes();
+        let [kinds, _, _, _] = kinds.to_le_bytes();
+        file.extend_from_slice(&[b'R', b'T', head, kinds])?;
+        file.extend_from_slice(&sight.to_le_bytes())?;
     }
-    at
+    Ok(())
 }
 
 // A pair (02, A3): the later request waits for the earlier one.
-#[derive(Clone, Copy)]
+#[derive(Clone, Copy, Debug, PartialEq, Eq)]
 struct Pair {
     later: u16,
     earlier: u16,
 }
 
-// The pair behind a pair where every request waits for all before it.
-fn next_pair(pair: Pair) -> Pair {
-    let earlier = pair.earlier.wrapping_add(1);
-    if earlier < pair.later {
-        return Pair {
-            later: pair.later,
-            earlier: earlier,
-        };
-    }
-    Pair {
-        later: pair.later.wrapping_add(1),
-        earlier: 0,
-    }
-}
-
-// Stores a pair's record and numbers, and gives the positions behind them.
-fn put_pair(file: &mut [u8], list: &mut [u32], at: Ends, pair: Pair) -> Ends {
-    let bytes = put_bytes(file, at.bytes, b"\x41\x46");
-    let bytes = put_sixteen(file, bytes, pair.later);
-    let numbers = put_number(list, at.numbers, pair.later as u32);
-    Ends {
-        bytes: put_sixteen(file, bytes, pair.earlier),
-        numbers: put_number(list, numbers, pair.earlier as u32),
+impl Pair {
+    // The pair behind this one where every request waits for all before it.
+    fn next(self) -> Pair {
+        let earlier = self.earlier.wrapping_add(1);
+        if earlier < self.later {
+            return Pair {
+                later: self.later,
+                earlier,
+            };
+        }
+        Pair {
+            later: self.later.wrapping_add(1),
+            earlier: 0,
+        }
     }
 }
 
-// Stores that many pairs that rise, from 1 0 on, and gives the positions behind them.
-fn put_pairs(file: &mut [u8], list: &mut [u32], start: Ends, count: u32) -> Ends {
-    let mut at = start;
+// That many pairs that rise, from 1 0 on.
+fn rising(count: u32) -> Result<List<Pair, PAIRS>, Full> {
     let mut pair = Pair {
         later: 1,
         earlier: 0,
     };
-    let mut i = 0;
-    while i < count {
-        at = put_pair(file, list, at, pair);
-        pair = next_pair(pair);
-        i += 1;
+    let mut pairs = List::new(pair);
+    for _ in 0..count {
+        pairs.push(pair)?;
+        pair = pair.next();
     }
-    at
+    Ok(pairs)
 }
 
-// Stores a word, and gives the positions behind it.
-fn put_word(file: &mut [u8], list: &mut [u32], at: Ends, word: &[u8]) -> Ends {
-    if word.len() == 0 {
-        return at;
+// Adds the records of some pairs.
+fn add_pair_records<const N: usize>(file: &mut List<u8, N>, pairs: &[Pair]) -> Result<(), Full> {
+    for pair in pairs {
+        file.extend_from_slice(b"AF")?;
+        file.extend_from_slice(&pair.later.to_le_bytes())?;
+        file.extend_from_slice(&pair.earlier.to_le_bytes())?;
     }
-    let count = copies(word);
-    let number = Meant::Number(decimal(word));
-    let byte = [hexadecimal(word)];
-    match word[0] {
-        b'J' => put_copies(file, list, at, b"\x44\x4B\x02\x00\x02\x00", number, count),
-        b'Q' => put_copies(
-            file,
-            list,
-            at,
-            b"\x52\x51\x00\x01\x00\x00\x01\x00",
-            Meant::Request,
-            count,
-        ),
-        b'V' => put_rights(file, list, at, count),
-        b'W' => put_copies(file, list, at, b"\x41\x46\x01\x00\x00\x00", number, count),
-        b'P' => put_pairs(file, list, at, count),
-        b'R' => put_copies(file, list, at, b"\x47\x52\x00\xFF", number, count),
-        b'S' => put_copies(
-            file,
-            list,
-            at,
-            b"\x47\x52\x00\x01\x47\x52\x01\x01",
-            number,
-            count,
-        ),
-        b'T' => put_copies(file, list, at, b"\x00\x01", number, count),
-        b'=' => Ends {
-            bytes: put_close(file, at.bytes),
-            numbers: at.numbers,
-        },
-        _ => put_copies(file, list, at, &byte, number, count),
-    }
+    Ok(())
 }
 
-// Stores a field's words, and gives the positions behind them.
-fn put_field(file: &mut [u8], list: &mut [u32], text: &[u8]) -> Ends {
-    let mut at = Ends {
-        bytes: 0,
-        numbers: 0,
-    };
-    let mut i = 0;
-    while i < text.len() {
-        let end = find(text, i, b' ');
-        at = put_word(file, list, at, &text[i..end]);
-        if end == text.len() {
-            return at;
-        }
-        i = end + 1;
+// Adds the bytes of a word.
+fn add_word_bytes<const N: usize>(bytes: &mut List<u8, N>, word: &str) -> Result<(), Fault> {
+    let (word, count) = copies(word)?;
+    match word {
+        "J" => add_copies(bytes, b"DK\x02\x00\x02\x00", count)?,
+        "Q" => add_copies(bytes, b"RQ\x00\x01\x00\x00\x01\x00", count)?,
+        "V" => add_right_records(bytes, count)?,
+        "W" => add_copies(bytes, b"AF\x01\x00\x00\x00", count)?,
+        "P" => add_pair_records(bytes, rising(count)?.as_slice())?,
+        "R" => add_copies(bytes, b"GR\x00\xFF", count)?,
+        "S" => add_copies(bytes, b"GR\x00\x01GR\x01\x01", count)?,
+        "T" => add_copies(bytes, b"\x00\x01", count)?,
+        "=" => add_close(bytes)?,
+        byte => add_copies(bytes, &[u8::from_str_radix(byte, 16)?], count)?,
     }
-    at
+    Ok(())
 }
 
-// Stores the bytes of a field's words, and gives how many there are.
-pub fn put_words(file: &mut [u8], text: &[u8]) -> usize {
-    let mut none = [0u32; 0];
-    put_field(file, &mut none, text).bytes
+// Adds the bytes that a field's words stand for.
+pub fn add_bytes<const N: usize>(bytes: &mut List<u8, N>, field: &str) -> Result<(), Fault> {
+    for word in field.split_whitespace() {
+        add_word_bytes(bytes, word)?;
+    }
+    Ok(())
 }
 
-// Stores the numbers of a field's words, and gives how many there are.
-pub fn put_numbers(list: &mut [u32], text: &[u8]) -> usize {
-    let mut none = [0u8; 0];
-    put_field(&mut none, list, text).numbers
+// Adds the numbers of the rights of that many heads.
+fn add_rights<const N: usize>(numbers: &mut List<u32, N>, count: u32) -> Result<(), Full> {
+    for head in 0..count {
+        numbers.extend_from_slice(&right_of(head))?;
+    }
+    Ok(())
+}
+
+// Adds the numbers of some pairs.
+fn add_pairs<const N: usize>(numbers: &mut List<u32, N>, pairs: &[Pair]) -> Result<(), Full> {
+    for pair in pairs {
+        numbers.extend_from_slice(&[u32::from(pair.later), u32::from(pair.earlier)])?;
+    }
+    Ok(())
+}
+
+// Adds the numbers of a word.
+fn add_word_numbers<const N: usize>(numbers: &mut List<u32, N>, word: &str) -> Result<(), Fault> {
+    let (word, count) = copies(word)?;
+    match word {
+        "Q" => add_copies(numbers, &[0, 1, 0, 1], count)?,
+        "V" => add_rights(numbers, count)?,
+        "P" => add_pairs(numbers, rising(count)?.as_slice())?,
+        number => add_copies(numbers, &[number.parse()?], count)?,
+    }
+    Ok(())
+}
+
+// The numbers that a field's words stand for.
+pub fn numbers_of<const N: usize>(field: &str) -> Result<List<u32, N>, Fault> {
+    let mut numbers = List::new(0);
+    for word in field.split_whitespace() {
+        add_word_numbers(&mut numbers, word)?;
+    }
+    Ok(numbers)
 }

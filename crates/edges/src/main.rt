@@ -5,16 +5,18 @@
 #![tactic(auto)]
 
 mod build;
+mod list;
 mod play;
 mod score;
 mod text;
 
-use score::{Score, print_score};
+use score::Score;
+use text::Fault;
 
 // Two bytes for the mark (2), the mark (3), the whole record (2); and the file ends with its close (2).
-fn file_cuts(score: Score) -> Score {
+fn file_cuts(score: &mut Score) -> Result<(), Fault> {
     score.files(
-        b"
+        "
 no byte                         |                        | 2
 one byte                        | 44                     | 2
 one byte of no mark             | 00                     | 2
@@ -38,9 +40,9 @@ close of three bytes            | J 43 4C 00             | 2
 }
 
 // What may follow what (3), bytes after the close (12), the balance (13).
-fn file_marks(score: Score) -> Score {
+fn file_marks(score: &mut Score) -> Result<(), Fault> {
     score.files(
-        b"
+        "
 a second header               | J 44 4B 02 00 02 00 =                     | 3
 a request behind a run        | J 47 52 00 01 Q =                         | 3
 a wrong mark behind a request | J Q 52 52 00 01 =                         | 3
@@ -58,9 +60,9 @@ byte after it, wrong balance  | 44 4B 01 00 01 00 43 4C 78 68 00          | 12
 }
 
 // Places (4), then heads (5), before anything behind them.
-fn file_sizes(score: Score) -> Score {
+fn file_sizes(score: &mut Score) -> Result<(), Fault> {
     score.files(
-        b"
+        "
 4,096 places             | 44 4B 00 10 01 00 43 4C 78 58             | 0 4096 1 0 0 0
 4,097 places             | 44 4B 01 10 01 00 43 4C 77 58             | 4
 no place                 | 44 4B 00 00 01 00 43 4C 78 68             | 4
@@ -84,9 +86,9 @@ heads bad, one byte left | 44 4B 01 00 00 00 43                      | 5
 }
 
 // The last of 17 and of 32 heads (02, A4), and the head behind the last, in a request (6) and in a run (10).
-fn file_heads(score: Score) -> Score {
+fn file_heads(score: &mut Score) -> Result<(), Fault> {
     score.files(
-        b"
+        "
 head 16 of 17          | 44 4B 02 00 11 00 52 51 10 02 00 00 01 00 47 52 10 03 43 4C AC BF             | 0 2 17 1 3 1
 head 31 of 32          | 44 4B 02 00 20 00 52 51 1F 01 00 00 01 00 47 52 1F 0D 47 52 1E 01 43 4C 1A 63 | 0 2 32 1 14 2
 head 31 of 31          | 44 4B 02 00 1F 00 52 51 1F 01 00 00 01 00 =                                   | 6
@@ -99,9 +101,9 @@ both of head 31 of 31  | 44 4B 02 00 1F 00 52 51 1F 01 00 00 01 00 47 52 1F 01 =
 }
 
 // Head (6), kind (7), place x and place y (8), left to right, in a job of two places and two heads.
-fn file_fields(score: Score) -> Score {
+fn file_fields(score: &mut Score) -> Result<(), Fault> {
     score.files(
-        b"
+        "
 last head and places | J 52 51 01 02 01 00 01 00 = | 0 2 2 1 0 0
 head 2               | J 52 51 02 01 00 00 01 00 = | 6
 head 255             | J 52 51 FF 01 00 00 01 00 = | 6
@@ -120,9 +122,9 @@ x and y bad          | J 52 51 00 01 02 00 02 00 = | 8
 }
 
 // The first faulty record decides, whatever stands behind it.
-fn file_first_faults(score: Score) -> Score {
+fn file_first_faults(score: &mut Score) -> Result<(), Fault> {
     score.files(
-        b"
+        "
 y bad, next head bad        | J 52 51 00 01 00 00 02 00 52 51 02 01 00 00 01 00 = | 8
 second request bad          | J Q 52 51 00 03 00 00 01 00 =                       | 7
 head bad, then a wrong mark | J 52 51 02 01 00 00 01 00 00 00                     | 6
@@ -137,18 +139,18 @@ run bad, then a request     | J 47 52 02 01 Q =                                 
 }
 
 // The file that document 01 prints.
-fn file_sample(score: Score) -> Score {
+fn file_sample(score: &mut Score) -> Result<(), Fault> {
     score.files(
-        b"
+        "
 document 01 | 44 4B 04 00 02 00 52 51 00 01 02 00 03 00 52 51 01 02 00 00 01 00 47 52 01 02 47 52 00 06 47 52 01 01 43 4C F1 C2 | 0 4 2 2 9 3
 ",
     )
 }
 
 // A head of the job and a run above 0 (10), then the run before (11), with two heads.
-fn file_runs(score: Score) -> Score {
+fn file_runs(score: &mut Score) -> Result<(), Fault> {
     score.files(
-        b"
+        "
 255, same head        | J 47 52 00 FF 47 52 00 01 =             | 0 2 2 0 256 2
 254, same head        | J 47 52 00 FE 47 52 00 01 =             | 11
 1, same head          | J 47 52 01 01 47 52 01 FF =             | 11
@@ -168,9 +170,9 @@ run 0, head bad       | J 47 52 02 00 =                         | 10
 }
 
 // The whole record (2), then a request's count (9), then its fields.
-fn file_requests(score: Score) -> Score {
+fn file_requests(score: &mut Score) -> Result<(), Fault> {
     score.files(
-        b"
+        "
 512 requests                   | J Q*512 =                                                 | 0 2 2 512 0 0
 512 requests and a run         | J Q*512 47 52 01 01 =                                     | 0 2 2 512 1 1
 513 requests                   | J Q*513 =                                                 | 9
@@ -186,9 +188,9 @@ fn file_requests(score: Score) -> Score {
 }
 
 // Length first (1): 32,768 bytes are admitted, though a whole file without pairs has at most 32,766.
-fn file_lengths(score: Score) -> Score {
+fn file_lengths(score: &mut Score) -> Result<(), Fault> {
     score.files(
-        b"
+        "
 32,766 bytes, 8,189 runs            | J R*8189 =                 | 0 2 2 0 2088195 8189
 32,766 bytes, 512 requests          | J Q*512 R*7165 =           | 0 2 2 512 1827075 7165
 32,766 bytes, wrong balance         | J R*8189 43 4C 00 00       | 13
@@ -208,18 +210,18 @@ fn file_lengths(score: Score) -> Score {
 }
 
 // A file with a pair (02, A3), byte by byte.
-fn file_pair_sample(score: Score) -> Score {
+fn file_pair_sample(score: &mut Score) -> Result<(), Fault> {
     score.files(
-        b"
+        "
 two heads, request 1 waits | 44 4B 02 00 02 00 52 51 00 01 00 00 01 00 52 51 01 02 00 00 01 00 41 46 01 00 00 00 47 52 01 03 47 52 00 0D 47 52 01 06 43 4C B5 6F | 0 2 2 2 22 3 1
 ",
     )
 }
 
 // The record of a pair (02, A3): two bytes for the mark (2), the mark (3), the whole record (2), and then the pair (18).
-fn file_pair_cuts(score: Score) -> Score {
+fn file_pair_cuts(score: &mut Score) -> Result<(), Fault> {
     score.files(
-        b"
+        "
 one byte of a pair's mark     | J Q*2 41                  | 2
 mark of a pair alone          | J Q*2 41 46               | 2
 pair of three bytes           | J Q*2 41 46 01            | 2
@@ -238,9 +240,9 @@ a pair's balance, one too low | J Q*2 W 43 4C 8C 7D       | 13
 }
 
 // Pairs stand between requests and runs (3).
-fn file_pair_places(score: Score) -> Score {
+fn file_pair_places(score: &mut Score) -> Result<(), Fault> {
     score.files(
-        b"
+        "
 a pair first                   | W J Q*2 =                               | 3
 a request behind a pair        | J Q*2 W Q =                             | 3
 a request's mark behind a pair | J Q*2 W 52 51                           | 3
@@ -260,9 +262,9 @@ three pairs, two runs          | J Q*3 P*3 S =                           | 0 2 2
 }
 
 // Both requests of a pair exist, and the earlier is below the later (18); the high bytes count.
-fn file_pair_fields(score: Score) -> Score {
+fn file_pair_fields(score: &mut Score) -> Result<(), Fault> {
     score.files(
-        b"
+        "
 pair 0 0 of no request | J 41 46 00 00 00 00 =       | 18
 pair 1 0 of no request | J W =                       | 18
 pair 0 0 of one        | J Q 41 46 00 00 00 00 =     | 18
@@ -287,9 +289,9 @@ pair 512 0 of 512      | J Q*512 41 46 00 02 00 00 = | 18
 }
 
 // Pairs rise strictly, by the later request and then by the earlier one (18).
-fn file_pair_order(score: Score) -> Score {
+fn file_pair_order(score: &mut Score) -> Result<(), Fault> {
     score.files(
-        b"
+        "
 pairs 1 0, 1 0           | J Q*2 W*2 =                                   | 18
 pairs 2 1, 2 0           | J Q*3 41 46 02 00 01 00 41 46 02 00 00 00 =   | 18
 pairs 2 0, 1 0           | J Q*3 41 46 02 00 00 00 W =                   | 18
@@ -309,9 +311,9 @@ pairs 511 256, 511 255   | J Q*512 41 46 FF 01 00 01 41 46 FF 01 FF 00 = | 18
 }
 
 // The first faulty record decides, with pairs too: 18 behind every request and before every run.
-fn file_pair_faults(score: Score) -> Score {
+fn file_pair_faults(score: &mut Score) -> Result<(), Fault> {
     score.files(
-        b"
+        "
 18, then nothing            | J Q*2 41 46 01 00 01 00                         | 18
 18, then one byte           | J Q*2 41 46 01 00 01 00 43                      | 18
 18, then a wrong mark       | J Q*2 41 46 01 00 01 00 00 00                   | 18
@@ -333,9 +335,9 @@ pair, wrong balance         | J Q*2 W 43 4C 00 00                             | 
 
 // A file has 10 bytes, 8 a request, 6 a pair and 4 a run: with pairs it can have all 32,768, and no file has more pairs than
 // the 5,321 beside 104 requests.
-fn file_pair_lengths(score: Score) -> Score {
+fn file_pair_lengths(score: &mut Score) -> Result<(), Fault> {
     score.files(
-        b"
+        "
 32,768 bytes, a pair, 8,184 runs        | J Q*2 W R*8184 =                   | 0 2 2 2 2086920 8184 1
 32,768 bytes, its balance               | J Q*2 W R*8184 43 4C C5 27         | 0 2 2 2 2086920 8184 1
 32,768 bytes, wrong balance             | J Q*2 W R*8184 43 4C 00 00         | 13
@@ -352,9 +354,9 @@ fn file_pair_lengths(score: Score) -> Score {
 }
 
 // Rights behind the first record (02, A5), one a head, read in the order of the heads; requests, pairs and runs stand behind them.
-fn file_right_samples(score: Score) -> Score {
+fn file_right_samples(score: &mut Score) -> Result<(), Fault> {
     score.files(
-        b"
+        "
 join alone, enquire alone | 44 4B 04 00 02 00 52 54 00 01 01 00 00 00 52 54 01 02 03 00 00 00 52 51 00 01 02 00 03 00 52 51 01 02 00 00 01 00 47 52 01 02 47 52 00 0D 47 52 01 01 43 4C 48 10                   | 0 4 2 2 16 3 0 2
 no sight, sight of itself | 44 4B 04 00 02 00 52 54 00 03 00 00 00 00 52 54 01 03 02 00 00 00 52 51 00 01 02 00 03 00 52 51 01 02 00 00 01 00 47 52 01 02 47 52 00 0D 47 52 01 01 43 4C 4A 0D                   | 0 4 2 2 16 3 0 2
 with a pair               | 44 4B 04 00 02 00 52 54 00 03 03 00 00 00 52 54 01 03 02 00 00 00 52 51 00 01 00 00 01 00 52 51 01 02 00 00 01 00 41 46 01 00 00 00 47 52 01 03 47 52 00 0D 47 52 01 06 43 4C 09 C1 | 0 4 2 2 22 3 1 2
@@ -368,9 +370,9 @@ two heads, nothing else   | J V*2 =                                             
 
 // Once begun there is one a head: two bytes for the mark (2), the mark (3), the whole record (2); one more is no mark that may stand
 // there (3), whole or not.
-fn file_right_places(score: Score) -> Score {
+fn file_right_places(score: &mut Score) -> Result<(), Fault> {
     score.files(
-        b"
+        "
 one of two, then a request | J V Q =                         | 3
 one of two, then a pair    | J V W =                         | 3
 one of two, then a run     | J V 47 52 00 01 =               | 3
@@ -398,9 +400,9 @@ second cut to seven bytes  | J V 52 54 01 03 03 00 00        | 2
 }
 
 // The heads count up from 0, rights are 1 to 3, a mask has no bit for no head (19), record by record.
-fn file_right_fields(score: Score) -> Score {
+fn file_right_fields(score: &mut Score) -> Result<(), Fault> {
     score.files(
-        b"
+        "
 first of head 1      | J 52 54 01 03 03 00 00 00                 | 19
 head 0 twice         | J V 52 54 00 03 03 00 00 00               | 19
 second of head 2     | J V 52 54 02 03 03 00 00 00               | 19
@@ -423,9 +425,9 @@ heads bad, right bad | 44 4B 02 00 21 00 52 54 01 00 00 00 00 00 | 5
 }
 
 // A kind that is not among its head's rights (20), behind head, kind and places, record by record.
-fn file_right_kinds(score: Score) -> Score {
+fn file_right_kinds(score: &mut Score) -> Result<(), Fault> {
     score.files(
-        b"
+        "
 union, enquire alone       | J 52 54 00 02 03 00 00 00 52 54 01 03 03 00 00 00 Q =                             | 20
 same-set, join alone       | J 52 54 00 01 03 00 00 00 52 54 01 03 03 00 00 00 52 51 00 02 00 00 01 00 =       | 20
 union, join alone          | J 52 54 00 01 03 00 00 00 52 54 01 02 03 00 00 00 Q =                             | 0 2 2 1 0 0 0 2
@@ -444,9 +446,9 @@ grants are for every head  | J 52 54 00 02 00 00 00 00 52 54 01 02 00 00 00 00 4
 }
 
 // With rights a file has 26 bytes of two heads: 8,185 runs are 32,766 bytes, and one more is too long.
-fn file_right_lengths(score: Score) -> Score {
+fn file_right_lengths(score: &mut Score) -> Result<(), Fault> {
     score.files(
-        b"
+        "
 32,766 bytes, 8,185 runs | J V*2 R*8185 =    | 0 2 2 0 2087175 8185 0 2
 32,770 bytes, 8,186 runs | J V*2 R*8186 =    | 1
 wrong balance            | J V*2 43 4C 00 00 | 13
@@ -456,9 +458,9 @@ byte after the close     | J V*2 = 00        | 12
 }
 
 // Jobs whose files are stored byte by byte.
-fn job_samples(score: Score) -> Score {
+fn job_samples(score: &mut Score) -> Result<(), Fault> {
     score.jobs(
-        b"
+        "
 smallest job             | 1 1     |                 |                            | 0 10 | 0 1 1 0 0 0     | 44 4B 01 00 01 00 43 4C 77 68
 largest sizes and fields | 4096 32 | 31 2 4095 4094  | 1F 1F 00                   | 0 26 | 0 4096 32 1 3 2 | 44 4B 00 10 20 00 52 51 1F 02 FF 0F FE 0F 47 52 1F 02 47 52 00 01 43 4C 3E 3D
 document 01              | 4 2     | 0 1 2 3 1 2 0 1 | 01 01 00 00 00 00 00 00 01 | 0 38 | 0 4 2 2 9 3     | 44 4B 04 00 02 00 52 51 00 01 02 00 03 00 52 51 01 02 00 00 01 00 47 52 01 02 47 52 00 06 47 52 01 01 43 4C F1 C2
@@ -467,9 +469,9 @@ document 01              | 4 2     | 0 1 2 3 1 2 0 1 | 01 01 00 00 00 00 00 00 0
 }
 
 // The longest runs, at most 255; a rest of fewer than four numbers is no request.
-fn job_runs(score: Score) -> Score {
+fn job_runs(score: &mut Score) -> Result<(), Fault> {
     score.jobs(
-        b"
+        "
 rest of three numbers | 2 2 | 9 9 9 |          | 0 10 | 0 2 2 0 0 0   | J =
 254 grants            | 2 2 |       | 00*254   | 0 14 | 0 2 2 0 254 1 | J 47 52 00 FE =
 255 grants            | 2 2 |       | 00*255   | 0 14 | 0 2 2 0 255 1 | J 47 52 00 FF =
@@ -482,9 +484,9 @@ heads in turn         | 2 2 |       | 00 01 00 | 0 22 | 0 2 2 0 3 3   | J S 47 5
 }
 
 // Places (4), then heads (5); a number too wide for its field is refused, not cut.
-fn job_sizes(score: Score) -> Score {
+fn job_sizes(score: &mut Score) -> Result<(), Fault> {
     score.jobs(
-        b"
+        "
 4,097 places           | 4097 1  |          |  | 4
 no place               | 0 1     |          |  | 4
 65,537 places          | 65537 1 |          |  | 4
@@ -499,9 +501,9 @@ heads bad, request bad | 2 33    | 33 3 2 2 |  | 5
 }
 
 // The last of 16, 17 and 32 heads (02, A4), and the head behind the last, in a request (6) and in a grant (10).
-fn job_heads(score: Score) -> Score {
+fn job_heads(score: &mut Score) -> Result<(), Fault> {
     score.jobs(
-        b"
+        "
 16 heads, largest fields | 4096 16 | 15 2 4095 4094 | 0F 0F 00 | 0 26 | 0 4096 16 1 3 2 | 44 4B 00 10 10 00 52 51 0F 02 FF 0F FE 0F 47 52 0F 02 47 52 00 01 43 4C 6E 3D
 17 heads, last one       | 2 17    | 16 2 0 1       | 10*3     | 0 22 | 0 2 17 1 3 1    | 44 4B 02 00 11 00 52 51 10 02 00 00 01 00 47 52 10 03 43 4C AC BF
 32 heads, last two       | 2 32    | 31 1 0 1       | 1F*13 1E | 0 26 | 0 2 32 1 14 2   | 44 4B 02 00 20 00 52 51 1F 01 00 00 01 00 47 52 1F 0D 47 52 1E 01 43 4C 1A 63
@@ -517,9 +519,9 @@ both of head 31 of 31    | 2 31    | 31 1 0 1       | 1F       | 6
 }
 
 // Head (6), kind (7), place x and place y (8), request by request, then each grant (10).
-fn job_fields(score: Score) -> Score {
+fn job_fields(score: &mut Score) -> Result<(), Fault> {
     score.jobs(
-        b"
+        "
 head 2                 | 2 2 | 2 1 0 1         |          | 6
 head 256               | 2 2 | 256 1 0 1       |          | 6
 kind 0                 | 2 2 | 0 0 0 1         |          | 7
@@ -541,9 +543,9 @@ request bad, grant bad | 2 2 | 0 1 0 2         | 02       | 8
 }
 
 // The count of requests (9), behind places and heads and before any field.
-fn job_requests(score: Score) -> Score {
+fn job_requests(score: &mut Score) -> Result<(), Fault> {
     score.jobs(
-        b"
+        "
 512 requests                   | 2 2  | Q*512         |    | 0 4106 | 0 2 2 512 0 0 | J Q*512 =
 512 requests and three numbers | 2 2  | Q*512 0 1 0   |    | 0 4106 | 0 2 2 512 0 0 | J Q*512 =
 513 requests                   | 2 2  | Q*513         |    | 9
@@ -556,9 +558,9 @@ fn job_requests(score: Score) -> Score {
 }
 
 // The file's length (1), behind requests and grants and before the buffer.
-fn job_lengths(score: Score) -> Score {
+fn job_lengths(score: &mut Score) -> Result<(), Fault> {
     score.jobs(
-        b"
+        "
 32,766 bytes, 8,189 runs       | 2 2   |         | T*4094 00    | 0 32766 | 0 2 2 0 8189 8189    | J S*4094 47 52 00 01 =
 32,766 bytes, 512 requests     | 2 2   | Q*512   | T*3582 00    | 0 32766 | 0 2 2 512 7165 7165  | J Q*512 S*3582 47 52 00 01 =
 32,766 bytes, 2,088,195 grants | 2 2   |         | 00*2088195   | 0 32766 | 0 2 2 0 2088195 8189 | J R*8189 =
@@ -573,9 +575,9 @@ fn job_lengths(score: Score) -> Score {
 }
 
 // The buffer (14), last of all.
-fn job_buffers(score: Score) -> Score {
+fn job_buffers(score: &mut Score) -> Result<(), Fault> {
     score.jobs(
-        b"
+        "
 buffer of 10 bytes      | 1 1 10    |  |           | 0 10    | 0 1 1 0 0 0       | 44 4B 01 00 01 00 =
 buffer of 9 bytes       | 1 1 9     |  |           | 14
 empty buffer            | 1 1 0     |  |           | 14
@@ -587,9 +589,9 @@ buffer of 32,765 bytes  | 2 2 32765 |  | T*4094 00 | 14
 }
 
 // Pairs behind the requests (02, A3); a rest of one number is no pair.
-fn job_pairs(score: Score) -> Score {
+fn job_pairs(score: &mut Score) -> Result<(), Fault> {
     score.jobs(
-        b"
+        "
 pair 1 0               | 4 2 | Q*2 / 1 0               |                 | 0 32   | 0 4 2 2 0 0 1   | 44 4B 04 00 02 00 Q*2 41 46 01 00 00 00 43 4C 8B 7D
 no pair                | 4 2 | Q*2 /                   |                 | 0 26   | 0 4 2 2 0 0 0   | 44 4B 04 00 02 00 Q*2 43 4C CD C3
 rest of one number     | 4 2 | Q*2 / 1                 |                 | 0 26   | 0 4 2 2 0 0 0   | 44 4B 04 00 02 00 Q*2 43 4C CD C3
@@ -606,9 +608,9 @@ two heads, 1 waits     | 2 2 | 0 1 0 1 1 2 0 1 / 1 0   | 01*3 00*13 01*6 | 0 44 
 }
 
 // Both requests exist, the earlier is below the later, the pairs rise strictly (18); a number too wide is refused, not cut.
-fn job_pair_fields(score: Score) -> Score {
+fn job_pair_fields(score: &mut Score) -> Result<(), Fault> {
     score.jobs(
-        b"
+        "
 pair 0 0 of no request | 2 2 | / 0 0               |  | 18
 pair 1 0 of no request | 2 2 | / 1 0               |  | 18
 pair 0 0 of one        | 2 2 | Q / 0 0             |  | 18
@@ -633,9 +635,9 @@ pairs 256 0, 255 0     | 2 2 | Q*512 / 256 0 255 0 |  | 18
 }
 
 // The pairs are checked behind every request and before every grant, the length and the buffer.
-fn job_pair_faults(score: Score) -> Score {
+fn job_pair_faults(score: &mut Score) -> Result<(), Fault> {
     score.jobs(
-        b"
+        "
 heads bad, pair bad         | 2 33  | Q*2 / 1 1            |            | 5
 513 requests, pair bad      | 2 2   | Q*513 / 1 1          |            | 9
 place 4, pair bad           | 4 2   | Q 0 1 0 4 / 1 1      |            | 8
@@ -652,9 +654,9 @@ pair bad, empty buffer      | 2 2 0 | Q*2 / 1 1            |            | 18
 }
 
 // The length (1) and the buffer (14) count the pairs.
-fn job_pair_lengths(score: Score) -> Score {
+fn job_pair_lengths(score: &mut Score) -> Result<(), Fault> {
     score.jobs(
-        b"
+        "
 buffer of 32 bytes                      | 2 2 32    | Q*2 / 1 0      |            | 0 32    | 0 2 2 2 0 0 1          | J Q*2 W =
 buffer of 31 bytes                      | 2 2 31    | Q*2 / 1 0      |            | 14
 buffer of 31 bytes, 4 places            | 4 2 31    | Q*2 / 1 0      |            | 14
@@ -674,9 +676,9 @@ buffer of 32,767 bytes                  | 2 2 32767 | Q*512 / P*4777 |          
 }
 
 // Rights behind the heads (02, A5); a rest of one or two numbers is no right.
-fn job_rights(score: Score) -> Score {
+fn job_rights(score: &mut Score) -> Result<(), Fault> {
     score.jobs(
-        b"
+        "
 join alone, enquire alone | 4 2  | 0 1 2 3 1 2 0 1 / / 0 1 1 1 2 3     | 01 01 00*13 01  | 0 54  | 0 4 2 2 16 3 0 2  | 44 4B 04 00 02 00 52 54 00 01 01 00 00 00 52 54 01 02 03 00 00 00 52 51 00 01 02 00 03 00 52 51 01 02 00 00 01 00 47 52 01 02 47 52 00 0D 47 52 01 01 43 4C 48 10
 with a pair               | 4 2  | 0 1 0 1 1 2 0 1 / 1 0 / 0 3 3 1 3 2 | 01*3 00*13 01*6 | 0 60  | 0 4 2 2 22 3 1 2  | 44 4B 04 00 02 00 52 54 00 03 03 00 00 00 52 54 01 03 02 00 00 00 52 51 00 01 00 00 01 00 52 51 01 02 00 00 01 00 41 46 01 00 00 00 47 52 01 03 47 52 00 0D 47 52 01 06 43 4C 09 C1
 no right                  | 2 2  | Q / /                               |                 | 0 18  | 0 2 2 1 0         | J Q =
@@ -691,9 +693,9 @@ mask of bit 16            | 2 17 | / / V*16 16 3 65537                 |        
 }
 
 // Neither none nor one a head (19), then each right (19), behind places and heads and before the count of the requests.
-fn job_right_fields(score: Score) -> Score {
+fn job_right_fields(score: &mut Score) -> Result<(), Fault> {
     score.jobs(
-        b"
+        "
 one of two                 | 2 2   | / / V                     |    | 19
 three of two               | 2 2   | / / V*3                   |    | 19
 33 of 32                   | 2 32  | / / V*33                  |    | 19
@@ -724,9 +726,9 @@ rights, grant bad          | 2 2   | Q / / V*2                 | 02 | 10
 }
 
 // The length (1) and the buffer (14) count the rights.
-fn job_right_lengths(score: Score) -> Score {
+fn job_right_lengths(score: &mut Score) -> Result<(), Fault> {
     score.jobs(
-        b"
+        "
 buffer of 26 bytes       | 2 2 26 | / / V*2 |            | 0 26    | 0 2 2 0 0 0 0 2          | J V*2 =
 buffer of 25 bytes       | 2 2 25 | / / V*2 |            | 14
 32,766 bytes, 8,185 runs | 2 2    | / / V*2 | 00*2087175 | 0 32766 | 0 2 2 0 2087175 8185 0 2 | J V*2 R*8185 =
@@ -736,77 +738,76 @@ buffer of 25 bytes       | 2 2 25 | / / V*2 |            | 14
 }
 
 // Reads every file without pairs.
-fn read_files(score: Score) -> Score {
-    let score = score.say(b"reader: number places heads requests grants runs pairs rights\n");
-    let score = file_cuts(score);
-    let score = file_marks(score);
-    let score = file_sizes(score);
-    let score = file_heads(score);
-    let score = file_fields(score);
-    let score = file_first_faults(score);
-    let score = file_sample(score);
-    let score = file_runs(score);
-    let score = file_requests(score);
+fn read_files(score: &mut Score) -> Result<(), Fault> {
+    score.say("reader: number places heads requests grants runs pairs rights");
+    file_cuts(score)?;
+    file_marks(score)?;
+    file_sizes(score)?;
+    file_heads(score)?;
+    file_fields(score)?;
+    file_first_faults(score)?;
+    file_sample(score)?;
+    file_runs(score)?;
+    file_requests(score)?;
     file_lengths(score)
 }
 
 // Reads every file with pairs.
-fn read_pairs(score: Score) -> Score {
-    let score = file_pair_sample(score);
-    let score = file_pair_cuts(score);
-    let score = file_pair_places(score);
-    let score = file_pair_fields(score);
-    let score = file_pair_order(score);
-    let score = file_pair_faults(score);
+fn read_pairs(score: &mut Score) -> Result<(), Fault> {
+    file_pair_sample(score)?;
+    file_pair_cuts(score)?;
+    file_pair_places(score)?;
+    file_pair_fields(score)?;
+    file_pair_order(score)?;
+    file_pair_faults(score)?;
     file_pair_lengths(score)
 }
 
 // Reads every file with rights.
-fn read_rights(score: Score) -> Score {
-    let score = file_right_samples(score);
-    let score = file_right_places(score);
-    let score = file_right_fields(score);
-    let score = file_right_kinds(score);
+fn read_rights(score: &mut Score) -> Result<(), Fault> {
+    file_right_samples(score)?;
+    file_right_places(score)?;
+    file_right_fields(score)?;
+    file_right_kinds(score)?;
     file_right_lengths(score)
 }
 
 // Writes every job without pairs.
-fn write_jobs(score: Score) -> Score {
-    let score = score.say(
-        b"writer: number bytes, then what the reader answers for the written file\n",
-    );
-    let score = job_samples(score);
-    let score = job_runs(score);
-    let score = job_sizes(score);
-    let score = job_heads(score);
-    let score = job_fields(score);
-    let score = job_requests(score);
-    let score = job_lengths(score);
+fn write_jobs(score: &mut Score) -> Result<(), Fault> {
+    score.say("writer: number bytes, then what the reader answers for the written file");
+    job_samples(score)?;
+    job_runs(score)?;
+    job_sizes(score)?;
+    job_heads(score)?;
+    job_fields(score)?;
+    job_requests(score)?;
+    job_lengths(score)?;
     job_buffers(score)
 }
 
 // Writes every job with pairs.
-fn write_pairs(score: Score) -> Score {
-    let score = job_pairs(score);
-    let score = job_pair_fields(score);
-    let score = job_pair_faults(score);
+fn write_pairs(score: &mut Score) -> Result<(), Fault> {
+    job_pairs(score)?;
+    job_pair_fields(score)?;
+    job_pair_faults(score)?;
     job_pair_lengths(score)
 }
 
 // Writes every job with rights.
-fn write_rights(score: Score) -> Score {
-    let score = job_rights(score);
-    let score = job_right_fields(score);
+fn write_rights(score: &mut Score) -> Result<(), Fault> {
+    job_rights(score)?;
+    job_right_fields(score)?;
     job_right_lengths(score)
 }
 
-fn main(rt: HostRuntime) {
-    let score = Score::none(rt.stdout());
-    let score = read_files(score);
-    let score = read_pairs(score);
-    let score = read_rights(score);
-    let score = write_jobs(score);
-    let score = write_pairs(score);
-    let score = write_rights(score);
-    print_score(score);
+fn main(rt: HostRuntime) -> Result<(), Fault> {
+    let mut score = Score::new(rt.stdout());
+    read_files(&mut score)?;
+    read_pairs(&mut score)?;
+    read_rights(&mut score)?;
+    write_jobs(&mut score)?;
+    write_pairs(&mut score)?;
+    write_rights(&mut score)?;
+    score.end();
+    Ok(())
 }

@@ -5,272 +5,184 @@
 //
 // The last two fields of a job row are what the reader answers for the written file, and that file, built by hand; a
 // refusal has neither. A pair (02, A3) is two numbers, later and earlier, a right (02, A5) three, head, rights and mask. Without
-// a room the writer gets a buffer of 32,774 bytes. Numbers left out elsewhere are zeros.
-ghost use Rattle.std.specs.Prelude.{◌≡◌, length};
-
-use crate::build::{put_numbers, put_words};
-use crate::score::{Score, judge, print_checked, print_label, print_written};
-use crate::text::{field, find, first_bytes, list};
-use reader::Checked;
-use writer::Written;
-
-// What the rows of a table are.
-#[derive(Clone, Copy)]
-enum Rows {
-    Files,
-    Jobs,
-}
+// a room the writer gets a buffer of 32,774 bytes, room for a file that is a pair too long. Numbers left out elsewhere are zeros.
+use crate::build::{PAIRS, add_bytes, numbers_of};
+use crate::list::List;
+use crate::score::Score;
+use crate::text::{Fault, field, list};
+use reader::Accepted;
 
 // What stands in a buffer before the writer gets it.
 const UNWRITTEN: u8 = 0xEE;
 
 // Room for a file, and for one that is a pair too long.
-fn file_room() -> [u8; 32774]
-    ensures { 32774 ≡ length result }
-{
-    [UNWRITTEN; 32774]
-}
+const FILE_ROOM: usize = 32774;
+
+// Room for the numbers of an answer.
+const ANSWER_ROOM: usize = 8;
 
 // Room for the numbers of 513 requests.
-fn request_room() -> [u32; 2052]
-    ensures { 2052 ≡ length result }
-{
-    [0; 2052]
-}
+const REQUEST_ROOM: usize = 2052;
 
-// Room for the numbers of 5,322 pairs: 5,321 beside 104 requests are the most that a file can have.
-fn pair_room() -> [u32; 10644]
-    ensures { 10644 ≡ length result }
-{
-    [0; 10644]
-}
+// Room for the numbers of all pairs of a list.
+const PAIR_ROOM: usize = 2 * PAIRS;
 
 // Room for the numbers of 33 rights.
-fn right_room() -> [u32; 99]
-    ensures { 99 ≡ length result }
-{
-    [0; 99]
-}
+const RIGHT_ROOM: usize = 99;
 
 // Room for the grants of 8,189 runs of 255, and one more.
-fn grant_room() -> [u8; 2088196]
-    ensures { 2088196 ≡ length result }
-{
-    [0; 2088196]
-}
+const GRANT_ROOM: usize = 2088196;
 
-// The first numbers, or all where there are fewer.
-fn first_numbers(numbers: &[u32], count: usize) -> &[u32] {
-    if numbers.len() < count {
-        return numbers;
-    }
-    &numbers[..count]
-}
-
-// The reader's answer that a field expects.
-fn checked_in(text: &[u8]) -> Checked {
-    let mut numbers = [0u32; 8];
-    put_numbers(&mut numbers, text);
-    Checked {
-        number: numbers[0],
-        nodes: numbers[1],
-        heads: numbers[2],
-        rights: numbers[7],
-        requests: numbers[3],
-        waits: numbers[6],
-        grants: numbers[4],
-        runs: numbers[5],
+// What the reader answers: 0 and the counts of the file's job, or a refusal's number and zeros.
+fn read(file: &[u8]) -> [u32; ANSWER_ROOM] {
+    match Accepted::check(file) {
+        Ok(job) => {
+            let counts = job.counts;
+            [
+                0,
+                counts.nodes,
+                counts.heads,
+                counts.requests,
+                counts.grants,
+                counts.runs,
+                counts.waits,
+                counts.rights,
+            ]
+        }
+        Err(refusal) => [u32::from(refusal), 0, 0, 0, 0, 0, 0, 0],
     }
 }
 
-// The writer's answer that a field expects.
-fn written_in(text: &[u8]) -> Written {
-    let mut numbers = [0u32; 2];
-    put_numbers(&mut numbers, text);
-    Written {
-        number: numbers[0],
-        bytes: numbers[1],
-    }
+// Whether numbers are those that a field expects.
+fn are_expected(numbers: &[u32], field: &str) -> Result<bool, Fault> {
+    let expected: List<u32, ANSWER_ROOM> = numbers_of(field)?;
+    Ok(expected.as_filled().starts_with(numbers))
 }
 
-// Whether two answers of the reader are the same in all eight numbers.
-fn is_same_checked(a: Checked, b: Checked) -> bool {
-    if a.number != b.number {
-        return false;
-    }
-    if a.nodes != b.nodes {
-        return false;
-    }
-    if a.heads != b.heads {
-        return false;
-    }
-    if a.requests != b.requests {
-        return false;
-    }
-    if a.grants != b.grants {
-        return false;
-    }
-    if a.runs != b.runs {
-        return false;
-    }
-    if a.rights != b.rights {
-        return false;
-    }
-    a.waits == b.waits
+// What a job row gives to the writer, but for the grants.
+#[derive(Drop)]
+struct Job {
+    nodes: u32,
+    heads: u32,
+    room: usize,
+    rights: List<u32, RIGHT_ROOM>,
+    requests: List<u32, REQUEST_ROOM>,
+    waits: List<u32, PAIR_ROOM>,
 }
 
-// Whether two answers of the writer are the same in both numbers.
-fn is_same_written(a: Written, b: Written) -> bool {
-    if a.number != b.number {
-        return false;
+impl Job {
+    // The job of a row.
+    fn of(row: &str) -> Result<Job, Fault> {
+        let sizes: List<u32, 3> = numbers_of(field(row, 1))?;
+        let sizes = sizes.as_slice();
+        let lists = field(row, 2);
+        Ok(Job {
+            nodes: sizes.get(0).copied().unwrap_or(0),
+            heads: sizes.get(1).copied().unwrap_or(0),
+            room: sizes.get(2).map_or(FILE_ROOM, |&room| room as usize),
+            rights: numbers_of(list(lists, 2))?,
+            requests: numbers_of(list(lists, 0))?,
+            waits: numbers_of(list(lists, 1))?,
+        })
     }
-    a.bytes == b.bytes
+
+    // What the writer answers, given a list without items and the field of its grants: 0 and the bytes written, or a refusal's number
+    // and 0. The list is handed over as it is made: a build that isn't optimized holds one copy more, two megabytes, of one with a name.
+    fn write(
+        &self,
+        mut grants: List<u8, GRANT_ROOM>,
+        field: &str,
+        out: &mut [u8],
+    ) -> Result<[u32; 2], Fault> {
+        add_bytes(&mut grants, field)?;
+        let answer = writer::write(
+            self.nodes,
+            self.heads,
+            self.rights.as_slice(),
+            self.requests.as_slice(),
+            self.waits.as_slice(),
+            grants.as_slice(),
+            out,
+        );
+        Ok(match answer {
+            Ok(bytes) => [0, bytes],
+            Err(refusal) => [u32::from(refusal), 0],
+        })
+    }
 }
 
 // Plays a file row.
-fn play_file(score: Score, row: &[u8]) -> Score {
-    print_label(score, field(row, 0));
-    let mut file = file_room();
-    let end = put_words(&mut file, field(row, 1));
-    let answer = reader::check(first_bytes(&file, end));
-    print_checked(score.out, answer);
-    judge(score, is_same_checked(answer, checked_in(field(row, 2))))
-}
-
-// Writes the job of a row.
-fn write_row(row: &[u8], out: &mut [u8]) -> Written {
-    let mut sizes = [0u32; 3];
-    put_numbers(&mut sizes, field(row, 1));
-    let mut requests = request_room();
-    let numbers = put_numbers(&mut requests, list(field(row, 2), 0));
-    let mut waits = pair_room();
-    let pairs = put_numbers(&mut waits, list(field(row, 2), 1));
-    let mut rights = right_room();
-    let held = put_numbers(&mut rights, list(field(row, 2), 2));
-    let mut grants = grant_room();
-    let count = put_words(&mut grants, field(row, 3));
-    writer::write(
-        sizes[0],
-        sizes[1],
-        first_numbers(&rights, held),
-        first_numbers(&requests, numbers),
-        first_numbers(&waits, pairs),
-        first_bytes(&grants, count),
-        out,
-    )
-}
-
-// The bytes from a position on, or all where there are fewer.
-fn rest_bytes(bytes: &[u8], from: usize) -> &[u8] {
-    if bytes.len() < from {
-        return bytes;
-    }
-    &bytes[from..]
-}
-
-// Whether a buffer is as it was from a position on.
-fn is_kept(out: &[u8], from: usize) -> bool {
-    let room = file_room();
-    rest_bytes(out, from) == rest_bytes(&room, from)
-}
-
-// Whether a buffer starts with the bytes of a field.
-fn is_file(out: &[u8], bytes: usize, text: &[u8]) -> bool {
-    let mut file = file_room();
-    let end = put_words(&mut file, text);
-    first_bytes(out, bytes) == first_bytes(&file, end)
+fn play_file(score: &mut Score, row: &str) -> Result<(), Fault> {
+    score.begin(field(row, 0));
+    let mut file: List<u8, FILE_ROOM> = List::new(0);
+    add_bytes(&mut file, field(row, 1))?;
+    let answer = read(file.as_slice());
+    score.tell(&answer);
+    score.judge(are_expected(&answer, field(row, 2))?);
+    Ok(())
 }
 
 // Reads the written file again, prints the answer, and gives whether the row expects it. A refusal has left no file.
-fn read_again(score: Score, row: &[u8], answer: Written, out: &[u8]) -> bool {
-    let expected = checked_in(field(row, 5));
-    if answer.bytes == 0 {
-        return is_same_checked(checked_in(b""), expected);
+fn read_again(score: &Score, file: &[u8], row: &str) -> Result<bool, Fault> {
+    if file.is_empty() {
+        return are_expected(&[0; ANSWER_ROOM], field(row, 5));
     }
-    let again = reader::check(first_bytes(out, answer.bytes as usize));
-    print_checked(score.out, again);
-    is_same_checked(again, expected)
+    let answer = read(file);
+    score.tell(&answer);
+    are_expected(&answer, field(row, 5))
 }
 
-// Whether the writer has answered and left what a job row expects.
-fn is_left(row: &[u8], answer: Written, out: &[u8]) -> bool {
-    let bytes = answer.bytes as usize;
-    if !is_same_written(answer, written_in(field(row, 4))) {
-        return false;
-    }
-    if !is_file(out, bytes, field(row, 6)) {
-        return false;
-    }
-    is_kept(out, bytes)
-}
-
-// A number as a count.
-fn wide(number: u32) -> usize {
-    number as usize
-}
-
-// The room that a job row lends to the writer.
-fn room_in(row: &[u8]) -> usize {
-    let mut sizes = [0u32; 3];
-    if put_numbers(&mut sizes, field(row, 1)) < 3 {
-        return 32774;
-    }
-    wide(sizes[2])
-}
-
-// Writes the job of a row into the first part of a buffer; a part that it does not have gets an answer that no row expects.
-fn write_within(row: &[u8], out: &mut [u8], room: usize) -> Written {
-    if out.len() < room {
-        return written_in(b"");
-    }
-    write_row(row, &mut out[..room])
+// Whether bytes are those that a field's words stand for.
+fn are_meant(bytes: &[u8], field: &str) -> Result<bool, Fault> {
+    let mut meant: List<u8, FILE_ROOM> = List::new(0);
+    add_bytes(&mut meant, field)?;
+    Ok(bytes == meant.as_slice())
 }
 
 // Plays a job row: the writer gets the first part of a buffer.
-fn play_job(score: Score, row: &[u8]) -> Score {
-    print_label(score, field(row, 0));
-    let mut out = file_room();
-    let answer = write_within(row, &mut out, room_in(row));
-    print_written(score.out, answer);
-    if !read_again(score, row, answer, &out) {
-        return judge(score, false);
-    }
-    judge(score, is_left(row, answer, &out))
-}
-
-// Plays a row.
-fn play_row(score: Score, rows: Rows, row: &[u8]) -> Score {
-    match rows {
-        Rows::Files => play_file(score, row),
-        Rows::Jobs => play_job(score, row),
-    }
-}
-
-// Plays the rows of a table, one a line; the line before the first is empty.
-fn play(start: Score, rows: Rows, table: &[u8]) -> Score {
-    let mut score = start;
-    let mut from = 0;
-    while from < table.len() {
-        let end = find(table, from, b'\n');
-        if from < end {
-            score = play_row(score, rows, &table[from..end]);
-        }
-        if end == table.len() {
-            return score;
-        }
-        from = end + 1;
-    }
-    score
+fn play_job(score: &mut Score, row: &str) -> Result<(), Fault> {
+    score.begin(field(row, 0));
+    let job = Job::of(row)?;
+    let mut buffer = [UNWRITTEN; FILE_ROOM];
+    let out = buffer.get_mut(..job.room).ok_or(Fault::Full)?;
+    let answer = job.write(List::new(0), field(row, 3), out)?;
+    score.tell(&answer);
+    let Some((file, rest)) = buffer.split_at_checked(answer[1] as usize) else {
+        score.judge(false);
+        return Ok(());
+    };
+    let is_right = read_again(score, file, row)?
+        && are_expected(&answer, field(row, 4))?
+        && are_meant(file, field(row, 6))?
+        && rest.iter().all(|&byte| byte == UNWRITTEN);
+    score.judge(is_right);
+    Ok(())
 }
 
 impl Score {
+    // Plays the rows of a table, one a line.
+    fn play<F: Fn(&mut Score, &str) -> Result<(), Fault>>(
+        &mut self,
+        table: &str,
+        play_row: F,
+    ) -> Result<(), Fault>
+        requires { F.IsAlwaysCallable play_row }
+    {
+        for row in table.lines() {
+            if !row.is_empty() {
+                play_row(self, row)?;
+            }
+        }
+        Ok(())
+    }
+
     // Plays the file rows of a table.
-    pub fn files(self, table: &[u8]) -> Score {
-        play(self, Rows::Files, table)
+    pub fn files(&mut self, table: &str) -> Result<(), Fault> {
+        self.play(table, play_file)
     }
 
     // Plays the job rows of a table.
-    pub fn jobs(self, table: &[u8]) -> Score {
-        play(self, Rows::Jobs, table)
+    pub fn jobs(&mut self, table: &str) -> Result<(), Fault> {
+        self.play(table, play_job)
     }
 }

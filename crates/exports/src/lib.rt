@@ -1,5 +1,5 @@
-// The core's functions for programs in C and Rust: each calls the function that it is named after and promises the same.
-// A slice is passed as a pointer and a length, and a result is returned by value.
+// The core's functions for programs in C and Rust: each calls the function that it is named after and promises the same, and
+// makes the struct of the header from its answer. A slice is passed as a pointer and a length, and a result is returned by value.
 #![tactic(auto)]
 
 ghost use Rattle.std.specs.Prelude.{◌≡◌};
@@ -35,7 +35,7 @@ pub extern "C" fn grouping_play(
     ensures waited { result.number ≡ 0 → WaitedHere file.now result report.new linearization.new }
     ensures bounded { result.number ≡ 0 → BoundedHere file.now result report.new }
 {
-    player::play(file, table, report, linearization)
+    Played::from(player::play(file, table, report, linearization))
 }
 
 // Writes the file of a job, from three numbers a head's rights (head, rights, mask) or none, four a request, two a pair of
@@ -54,7 +54,7 @@ pub extern "C" fn grouping_write(
         ≡ writes (given nodes heads rights.now requests.now waits.now grants.now)
         out.old }
 {
-    writer::write(nodes, heads, rights, requests, waits, grants, out)
+    Written::from(writer::write(nodes, heads, rights, requests, waits, grants, out))
 }
 
 // Makes a counter enquiry: are x and y in one set, within a budget of grants?
@@ -64,7 +64,7 @@ pub extern "C" fn grouping_query(table: &mut [Word], x: u32, y: u32, budget: u16
     ensures faithful { result.number ≡ 0
         → Faithful table.old x y budget (record { queried = result; table = table.new }) }
 {
-    query::query(table, x, y, budget)
+    Queried::from(query::query(table, x, y, budget))
 }
 
 // Prints a played job as text into a lent buffer.
@@ -80,7 +80,7 @@ pub extern "C" fn grouping_list(
     ensures text { out.new
         ≡ printed played table.now report.now linearization.now out.old }
 {
-    listing::list(played, table, report, linearization, out)
+    Listed::from(listing::list(played, table, report, linearization, out))
 }
 
 // Tells how many of its own grants a same-set and a union on that many nodes take at most, whatever the others do.
@@ -89,5 +89,5 @@ pub extern "C" fn grouping_limits(nodes: u32) -> Limits
     ensures exact { result ≡ limits_of nodes }
     ensures logarithm { result.number ≡ 0 → Logarithm nodes (levels nodes) }
 {
-    bounds::limits_of(nodes)
+    Limits::from(bounds::limits_of(nodes))
 }

@@ -1,42 +1,36 @@
 -- Words of a file, and the loop that adds them up.
 --
---   word_past, word_last    the word at a place past the end, and at the last byte
---   Summed s sum at         sum is that of the words before the place `at`, without carries out of 16 bits
---   sum_start, sum_next, sum_end   it holds at first, after a word, and what it gives at the end
-use Rattle.std.proofs.Common.{◌≡◌, ℕ, ◌+◌, ◌*◌, ◌%◌, ◌<◌, ◌≤◌, List, [], ◌∷◌, length, get_or, drop, refl, add-zero, arith}
-use Rattle.std.proofs.Common.{drop_of_length-le, get_or-drop, drop-drop}
-use lib.ListN.{get_or-eq_default}
+--   rows_sum rs             the sum of the words that the rows rs hold, two bytes each
+--   sum_of_rows             the words of a file are those of its rows, and one for a byte that is left over
+--   next_word               the sum of the rows from one on: its word and those behind it
+--   sum_all                 what is summed behind the last row, with the byte that is left over, is the sum of the file
+use Rattle.std.proofs.Common.{◌≡◌, ℕ, suc, ◌+◌, ◌*◌, ◌/◌, ◌%◌, ◌<◌, ◌≤◌, List, [], ◌∷◌, length, get_or, drop, arith}
+use Rattle.std.proofs.Common.{drop_of_length-le}
+use Rattle.std.proofs.lemmas.List.{at_drop_more}
+use Rattle.std.specs.Simd.{first_chunks}
 use Rattle.jobfile.specs.Format.{word, word_sum}
 
-pub word_past : (s : List ℕ) (at : ℕ) → length s ≤ at → word (drop at s) ≡ 0
-word_past s at l = rw (drop_of_length-le s {i = at} l)
+abbrev pub rows_sum : List (List ℕ) → ℕ
+rows_sum [] = 0
+rows_sum (row ∷ rows) = word row + rows_sum rows
 
-pub word_last : (s : List ℕ) (at : ℕ) → length s ≤ at + 1 → word (drop at s) ≡ get_or s at 0
-word_last s at l =
-    let bytes : word (drop at s) ≡ get_or s at 0 + 256 * get_or s (at + 1) 0 = simp (get_or-drop, add-zero) in
-    omega (arith, bytes, get_or-eq_default s 0 l)
+pub sum_of_rows : (s : List ℕ) → word_sum s ≡ rows_sum (first_chunks 2 (length s / 2) s) + word (drop (length s / 2 * 2) s)
+sum_of_rows [] = omega arith
+sum_of_rows (low ∷ []) = omega arith
+sum_of_rows (low ∷ high ∷ t) =
+    let one : length (low ∷ high ∷ t) / 2 ≡ suc (length t / 2) = omega arith in
+    let two : suc (length t / 2) * 2 ≡ suc (suc (length t / 2 * 2)) = omega arith in
+    rw (one, two) (omega (arith, sum_of_rows t))
 
-first_word : (t : List ℕ) → word_sum t ≡ word t + word_sum (drop 2 t)
-first_word [] = refl
-first_word (low ∷ []) = omega arith
-first_word (low ∷ high ∷ t) = refl
+pub next_word : (rows : List (List ℕ)) (i : ℕ) → i < length rows
+    → rows_sum (drop i rows) ≡ word (get_or rows i []) + rows_sum (drop (i + 1) rows)
+next_word rows i l = at_drop_more rows_sum rows i [] l
 
-sum_from : (s : List ℕ) (at : ℕ) → word_sum (drop at s) ≡ word (drop at s) + word_sum (drop (at + 2) s)
-sum_from s at = rw (← drop-drop) (first_word (drop at s))
-
-pub record Summed (s : List ℕ) (sum at : ℕ) : Type 0 where
-  pub within : at ≤ length s
-  pub fits : sum < 65536
-  pub rest : (sum + word_sum (drop at s)) % 65536 ≡ word_sum s % 65536
-
-pub sum_start : (s : List ℕ) → Summed s 0 0
-sum_start s = record { within = omega arith; fits = omega arith; rest = omega arith }
-
-module _ {s : List ℕ} {sum at : ℕ} (summed : Summed s sum at) (next : ℕ) (added : next ≡ (sum + word (drop at s)) % 65536) where
-  pub sum_next : at + 1 < length s → Summed s next (at + 2)
-  sum_next l = record { within = omega arith; fits = omega arith; rest = omega (arith, summed.rest, sum_from s at) }
-
-  pub sum_end : length s ≤ at + 1 → next ≡ word_sum s % 65536
-  sum_end l =
-      let none : word_sum (drop (at + 2) s) ≡ 0 = rw (drop_of_length-le s {i = at + 2} (omega arith)) in
-      omega (arith, summed.rest, sum_from s at)
+pub sum_all : (s : List ℕ) (rows : List (List ℕ)) (rest : List ℕ) (sum i last : ℕ)
+    → rows ≡ first_chunks 2 (length s / 2) s → rest ≡ drop (length s / 2 * 2) s → length rows ≤ i
+    → (sum + rows_sum (drop i rows)) % 65536 ≡ rows_sum rows % 65536 → last ≡ word rest
+    → (sum + last) % 65536 ≡ word_sum s % 65536
+sum_all s rows rest sum i last front back end same is =
+    let none : rows_sum (drop i rows) ≡ 0 = rw (drop_of_length-le rows {i = i} end) in
+    let total : word_sum s ≡ rows_sum rows + last = rw (front, is, back) (sum_of_rows s) in
+    omega (arith, same, none, total)

@@ -5,11 +5,12 @@
 pub mod bytes;
 
 ghost use Rattle.std.specs.Prelude.{◌≡◌, ◌^◌, nat_le};
-ghost use Rattle.job.specs.Job.{kind_of, may_ask};
+ghost use Rattle.job.specs.Job.{may_ask};
+ghost use Rattle.job.specs.Refusal.{told};
 ghost use Rattle.jobfile.specs.Format.{right_place, request_place, wait_place, run_place, sizes_refusal, right_refusal, fields_refusal};
 ghost use Rattle.jobfile.specs.Format.{kind_refusal, rises_to, pair_refusal, extends};
 
-use job::{MOST_HEADS, MOST_NODES, Right, Wait};
+use job::{Kind, MOST_HEADS, MOST_NODES, Refusal, Right, Wait};
 use jobfile::{Fields, JOB_SIZE, REQUEST_SIZE, RIGHT_SIZE, RUN_SIZE, Run, WAIT_SIZE};
 
 // Where right number `index` stands; behind the last right stand the requests.
@@ -40,146 +41,105 @@ pub fn run_place(rights: u32, requests: u32, waits: u32, index: u32) -> usize
     wait_place(rights, requests, waits) + RUN_SIZE * (index as usize)
 }
 
-// The refusal of the number of nodes or of heads, 0 for none.
+// Checks the number of nodes, then that of heads.
 #[tactic(auto, unfolding(jobfile::specs::Format::sizes_refusal))]
-pub fn sizes_refusal(nodes: u32, heads: u32) -> u32
-    ensures { result ≡ sizes_refusal nodes heads }
+pub fn check_sizes(nodes: u32, heads: u32) -> Result<(), Refusal>
+    ensures { told result ≡ sizes_refusal nodes heads }
 {
-    if nodes == 0 {
-        return 4;
+    if nodes == 0 || MOST_NODES < nodes as usize {
+        return Err(Refusal::Places);
     }
-    if MOST_NODES < nodes as usize {
-        return 4;
+    if heads == 0 || MOST_HEADS < heads as usize {
+        return Err(Refusal::Heads);
     }
-    if heads == 0 {
-        return 5;
-    }
-    if MOST_HEADS < heads as usize {
-        return 5;
-    }
-    0
+    Ok(())
 }
 
 // Whether a mask has a bit that stands for no head, in a job of that many heads.
 fn has_stray_bit(heads: u32, sight: u32) -> bool
     ensures { result ≡ nat_le (2 ^ heads) sight }
 {
-    if 32 <= heads {
-        return false;
-    }
-    (1u32 << heads) <= sight
+    heads < 32 && 1u32 << heads <= sight
 }
 
-// The refusal of right number `number` in a job of that many heads (02, A5), 0 for none.
+// Checks right number `number` in a job of that many heads (02, A5).
 #[tactic(auto, unfolding(jobfile::specs::Format::right_refusal))]
-pub fn right_refusal(heads: u32, number: u32, right: Right) -> u32
-    ensures { result ≡ right_refusal heads number right }
+pub fn check_right(heads: u32, number: u32, right: Right) -> Result<(), Refusal>
+    ensures { told result ≡ right_refusal heads number right }
 {
-    if right.head != number {
-        return 19;
+    if right.head != number
+        || right.rights == 0
+        || 3 < right.rights
+        || has_stray_bit(heads, right.sight)
+    {
+        return Err(Refusal::Rights);
     }
-    if right.rights == 0 {
-        return 19;
-    }
-    if 3 < right.rights {
-        return 19;
-    }
-    if has_stray_bit(heads, right.sight) {
-        return 19;
-    }
-    0
+    Ok(())
 }
 
-// The refusal of a request's numbers, in the order of the fields, 0 for none.
+// Checks a request's numbers, in the order of the fields.
 #[tactic(auto, unfolding(jobfile::specs::Format::fields_refusal))]
-pub fn fields_refusal(nodes: u32, heads: u32, fields: Fields) -> u32
-    ensures { result ≡ fields_refusal nodes heads fields }
+pub fn check_fields(nodes: u32, heads: u32, fields: Fields) -> Result<(), Refusal>
+    ensures { told result ≡ fields_refusal nodes heads fields }
 {
     if heads <= fields.head {
-        return 6;
+        return Err(Refusal::RequestHead);
     }
-    if fields.kind == 0 {
-        return 7;
+    Kind::try_from(fields.kind)?;
+    if nodes <= fields.x || nodes <= fields.y {
+        return Err(Refusal::RequestPlace);
     }
-    if 2 < fields.kind {
-        return 7;
-    }
-    if nodes <= fields.x {
-        return 8;
-    }
-    if nodes <= fields.y {
-        return 8;
-    }
-    0
+    Ok(())
 }
 
 // Whether rights have the kind of a request among them.
-fn may_ask(rights: u32, kind: u32) -> bool
-    ensures { result ≡ may_ask rights (kind_of kind) }
+fn may_ask(rights: u32, kind: Kind) -> bool
+    ensures { result ≡ may_ask rights kind }
 {
-    if kind == 1 {
-        if rights == 1 {
-            return true;
-        }
-        return rights == 3;
+    match kind {
+        Kind::Union => rights == 1 || rights == 3,
+        Kind::SameSet => rights == 2 || rights == 3,
     }
-    if rights == 2 {
-        return true;
-    }
-    rights == 3
 }
 
-// The refusal of a request's kind where its head has these rights (02, A5), 0 for none.
+// Checks that rights have a request's kind among them (02, A5).
 #[tactic(auto, unfolding(jobfile::specs::Format::kind_refusal))]
-pub fn kind_refusal(rights: u32, kind: u32) -> u32
-    ensures { result ≡ kind_refusal rights kind }
+pub fn check_kind(rights: u32, kind: u32) -> Result<(), Refusal>
+    ensures { told result ≡ kind_refusal rights kind }
 {
+    // any number but 1 stands for a same-set here: `check_fields` refuses those that are not admitted
+    let kind = Kind::try_from(kind).unwrap_or(Kind::SameSet);
     if !may_ask(rights, kind) {
-        return 20;
+        return Err(Refusal::RequestRights);
     }
-    0
+    Ok(())
 }
 
 // Whether a pair comes strictly after the pair before it: by the later request, then by the earlier one.
 pub fn does_rise(before: Wait, wait: Wait) -> bool
     ensures { result ≡ rises_to before wait }
 {
-    if before.later < wait.later {
-        return true;
-    }
-    if before.later != wait.later {
-        return false;
-    }
-    before.earlier < wait.earlier
+    before < wait
 }
 
-// The refusal of a pair in a job of that many requests, 0 for none.
+// Checks a pair in a job of that many requests, behind the pair before it.
 #[tactic(auto, unfolding(jobfile::specs::Format::pair_refusal))]
-pub fn pair_refusal(count: u32, before: Wait, wait: Wait) -> u32
-    ensures { result ≡ pair_refusal count before wait }
+pub fn check_pair(count: u32, before: Wait, wait: Wait) -> Result<(), Refusal>
+    ensures { told result ≡ pair_refusal count before wait }
 {
-    if count <= wait.later {
-        return 18;
+    if count <= wait.later
+        || count <= wait.earlier
+        || wait.later <= wait.earlier
+        || !does_rise(before, wait)
+    {
+        return Err(Refusal::Wait);
     }
-    if count <= wait.earlier {
-        return 18;
-    }
-    if wait.later <= wait.earlier {
-        return 18;
-    }
-    if !does_rise(before, wait) {
-        return 18;
-    }
-    0
+    Ok(())
 }
 
 // Whether one more grant for this head belongs to the run before it.
 pub fn does_extend(run: Run, head: u8) -> bool
     ensures { result ≡ extends run head }
 {
-    if run.head == head {
-        run.count < 255
-    } else {
-        false
-    }
+    run.head == head && run.count < 255
 }

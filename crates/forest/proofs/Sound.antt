@@ -4,7 +4,7 @@
 --   Sound n p r B        well formed, labelled and heavy
 --   Singletons n p r B   each node its own parent, rank 0 and alone
 --
--- Main laws: singletons_sound, singletons are sound; rank_bound and rank_limit_lem, ranks never exceed the base-2 logarithm of
+-- Main laws: singletons_sound, singletons are sound; rank_bound and rank_at_most, ranks never exceed the base-2 logarithm of
 -- the node count.
 use mathlib.Core.Path.{◌≡◌, sym, ap, ◌∙◌}
 use mathlib.Core.Logic.{◌≢◌}
@@ -48,8 +48,8 @@ module _ {n : ℕ} {p r B : ℕ → ℕ} (sound : Sound n p r B) where
   pub rank_bound : (i : ℕ) → i < n → 2 ^ r i ≤ n
   rank_bound i l = omega (arith, sound.heavy.all i l, size_le n B (B i))
 
-  pub rank_limit_lem : (k : ℕ) → n ≤ 2 ^ k → (i : ℕ) → i < n → r i ≤ k
-  rank_limit_lem k h i l = power_limit (r i) k n (rank_bound i l) h
+  pub rank_at_most : (k : ℕ) → n ≤ 2 ^ k → (i : ℕ) → i < n → r i ≤ k
+  rank_at_most k h i l = power_limit (r i) k n (rank_bound i l) h
 
 module _ {n : ℕ} {p r B : ℕ → ℕ} (single : Singletons n p r B) where
   singletons_formed : WellFormed n p r

@@ -1,6 +1,5 @@
 -- Pairs: what it says that a job's pairs are not refused, pair by pair or of all of them.
 --
---   rises_equal         pairs with the same later request rise as the earlier ones do
 --   Rising n b ws       each of the pairs ws is one of a job with n requests, and rises from the one before it; b stands
 --                       before the first
 --   rising_each, rising_next   so each is one of its requests, and each rises to the next
@@ -12,18 +11,14 @@ use mathlib.Core.Bool.{true}
 use mathlib.Core.List.{List}
 use Prim.Native.Nat.{ℕ, suc, ◌<◌}
 use native.Mathlib.Omega.{arith}
-use lib.Dec.{ltb}
 use lib.ListN.{length, get_or}
-use borrow.Author.Tests.{eq-eqb, lt-ltb, le-ltb}
+use borrow.Author.Tests.{lt-ltb}
 use Rattle.job.specs.declared.Wait.{Wait}
 use Rattle.jobfile.specs.Format.{rises_to, pair_refusal, no_pair}
 use Rattle.jobfile.specs.Draft.{pairs_refusal}
 use Rattle.jobfile.specs.Admitted.{Pairs}
 use Rattle.jobfile.proofs.Refusals.{Paired, paired, paired_passes}
 use Rattle.jobfile.proofs.Chains.{Chained, latest, chained_each, chained_next, chained, checked_chain, chain_checked}
-
-pub rises_equal : (before w : Wait) → before.later ≡ w.later → rises_to before w ≡ ltb before.earlier w.earlier
-rises_equal before w same = rw (le-ltb before.later w.later (omega arith), eq-eqb before.later w.later same)
 
 abbrev pub Rising : ℕ → Wait → List Wait → Type 0
 Rising count = Chained (Paired count) latest

@@ -3,8 +3,7 @@
 --   length_written      the length of what is written
 --   file_short          an accepted file is at most 32,768 bytes
 --   file_length         an accepted file is its header, its rights, its requests, its pairs, its runs and the close
---   right_stands, request_stands, wait_stands, run_stands   right k, request q, pair i and run i of an accepted file stand in
---                       their places
+--   request_stands, wait_stands, run_stands   request q, pair i and run i of an accepted file stand in their places
 --   runs_meant          the runs of an accepted file are the longest of its schedule
 --   granted_next, granted_end   the schedule of the runs from run i on
 --   few_grants          an admitted job has at most 2,088,195 grants
@@ -17,12 +16,11 @@ use lib.ListN.{length, get_or, drop, replicate, length-append, length-map, drop_
 use lib.Seq.{drop-drop, drop-cons}
 use Rattle.job.specs.declared.Request.{Request}
 use Rattle.job.specs.declared.Wait.{Wait}
-use Rattle.job.specs.declared.Right.{Right}
 use Rattle.job.specs.Job.{Job}
 use Rattle.jobfile.specs.declared.Run.{Run}
-use Rattle.jobfile.specs.Format.{request_size, wait_size, run_size, right_place, request_place, wait_place, run_place, file_size}
+use Rattle.jobfile.specs.Format.{request_size, wait_size, run_size, request_place, wait_place, run_place, file_size}
 use Rattle.jobfile.specs.Format.{most_bytes}
-use Rattle.jobfile.specs.Meaning.{heads_in, right_at, request_at, wait_at, run_at, full_run, granted, right_records, requests_start}
+use Rattle.jobfile.specs.Meaning.{heads_in, request_at, wait_at, run_at, full_run, granted, right_records, requests_start}
 use Rattle.jobfile.specs.Meaning.{request_records, waits_start, wait_records, runs_start, run_records, runs_in, job_in, meaning}
 use Rattle.jobfile.specs.Written.{longest_runs, file_with, written}
 use Rattle.jobfile.specs.Admitted.{Admitted, Bytes}
@@ -30,7 +28,7 @@ use Rattle.jobfile.proofs.Records.{section_at, length_records}
 use Rattle.jobfile.proofs.Runs.{longest_follow, longest_granted, granted_longest, granted_few}
 use Rattle.jobfile.proofs.Passed.{file_passed}
 use Rattle.jobfile.proofs.Layouts.{right_layout, request_layout, wait_layout, run_layout}
-use Rattle.jobfile.proofs.Backward.{right_section, request_section, wait_section, run_section, runs_rule}
+use Rattle.jobfile.proofs.Backward.{request_section, wait_section, run_section, runs_rule}
 use Rattle.jobfile.proofs.RoundTrip.{accepts_all, job_meant, written_meaning}
 
 pub length_written : (j : Job)
@@ -55,12 +53,6 @@ module _ (s : List ℕ) (bytes : Bytes s) (accepts : (meaning s).number ≡ 0) w
   rights_counted : length (meaning s).job.rights ≡ length (right_records s)
   unfolding job_in
   rights_counted = rw (job_meant s bytes accepts, length-map)
-
-  pub right_stands : (k : ℕ) (none : Right) → k < length (meaning s).job.rights
-      → get_or (meaning s).job.rights k none ≡ right_at (drop (right_place k) s)
-  unfolding job_in
-  right_stands k none l =
-      rw (job_meant s bytes accepts, ← drop-drop) (section_at (right_section s) right_at k none (omega (arith, rights_counted)))
 
   requests_counted : length (meaning s).job.requests ≡ length (request_records s)
   unfolding job_in

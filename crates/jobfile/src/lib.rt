@@ -30,7 +30,7 @@ pub const CLOSE_SIZE: usize = 4;
 pub const MOST_BYTES: usize = 32768;
 
 // The four numbers of a request, before they are known to fit.
-#[derive(Clone, Copy)]
+#[derive(Clone, Copy, Debug, PartialEq, Eq)]
 pub struct Fields {
     pub head: u32,
     pub kind: u32,
@@ -39,7 +39,7 @@ pub struct Fields {
 }
 
 // A run: that many grants in a row for one head.
-#[derive(Clone, Copy)]
+#[derive(Clone, Copy, Debug, PartialEq, Eq)]
 pub struct Run {
     pub head: u8,
     pub count: u8,

@@ -8,8 +8,6 @@ use Rattle.reader.specs.contracts.Checked as checked_type
 use Rattle.reader.proofs.Checked.TheLaws as checked_laws
 use Rattle.turns.specs.contracts.Progress as progress_type
 use Rattle.turns.proofs.Progress.TheLaws as progress_laws
-use Rattle.player.specs.contracts.Plan as plan_type
-use Rattle.player.proofs.Plan.TheLaws as plan_laws
 
 abbrev pub tally_struct : Carried
 tally_struct =
@@ -36,15 +34,6 @@ progress_struct =
       laws = progress_laws.the_laws;
       plain = progress_laws.the_plain;
       copyable = progress_laws.the_copy;
-    }
-
-abbrev pub plan_struct : Carried
-plan_struct =
-    record {
-      type = plan_type.the_type;
-      laws = plan_laws.the_laws;
-      plain = plan_laws.the_plain;
-      copyable = plan_laws.the_copy;
     }
 
 abbrev pub played_struct : Carried

@@ -2,42 +2,39 @@
 #![tactic(auto)]
 
 ghost use Rattle.std.specs.Prelude.{◌≡◌};
+ghost use Rattle.job.specs.Played.{played_told};
 ghost use Rattle.turns.specs.Turns.{counted_of, buffers_of};
 ghost use Rattle.player.specs.Player.{left, played_of};
-ghost use Rattle.player.specs.Plan.{TurnableOn, TurnsOn};
+ghost use Rattle.player.specs.Parts.{TurnableOn, TurnsOn};
 ghost use Rattle.player.specs.Demand.{LinearizedHere, LawfulHere, WaitedHere};
 ghost use Rattle.lent.specs.Lent.{Addition, tally_left};
 
-use job::{Played, Tally};
-use player::{closed, prepare, refused, turn_on};
-use reader::Checked;
+use job::{Play, Refusal, Tally};
+use player::{admission, closed, lay_out, turn_on};
+use reader::Accepted;
+use stepper::Indexed;
 use turns::{Progress, added, counted, first_tally};
 use word::Word;
 
 // One grant without an index: the next request of a head is searched in the file.
 fn turn_searching(
-    file: &[u8],
-    counts: Checked,
+    job: Accepted,
     progress: Progress,
     table: &mut [Word],
     report: &mut [u32],
     linearization: &mut [u32],
 ) -> Progress
-    requires { TurnableOn file.now counts progress table.old report.old linearization.old }
-    ensures { TurnsOn file.now counts progress result
+    requires { TurnableOn job.file.now job.counts progress table.old report.old linearization.old }
+    ensures { TurnsOn job.entry.file.now job.entry.counts progress result
         (buffers_of progress table.old report.old linearization.old)
         (buffers_of result table.new report.new linearization.new) }
 {
     let none = [0u16; 1];
-    turn_on(
-        file,
-        &none[..0],
-        counts,
-        progress,
-        table,
-        report,
-        linearization,
-    )
+    let indexed = Indexed {
+        job,
+        successors: &none[..0],
+    };
+    turn_on(indexed, progress, table, report, linearization)
 }
 
 // The tally after the grant that a progress tells of. An idle grant leaves the mask, so that its ones are not counted again:
@@ -69,26 +66,25 @@ pub fn grouping_play_lent(
     report: &mut [u32],
     linearization: &mut [u32],
     tally: &mut Tally,
-) -> Played
-    ensures exact { left table.new report.new linearization.new result
+) -> Result<Play, Refusal>
+    ensures exact { left table.new report.new linearization.new (played_told result)
         ≡ played_of file.now table.old report.old linearization.old }
     ensures counted { tally.new
         ≡ tally_left file.now table.old report.old linearization.old tally.old }
-    ensures linearized { result.number ≡ 0
-        → LinearizedHere file.now result table.new report.new linearization.new }
-    ensures lawful { result.number ≡ 0 → LawfulHere file.now result table.new report.new }
-    ensures waited { result.number ≡ 0 → WaitedHere file.now result report.new linearization.new }
+    ensures linearized { (played_told result).number ≡ 0
+        → LinearizedHere file.now (played_told result) table.new report.new linearization.new }
+    ensures lawful { (played_told result).number ≡ 0
+        → LawfulHere file.now (played_told result) table.new report.new }
+    ensures waited { (played_told result).number ≡ 0
+        → WaitedHere file.now (played_told result) report.new linearization.new }
 {
-    let plan = prepare(file, table, report, linearization);
-    let counts = plan.counts;
-    if counts.number != 0 {
-        return refused(counts);
-    }
-    let mut progress = plan.progress;
+    let job = admission(file, table.len(), report.len(), linearization.len())?;
+    let counts = job.counts;
+    let mut progress = lay_out(job, table, report);
     *tally = first_tally(progress);
-    while progress.number < counts.grants {
-        progress = turn_searching(file, counts, progress, table, report, linearization);
+    for _granted in 0..counts.grants {
+        progress = turn_searching(job, progress, table, report, linearization);
         add(tally, progress);
     }
-    closed(counts, progress, *tally)
+    Ok(closed(counts, progress, *tally))
 }

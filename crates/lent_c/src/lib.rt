@@ -1,4 +1,5 @@
-// The play on a lent tally for programs in C and Rust: it calls `lent::grouping_play_lent` and promises the same.
+// The play on a lent tally for programs in C and Rust: it calls `lent::grouping_play_lent`, promises the same, and makes the
+// struct of the header from its answer.
 #![tactic(auto)]
 
 ghost use Rattle.std.specs.Prelude.{◌≡◌};
@@ -28,5 +29,5 @@ pub extern "C" fn grouping_play_lent(
     ensures lawful { result.number ≡ 0 → LawfulHere file.now result table.new report.new }
     ensures waited { result.number ≡ 0 → WaitedHere file.now result report.new linearization.new }
 {
-    lent::grouping_play_lent(file, table, report, linearization, tally)
+    Played::from(lent::grouping_play_lent(file, table, report, linearization, tally))
 }

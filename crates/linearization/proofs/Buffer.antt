@@ -1,14 +1,12 @@
--- What the loops of the code keep, and how its pieces make an insertion.
+-- What the search for an entry's place keeps, and how the code's pieces make an insertion.
 --
 --   Scanned numbers n point k   entries from the k-th on are later than the point
---   Moved before i part         the numbers of a part from i on have moved up two places
 use mathlib.Core.Path.{◌≡◌, refl, sym, ap, ◌∙◌, subst}
 use mathlib.Core.List.{List, [], ◌∷◌, ◌++◌, append_assoc}
 use Prim.Native.Nat.{ℕ, zero, suc, ◌+◌, ◌*◌, ◌-◌, ◌≤◌, ◌<◌}
 use native.Mathlib.Omega.{arith}
-use native.Mathlib.Decide.{ℕ_discrete, dec_lt}
-use lib.ListN.{length, take, drop, get_or, set, length-append, length-set, get_or-append}
-use lib.Seq.{get_or-set_same, get_or-set_other, get_or-take, get_or-append-add, length-take-le, ext_get_or, take-add, take-take, drop_at}
+use lib.ListN.{length, take, drop, get_or, set}
+use lib.Seq.{length-take-le, take-add, take-take, drop_at}
 use borrow.Rule.Slice.PartMut.{put_mid, mid_len, Post-is}
 use Rattle.linearization.specs.Entry.{earlier, Rising, listed, moved_up, inserted}
 use Rattle.linearization.proofs.Entries.{entry, rising_front, earlier_le, earlier_later, earlier_last}
@@ -22,11 +20,11 @@ pub record Scanned (numbers : List ℕ) (n point k : ℕ) : Type 0 where
 
 module _ (numbers : List ℕ) (n point : ℕ) (room : 2 * n ≤ length numbers) where
   -- the k-th entry is later: on to the one before
-  pub scanned_on : (k : ℕ) → 0 < k → Scanned numbers n point k → point < get_or numbers (2 * k - 2) 0 → Scanned numbers n point (k - 1)
+  pub scanned_on : (k : ℕ) → 0 < k → Scanned numbers n point k → point < get_or numbers (2 * (k - 1)) 0 → Scanned numbers n point (k - 1)
   scanned_on zero positive scanned later = absurd (omega arith)
   scanned_on (suc k) positive scanned later =
       let down : suc k - 1 ≡ k = omega arith in
-      let place : 2 * suc k - 2 ≡ 2 * k = omega arith in
+      let place : 2 * (suc k - 1) ≡ 2 * k = omega arith in
       let cut = listed_suc k numbers (omega (arith, scanned.within)) in
       let last = entry (get_or numbers (2 * k) 0) (get_or numbers (2 * k + 1) 0) in
       let apart : point < last.point = subst (λ i. point < get_or numbers i 0) place later in
@@ -39,85 +37,17 @@ module _ (numbers : List ℕ) (n point : ℕ) (room : 2 * n ≤ length numbers) 
 
   -- it is not later: the new entry belongs behind it
   pub scanned_here :
-      (k : ℕ) → 0 < k → Scanned numbers n point k → get_or numbers (2 * k - 2) 0 ≤ point → 2 * k ≡ 2 * earlier point (listed numbers n)
+      (k : ℕ) → 0 < k → Scanned numbers n point k → get_or numbers (2 * (k - 1)) 0 ≤ point →
+      2 * (k - 1) + 2 ≡ 2 * earlier point (listed numbers n)
   scanned_here zero positive scanned not-later = absurd (omega arith)
   scanned_here (suc k) positive scanned not-later =
-      let place : 2 * suc k - 2 ≡ 2 * k = omega arith in
+      let place : 2 * (suc k - 1) ≡ 2 * k = omega arith in
       let cut = listed_suc k numbers (omega (arith, scanned.within)) in
       let last = entry (get_or numbers (2 * k) 0) (get_or numbers (2 * k + 1) 0) in
       let behind : last.point ≤ point = subst (λ i. get_or numbers i 0 ≤ point) place not-later in
       let all : earlier point (listed numbers (suc k)) ≡ suc (length (listed numbers k)) =
       ap (earlier point) cut ∙ earlier_last point (listed numbers k) last (subst (Rising 0) cut scanned.rising) behind in
       omega (arith, all, scanned.same, length_listed numbers k (omega (arith, scanned.within)))
-
-  -- none is left: it belongs in front
-  pub scanned_none : (k : ℕ) → k ≤ 0 → Scanned numbers n point k → 0 ≡ 2 * earlier point (listed numbers n)
-  scanned_none zero none_left scanned = ap (λ m. 2 * m) scanned.same
-  scanned_none (suc k) none_left scanned = absurd (omega arith)
-
-pub record Moved (before : List ℕ) (i : ℕ) (part : List ℕ) : Type 0 where
-  pub least : 2 ≤ i
-  pub most : i ≤ length before
-  pub size : length part ≡ length before
-  pub low : (j : ℕ) → j < i → get_or part j 0 ≡ get_or before j 0
-  pub high : (j : ℕ) → i ≤ j → j < length before → get_or part j 0 ≡ get_or before (j - 2) 0
-
--- at the start none has
-pub moved_none : (before : List ℕ) → 2 ≤ length before → Moved before (length before) before
-moved_none before room =
-    record { least = room; most = omega arith; size = refl; low = λ j h. refl; high = λ j h k. absurd (omega arith) }
-
--- one number more has moved
-pub moved_on :
-    (before part : List ℕ) (i k : ℕ) → i ≡ k + 1 → 2 ≤ k → Moved before i part → Moved before k (set part k (get_or part (k - 2) 0))
-moved_on before part i k one_less least moved =
-    record {
-      least = least;
-      most = omega (arith, moved.most);
-      size = length-set part k (get_or part (k - 2) 0) ∙ moved.size;
-      low = λ j h. get_or-set_other part k j _ 0 (λ e. omega arith) ∙ moved.low j (omega arith);
-      high = λ j h within. high j h within (ℕ_discrete j k);
-    }
-  where
-    high : (j : ℕ) → k ≤ j → j < length before → Dec (j ≡ k) → get_or (set part k (get_or part (k - 2) 0)) j 0 ≡ get_or before (j - 2) 0
-    high j h within (yes e) =
-        ap (λ m. get_or (set part k (get_or part (k - 2) 0)) m 0) e
-        ∙ get_or-set_same part k _ 0 (omega (arith, moved.size))
-        ∙ moved.low (k - 2) (omega arith)
-        ∙ ap (λ m. get_or before (m - 2) 0) (sym e)
-    high j h within (no d) = get_or-set_other part k j _ 0 d ∙ moved.high j (omega arith) within
-
--- all have moved
-pub moved_all : (before : List ℕ) (i : ℕ) (part : List ℕ) → i ≤ 2 → Moved before i part → part ≡ moved_up before
-moved_all before i part done moved =
-    ext_get_or 0 part (moved_up before) (omega (arith, moved.size, whole)) (λ j h. number j h (dec_lt j 2))
-  where
-    rest : List ℕ
-    rest = take (length before - 2) before
-
-    first : length (take 2 before) ≡ 2
-    first = length-take-le 2 before (omega (arith, moved.least, moved.most))
-
-    whole : length (moved_up before) ≡ length before
-    whole =
-        omega (
-          arith,
-          length-append (take 2 before) rest,
-          first,
-          length-take-le (length before - 2) before (omega arith),
-          moved.least,
-          moved.most,
-        )
-
-    number : (j : ℕ) → j < length part → Dec (j < 2) → get_or part j 0 ≡ get_or (moved_up before) j 0
-    number j h (yes low) =
-        moved.low j (omega (arith, moved.least))
-        ∙ sym (get_or-append (take 2 before) rest 0 j (omega (arith, first)) ∙ get_or-take 2 before j 0 low)
-    number j h (no high) =
-        let place : length (take 2 before) + (j - 2) ≡ j = omega (arith, first) in
-        moved.high j (omega arith) (omega (arith, moved.size))
-        ∙ sym (ap (λ m. get_or (moved_up before) m 0) (sym place) ∙ get_or-append-add (take 2 before) rest (j - 2) 0
-        ∙ get_or-take (length before - 2) before (j - 2) 0 (omega (arith, moved.size)))
 
 -- ---- the pieces together
 

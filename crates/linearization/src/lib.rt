@@ -6,30 +6,26 @@ ghost use Rattle.linearization.specs.Entry.{earlier, listed, moved_up, inserted,
 
 // Where the entry at a point belongs, in numbers: behind the entries that stand before it. It looks from the back,
 // since nearly every entry goes in last.
+#[tactic(auto, using(crate::proofs::Buffer::scanned_here))]
 fn position(linearization: &[u32], entries: usize, point: u32) -> usize
     requires { Insertable linearization.now entries }
     ensures { result ≡ 2 * earlier point (listed linearization.now entries) }
 {
-    let mut at = entries;
-    while 0 < at {
-        if linearization[2 * at - 2] <= point {
-            return 2 * at;
+    for k in (0..entries).rev() {
+        if linearization[2 * k] <= point {
+            return 2 * k + 2;
         }
-        at -= 1;
     }
     0
 }
 
-// Moves the numbers of a part up one entry, from the back. Its first two numbers are then free, its last two gone.
+// Moves the numbers of a part up one entry. Its first two numbers are then free, its last two gone.
 fn move_up(part: &mut [u32])
     requires { 2 ≤ length part.old }
     ensures { part.new ≡ moved_up part.old }
 {
-    let mut i = part.len();
-    while 2 < i {
-        i -= 1;
-        part[i] = part[i - 2];
-    }
+    let end = part.len() - 2;
+    part.copy_within(0..end, 2);
 }
 
 // Inserts an entry at its point: the numbers from there to the end of the new last entry are lent and moved up.

@@ -1,31 +1,26 @@
 -- Laws of the listing: what its lines take of their buffers, and that any text can be counted in 64 bits.
 --
 --   Fitting p t r l   the numbers of the play p and of its three buffers have 32 bits
-use mathlib.Core.Path.{◌≡◌, refl, sym, ◌∙◌}
+use mathlib.Core.Path.{◌≡◌, refl}
 use mathlib.Core.Bool.{Bool, true, false, cond}
 use mathlib.Core.List.{List, [], ◌∷◌}
 use Prim.Native.Nat.{ℕ, ◌+◌, ◌*◌, ◌^◌, ◌≤◌, ◌<◌}
 use native.Mathlib.Omega.{arith}
-use lib.Dec.{eqb, ltb}
+use lib.Dec.{eqb}
 use lib.ListN.{length, get_or}
-use borrow.Author.Tests.{ltb-false}
+use borrow.Author.Tests.{lt-ltb, le-ltb}
 use Rattle.basics.proofs.Lists.{length_three}
 use Rattle.job.specs.declared.Played.{Played}
 use Rattle.word.specs.Word.{rank_of, parent_of}
 use Rattle.text.specs.Text.{each}
-use Rattle.text.specs.Writing.{last_position}
+use Rattle.text.specs.Writing.{last_position, Wrote}
 use Rattle.text.proofs.Text.{Narrow, line_short, each_short}
-use Rattle.listing.specs.declared.Section.{Section}
-use Rattle.listing.specs.declared.Section.TheVariants.{Words, Requests, Entries}
+use Rattle.text.proofs.Writing.{wrote_whole}
+use Rattle.listing.specs.Listing.{Section, Words, Requests, Entries}
+use Rattle.listing.specs.declared.Listed.{Listed}
 use Rattle.listing.specs.Listing.{word_name, request_name, line_name, job_name, tally_name, refused_name}
-use Rattle.listing.specs.Listing.{entry_line, report_line, row, row_size}
-use Rattle.listing.specs.Listing.{job_line, rows, tally_line, refused_line, accepted, listing, sources_short, Enough}
-
--- What the lines show is counted in 64 bits without loss.
-pub row_size_fits : (s : Section) (count : ℕ) → count < 2 ^ 32 → row_size s * count < 2 ^ 64
-row_size_fits Words count h = omega arith
-row_size_fits Requests count h = omega arith
-row_size_fits Entries count h = omega arith
+use Rattle.listing.specs.Listing.{entry_line, report_line, row}
+use Rattle.listing.specs.Listing.{job_line, rows, tally_line, refused_line, accepted, listing, listed, printed, Enough}
 
 module _ (played : Played) (table report linearization : List ℕ) where
   sections_length : length (rows played table report linearization)
@@ -90,11 +85,11 @@ accepted_lines played table report linearization f =
     )
 
 -- A refusal's text is one line.
-pub listing_lines_lem : (played : Played) (table report linearization : List ℕ)
+pub listing_short : (played : Played) (table report linearization : List ℕ)
     → Fitting played table report linearization
     → length (listing played table report linearization) ≤ 64 * (played.nodes + played.requests + played.entries + 2)
 unfolding listing
-listing_lines_lem played table report linearization f = go (eqb played.number 0)
+listing_short played table report linearization f = go (eqb played.number 0)
   where
     go : (is-accepted : Bool)
         → length (cond is-accepted (accepted played table report linearization) (refused_line played.number))
@@ -106,27 +101,21 @@ pub listing_counted : (played : Played) (table report linearization : List ℕ)
     → Fitting played table report linearization
     → length (listing played table report linearization) ≤ last_position
 listing_counted played table report linearization f =
-    omega (arith, listing_lines_lem played table report linearization f, f.job.0, f.job.1.1.0, f.entries)
+    omega (arith, listing_short played table report linearization f, f.job.0, f.job.1.1.0, f.entries)
 
--- No buffer is too short: each holds what the lines show
-pub enough : (played : Played) (table report linearization : List ℕ) {short : Bool}
-    → short ≡ sources_short played table report linearization
-    → short ≡ false
+-- A text that has no room is refused.
+pub listed_short : {played : Played} {table report linearization : List ℕ} (out : List ℕ)
     → Enough played table report linearization
-enough played table report linearization told e =
-    go (ltb (length table) (row_size Words * played.nodes)) (ltb (length report) (row_size Requests * played.requests)) refl refl
-    (sym told ∙ e)
-  where
-    go : (w r : Bool)
-        → ltb (length table) (row_size Words * played.nodes) ≡ w
-        → ltb (length report) (row_size Requests * played.requests) ≡ r
-        → cond w true (cond r true (ltb (length linearization) (row_size Entries * played.entries))) ≡ false
-        → Enough played table report linearization
-    go true r ew er el = let z : ◌≡◌ {A = ℕ} 0 1 = cc in absurd (omega arith)
-    go false true ew er el = let z : ◌≡◌ {A = ℕ} 0 1 = cc in absurd (omega arith)
-    go false false ew er el =
-        record {
-          words = ltb-false (length table) (row_size Words * played.nodes) ew;
-          requests = ltb-false (length report) (row_size Requests * played.requests) er;
-          entries = ltb-false (length linearization) (row_size Entries * played.entries) el;
-        }
+    → length out < length (listing played table report linearization)
+    → ◌≡◌ {A = Listed} (record { number = 14; bytes = 0 }) (listed played table report linearization out)
+unfolding listed
+listed_short out e short = rw (le-ltb _ _ e.words, le-ltb _ _ e.requests, le-ltb _ _ e.entries, lt-ltb _ _ short) refl
+
+-- A text that has room is written whole, and what was behind it stays.
+pub printed_whole : {played : Played} {table report linearization out after : List ℕ} {next : ℕ}
+    → Enough played table report linearization
+    → length (listing played table report linearization) ≤ length out
+    → Wrote (listing played table report linearization) 0 out after next
+    → after ≡ printed played table report linearization out
+unfolding printed
+printed_whole e room w = rw (le-ltb _ _ e.words, le-ltb _ _ e.requests, le-ltb _ _ e.entries, le-ltb _ _ room) (wrote_whole w room)

@@ -6,6 +6,7 @@
 --   request_line n a f l u     the line of a request, by its number and its four
 --   entry_line p q             the line of an entry, by its point and its request
 --   report_line n report i     the line of request i under the number n, from the report's buffer
+--   Section                    the parts of the text that have a line for each place, request or entry
 --   row s buffer i             line number i of section s, from the numbers in the section's buffer
 --   row_size s                 how many numbers of its buffer a line of section s shows
 --   rows p t r l               the lines of all words, requests and entries
@@ -14,15 +15,18 @@
 --   sources_short p t r l      a buffer of numbers is shorter than what its lines show
 --   too_short p t r l out      that, or `out` is shorter than the text
 --   listed p t r l out         the answer: 14, or the number of bytes
+--   listed_told r              what is told of an answer
 --   printed p t r l out        the buffer `out` afterwards
 --   Enough p t r l             table t, report r and linearization l hold all that the text of p shows
-use Rattle.std.specs.Prelude.{Bool, true, cond, List, [], ◌∷◌, ◌++◌, ℕ, ◌+◌, ◌*◌, ◌≤◌, eqb, ltb, length, get_or, drop}
+--   Narrow t r l               their numbers have 32 bits
+use Rattle.std.specs.Prelude.{Bool, true, cond, List, [], ◌∷◌, ◌++◌, ℕ, ◌+◌, ◌*◌, ◌^◌, ◌≤◌, ◌<◌, eqb, ltb, length, get_or, drop, Result}
+use Rattle.std.specs.declared.result.Result.TheVariants.{Ok, Err}
+use Rattle.job.specs.Refusal.{number_of}
+use Rattle.job.specs.declared.refusal.Refusal.{Refusal}
 use Rattle.job.specs.declared.Played.{Played}
 use Rattle.job.specs.declared.Tally.{Tally}
 use Rattle.word.specs.Word.{rank_of, parent_of}
 use Rattle.text.specs.Text.{line, each}
-use Rattle.listing.specs.declared.Section.{Section}
-use Rattle.listing.specs.declared.Section.TheVariants.{Words, Requests, Entries}
 use Rattle.listing.specs.declared.Listed.{Listed}
 
 -- The names of the lines, in ASCII: job, word, request, line, tally, refused.
@@ -61,6 +65,11 @@ abbrev pub report_line : ℕ → List ℕ → ℕ → List ℕ
 report_line number report i =
     request_line number (get_or report (4 * i) 0) (get_or report (4 * i + 1) 0) (get_or report (4 * i + 2) 0) (get_or report (4 * i + 3) 0)
 
+pub data Section : Type 0 where
+  Words : Section
+  Requests : Section
+  Entries : Section
+
 -- word: place, parent, rank. A request and an entry are read from their buffers.
 abbrev pub row : Section → List ℕ → ℕ → List ℕ
 row Words table i = line word_name (i ∷ parent_of (get_or table i 0) ∷ rank_of (get_or table i 0) ∷ [])
@@ -80,6 +89,11 @@ tally_line y = line tally_name (y.idle ∷ y.failed ∷ y.links ∷ y.working �
 -- A refusal prints only one line, "refused" and the number.
 abbrev pub refused_line : ℕ → List ℕ
 refused_line number = line refused_name (number ∷ [])
+
+-- A text has the number 0 and its length; a refusal has its number and zero.
+abbrev pub listed_told : Result ℕ Refusal → Listed
+listed_told (Ok bytes) = record { number = 0; bytes = bytes }
+listed_told (Err refusal) = record { number = number_of refusal; bytes = 0 }
 
 module _ (played : Played) (table report linearization : List ℕ) where
   -- Numbers past the places, the requests and the entries are not printed.
@@ -121,3 +135,8 @@ pub record Enough (played : Played) (table report linearization : List ℕ) : Ty
   pub words : row_size Words * played.nodes ≤ length table
   pub requests : row_size Requests * played.requests ≤ length report
   pub entries : row_size Entries * played.entries ≤ length linearization
+
+pub record Narrow (table report linearization : List ℕ) : Type 0 where
+  pub words : (k : ℕ) → get_or table k 0 < 2 ^ 32
+  pub requests : (k : ℕ) → get_or report k 0 < 2 ^ 32
+  pub entries : (k : ℕ) → get_or linearization k 0 < 2 ^ 32

@@ -9,7 +9,7 @@
 use mathlib.Core.Path.{◌≡◌, refl, ap, ◌∙◌}
 use mathlib.Core.Bool.{Bool, true, false}
 use mathlib.Core.List.{List, [], ◌∷◌, map}
-use Prim.Native.Nat.{ℕ, zero, suc, ◌+◌, ◌*◌, ◌-◌, ◌/◌, ◌%◌, ◌^◌, ◌≤◌, ◌<◌}
+use Prim.Native.Nat.{ℕ, zero, suc, ◌+◌, ◌*◌, ◌-◌, ◌/◌, ◌%◌, ◌^◌, ◌<◌}
 use native.Mathlib.Omega.{arith}
 use native.Mathlib.Nat.{pow-succ', div-div-eq-div-mul, div-one}
 use lib.Dec.{eqb}
@@ -71,9 +71,6 @@ mask_taken (b ∷ bs) zero within on = rw on (omega arith)
 mask_taken (b ∷ bs) (suc h) within on = omega (arith, mask_taken bs h (omega arith) on, pow-succ' 2 h)
 
 module _ (bs : List Bool) (h : ℕ) (within : h < length bs) (on : get_or bs h false ≡ true) where
-  pub mask_least : 2 ^ h ≤ mask_of bs
-  mask_least = omega (arith, mask_taken bs h within on)
-
   pub mask_cleared : mask_of bs - 2 ^ h ≡ mask_of (set bs h false)
   mask_cleared = omega (arith, mask_taken bs h within on)
 
@@ -102,10 +99,6 @@ module _ {A : Type 0} (f : A → Bool) (d : A) where
   module _ (l : List A) (h : ℕ) (within : h < length l) (passes : f (get_or l h d) ≡ true) where
     on : get_or (map f l) h false ≡ true
     on = get_or_mapped f l h d false within ∙ passes
-
-    -- the mask has the bit of an item that passes
-    pub left_least : 2 ^ h ≤ mask_of (map f l)
-    left_least = mask_least (map f l) h (omega (arith, length-map l f)) on
 
     -- an item that stops passing takes its bit out of the mask
     pub mask_left : (v : A) → f v ≡ false → mask_of (map f l) - 2 ^ h ≡ mask_of (map f (set l h v))

@@ -27,12 +27,12 @@ pub fn pushed(mask: u32, flag: bool) -> u32
     requires { mask < 2 ^ 31 }
     ensures { result ≡ 2 * mask + bit_of flag }
 {
-    if flag { 2 * mask + 1 } else { 2 * mask }
+    2 * mask + u32::from(flag)
 }
 
 // How many flags are set.
 pub fn count(mask: u32) -> u32
     ensures { result ≡ ones mask }
 {
-    u32::count_ones(mask)
+    mask.count_ones()
 }

@@ -2,17 +2,16 @@
 --
 --   Padding width filled at before after next   spaces are written before a text of that width, and the column is filled so far
 use mathlib.Core.Path.{◌≡◌, refl, sym, ap, ◌∙◌, subst}
-use mathlib.Core.Logic.{◌≢◌}
 use mathlib.Core.List.{List, [], ◌∷◌, ◌++◌, map, map-append, append_assoc, append-nil}
 use Prim.Native.Nat.{ℕ, ◌+◌, ◌-◌, ◌%◌, ◌≤◌, ◌<◌}
 use native.Mathlib.Omega.{arith}
 use lib.ListN.{length, get_or, take, replicate, replicate-append-replicate}
 use lib.Seq.{sets}
-use borrow.Author.Tests.{eq-eqb, ne_eqb}
+use borrow.Author.Tests.{eq-eqb}
 use Rattle.basics.proofs.Lists.{take_next}
 use Rattle.text.specs.Text.{decimal}
-use Rattle.text.specs.Writing.{last_position, Wrote}
-use Rattle.text.proofs.Writing.{wrote_nothing, wrote_append}
+use Rattle.text.specs.Writing.{Wrote}
+use Rattle.text.proofs.Writing.{wrote_append}
 use Rattle.page.specs.declared.Row.{Row}
 use Rattle.page.specs.Page.{right_aligned, columns, heading, row_line, row_lines}
 use Rattle.page.specs.Written.{page_length}
@@ -23,11 +22,6 @@ pub record Padding (width filled at : ℕ) (before after : List ℕ) (next : ℕ
   pub begun : width ≤ filled
   pub within : filled - width ≤ 8 - width
   pub wrote : Wrote (replicate (filled - width) 32) at before after next
-
-pub padding_start : (width at : ℕ) (page : List ℕ) → at ≤ last_position → length page ≤ last_position → Padding width width at page page at
-padding_start width at page h k =
-    let none : width - width ≡ 0 = omega arith in
-    record { begun = omega arith; within = omega arith; wrote = rw none (wrote_nothing at page h k) }
 
 module _ {width filled at next : ℕ} {before after : List ℕ} (p : Padding width filled at before after next) where
   pub padding_next : {later : List ℕ} {past : ℕ} → filled < 8 → Wrote (32 ∷ []) next after later past
@@ -71,7 +65,3 @@ module _ (i : ℕ) (r : Row) {at : ℕ} (place : at ≡ page_length i) {before :
   lines_headed e {after = after} w v =
       rw (eq-eqb (i % 20) 0 e)
       ((wrote_append w v).stored ∙ ap (λ k. sets before k (heading ++ row_line r)) place)
-
-  pub lines_plain : i % 20 ≢ 0 → {after : List ℕ} {past : ℕ} → Wrote (row_line r) at before after past
-      → after ≡ sets before (page_length i) (row_lines i r)
-  lines_plain d w = rw (ne_eqb (i % 20) 0 d) (w.stored ∙ ap (λ k. sets before k (row_line r)) place)

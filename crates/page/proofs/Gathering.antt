@@ -1,6 +1,6 @@
 -- Gathering the groups of a table place by place: each place adds to its root's size, and a lowest one begins a group.
 --
---   Gathering t n i groups   i of the n places are gathered
+--   Gathering t i found   the places below i are gathered
 use mathlib.Core.Path.{◌≡◌, refl, sym, ap, ◌∙◌}
 use mathlib.Core.Logic.{◌≢◌}
 use mathlib.Core.List.{List, [], ◌∷◌, ◌++◌, map-append}
@@ -21,123 +21,104 @@ use Rattle.rules.specs.Table.{parent}
 use Rattle.table.specs.Admitted.{Admitted}
 use Rattle.table.specs.Groups.{root_in}
 use Rattle.table.proofs.Groups.{admitted_leading, root_told}
+use Rattle.page.specs.declared.groups.Group.{Group}
 use Rattle.page.specs.declared.groups.Groups.{Groups}
-use Rattle.page.specs.Gathered.{Gathered}
+use Rattle.page.specs.Gathered.{no_group, group_of, Gathered}
 
-pub record Gathering (t : List Node) (n i : ℕ) (groups : Groups) : Type 0 where
-  pub within : i ≤ n
-  pub gathered : Gathered t i groups
-  pub lowests : length groups.lowest ≡ most_nodes
-  pub roots : length groups.root ≡ most_nodes
-  pub sizes : length groups.size ≡ most_nodes
+pub record Gathering (t : List Node) (i : ℕ) (found : Groups) : Type 0 where
+  pub gathered : Gathered t i found
+  pub listed : length found.groups ≡ most_nodes
+  pub sizes : length found.size ≡ most_nodes
 
 -- the arrays before the first place
 abbrev pub no_groups : Groups
-no_groups =
-    record { count = 0; lowest = replicate most_nodes 0; root = replicate most_nodes 0; size = replicate most_nodes 0 }
+no_groups = record { count = 0; groups = replicate most_nodes no_group; size = replicate most_nodes 0 }
 
-pub gathering_start : (t : List Node) (n : ℕ) → Gathering t n 0 no_groups
+pub gathering_start : (t : List Node) → Gathering t 0 no_groups
 unfolding size
-gathering_start t n =
+gathering_start t =
     record {
-      within = omega arith;
-      gathered = record { lowest = refl; count = refl; root = refl; size = λ r l. get_or-replicate most_nodes r 0 0 l };
-      lowests = length-replicate {A = ℕ} most_nodes 0;
-      roots = length-replicate {A = ℕ} most_nodes 0;
+      gathered = record { groups = refl; count = refl; size = λ r l. get_or-replicate most_nodes r 0 0 l };
+      listed = length-replicate {A = Group} most_nodes no_group;
       sizes = length-replicate {A = ℕ} most_nodes 0;
     }
 
-module _ {t : List Node} {n i : ℕ} {groups : Groups} (g : Gathering t n i groups) where
+module _ {t : List Node} {i : ℕ} {found : Groups} (g : Gathering t i found) where
   -- there are no more groups than places
-  pub gathering_room : groups.count ≤ i
+  pub gathering_room : found.count ≤ i
   gathering_room = omega (arith, g.gathered.count, lowest_few (root_in t) i)
 
-  pub gathering_done : n ≤ i → Gathered t n groups
-  gathering_done l = let all : i ≡ n = omega (arith, g.within) in rw all at g.gathered
-
   -- the root that the walk from place i found
-  module _ (admitted : Admitted n t) (more : i < n) (root : ℕ) (way : Leads (parent t) i root) where
+  module _ {n : ℕ} (admitted : Admitted n t) (more : i < n) (root : ℕ) (way : Leads (parent t) i root) where
     told : root ≡ root_in t i
     told = root_told admitted more way
 
     pub gathering_inside : root < most_nodes
     gathering_inside = omega (arith, told, (admitted_leading admitted).inside i more, admitted.few)
 
-    counted : get_or groups.size root 0 ≡ size i (root_in t) root
+    counted : get_or found.size root 0 ≡ size i (root_in t) root
     counted = g.gathered.size root gathering_inside
 
     -- its size has room for one place more
-    pub gathering_few : get_or groups.size root 0 ≤ i
+    pub gathering_few : get_or found.size root 0 ≤ i
     gathering_few = omega (arith, counted, size_le i (root_in t) root)
 
     -- the place counts for its root, and for no other
     size_next : (r : ℕ) → r < most_nodes → Dec (r ≡ root)
-        → get_or (set groups.size root (get_or groups.size root 0 + 1)) r 0 ≡ size (i + 1) (root_in t) r
+        → get_or (set found.size root (get_or found.size root 0 + 1)) r 0 ≡ size (i + 1) (root_in t) r
     size_next r l (yes e) =
-        let here = get_or-set_same groups.size root (get_or groups.size root 0 + 1) 0 (omega (arith, g.sizes, gathering_inside)) in
+        let here = get_or-set_same found.size root (get_or found.size root 0 + 1) 0 (omega (arith, g.sizes, gathering_inside)) in
         let grown = size_in (root_in t) i root (sym told) in
         rw (add-one i, e) (omega (arith, here, grown, counted))
     size_next r l (no d) =
         rw (add-one i)
-        (get_or-set_other groups.size root r (get_or groups.size root 0 + 1) 0 d
+        (get_or-set_other found.size root r (get_or found.size root 0 + 1) 0 d
         ∙ g.gathered.size r l
         ∙ sym (size_out (root_in t) i r (λ e. d (sym e ∙ sym told))))
 
-    own : size i (root_in t) (root_in t i) ≡ get_or groups.size root 0
+    own : size i (root_in t) (root_in t i) ≡ get_or found.size root 0
     own = ap (size i (root_in t)) (sym told) ∙ sym counted
 
     -- a place whose root was met before
-    pub gathering_other : get_or groups.size root 0 ≢ 0
-        → Gathering t n (i + 1)
-        record {
-          count = groups.count;
-          lowest = groups.lowest;
-          root = groups.root;
-          size = set groups.size root (get_or groups.size root 0 + 1);
-        }
+    pub gathering_other : get_or found.size root 0 ≢ 0
+        → Gathering t (i + 1)
+        record { count = found.count; groups = found.groups; size = set found.size root (get_or found.size root 0 + 1) }
     gathering_other met =
         let same = lowest_out (root_in t) i (ne_eqb _ 0 (λ e. met (sym own ∙ e))) in
         record {
-          within = omega arith;
           gathered =
               record {
-                lowest = rw (add-one, same) g.gathered.lowest;
+                groups = rw (add-one, same) g.gathered.groups;
                 count = rw (add-one, same) g.gathered.count;
-                root = rw (add-one, same) g.gathered.root;
                 size = λ r l. size_next r l (ℕ_discrete r root);
               };
-          lowests = g.lowests;
-          roots = g.roots;
+          listed = g.listed;
           sizes = simp length-set g.sizes;
         }
 
     -- the first place of its group
-    pub gathering_lowest : get_or groups.size root 0 ≡ 0
-        → Gathering t n (i + 1)
+    pub gathering_lowest : get_or found.size root 0 ≡ 0
+        → Gathering t (i + 1)
         record {
-          count = groups.count + 1;
-          lowest = set groups.lowest groups.count i;
-          root = set groups.root groups.count root;
-          size = set groups.size root (get_or groups.size root 0 + 1);
+          count = found.count + 1;
+          groups = set found.groups found.count (record { lowest = i; root = root });
+          size = set found.size root (get_or found.size root 0 + 1);
         }
     gathering_lowest none =
         let next = lowest_in (root_in t) i (eq-eqb _ 0 (own ∙ none)) in
-        let k = groups.count in
+        let k = found.count in
+        let here : Group = record { lowest = i; root = root } in
         let room : k < most_nodes = omega (arith, gathering_room, admitted.few) in
-        let lowest = take-suc-set groups.lowest k i (omega (arith, g.lowests)) in
-        let root-set = take-suc-set groups.root k root (omega (arith, g.roots)) in
+        let listed = take-suc-set found.groups k here (omega (arith, g.listed)) in
         record {
-          within = omega arith;
           gathered =
               record {
-                lowest = rw (add-one i, add-one k, next) (lowest ∙ ap (λ (l : List ℕ). l ++ (i ∷ [])) g.gathered.lowest);
+                groups =
+                    rw (add-one i, add-one k, next, map-append (group_of t) (lowest_places (root_in t) i) (i ∷ []), ← told)
+                    (listed ∙ ap (λ (l : List Group). l ++ (here ∷ [])) g.gathered.groups);
                 count = rw (add-one i, next) (omega (arith, g.gathered.count, length-append (lowest_places (root_in t) i) (i ∷ [])));
-                root =
-                    rw (add-one i, add-one k, next, map-append (root_in t) (lowest_places (root_in t) i) (i ∷ []), ← told)
-                    (root-set ∙ ap (λ (l : List ℕ). l ++ (root ∷ [])) g.gathered.root);
                 size = λ r l. size_next r l (ℕ_discrete r root);
               };
-          lowests = simp length-set g.lowests;
-          roots = simp length-set g.roots;
+          listed = simp length-set g.listed;
           sizes = simp length-set g.sizes;
         }

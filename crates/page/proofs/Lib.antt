@@ -9,4 +9,3 @@ pub mod Grouping
 pub mod Paging
 mod Cases
 pub mod Structs
-pub mod Ended

@@ -1,31 +1,28 @@
--- The two loops that write: rows from their numbers, and a page from rows whose numbers fit their columns.
+-- The two loops that write: the rows that were found, and a page from rows whose numbers fit their columns.
 --
 --   Fitting r                  the numbers of the row r fit their columns
 --   AllFitting rows n          so do those of the first n rows
---   rows_to numbers n          the first n rows of the numbers
---   rows_after numbers rows n  the lent rows once n of them are written
 --   page_after rows page n     the lent page once the lines of n rows are written
 --
--- Main laws: lines_to_length, how long a page is by its rows; rows_start, rows_next and rows_done, page_start, page_next and
--- page_done: a loop leaves what it wrote, and then what was there.
+-- Main laws: lines_to_length, how long a page is by its rows; rows_next and rows_done, page_start, page_next and page_done: a
+-- loop leaves what it wrote, and then what was there.
 use mathlib.Core.Path.{◌≡◌, refl, sym, ap, ◌∙◌}
 use mathlib.Core.List.{List, [], ◌∷◌, ◌++◌}
 use Prim.Native.Nat.{ℕ, zero, suc, ◌+◌, ◌%◌, ◌^◌, ◌≤◌, ◌<◌}
 use native.Mathlib.Numerals.{add-one}
 use native.Mathlib.Omega.{arith}
-use native.Mathlib.Decide.{ℕ_discrete}
 use lib.Dec.{eqb}
-use lib.ListN.{length, get_or, set, drop, length-append, length-replicate, length-drop, get_or-append}
-use lib.Seq.{sets, sets-eq, length-sets, drop-cons, set_at, get_or_at, append_snoc, ext_get_or}
+use lib.ListN.{length, get_or, set, take, drop, length-append, length-replicate}
+use lib.Seq.{sets, sets-eq, drop-cons, take-suc, set_at, append_snoc, length-take-le, take-length}
 use borrow.Author.Tests.{eqb-true, eqb-false}
 use Rattle.basics.proofs.Conditions.{split}
 use Rattle.text.specs.Text.{decimal, each}
 use Rattle.text.proofs.Text.{digits_most}
 use Rattle.text.proofs.Writing.{sets_append}
 use Rattle.page.specs.declared.Row.{Row}
-use Rattle.page.specs.Rows.{no_row, row_of, Numbered}
+use Rattle.page.specs.Rows.{no_row}
 use Rattle.page.specs.Page.{right_aligned, columns, heading, row_line, row_lines, lines_to}
-use Rattle.page.specs.Written.{page_length, filled, lined}
+use Rattle.page.specs.Written.{page_length, lined}
 
 -- every row of a table has numbers of at most 8 digits
 pub record Fitting (r : Row) : Type 0 where
@@ -36,13 +33,6 @@ pub record Fitting (r : Row) : Type 0 where
 
 abbrev pub AllFitting : List Row → ℕ → Type 0
 AllFitting rows n = (k : ℕ) → k < n → Fitting (get_or rows k no_row)
-
-abbrev pub rows_to : List ℕ → ℕ → List Row
-rows_to numbers zero = []
-rows_to numbers (suc n) = rows_to numbers n ++ (row_of numbers n ∷ [])
-
-abbrev pub rows_after : List ℕ → List Row → ℕ → List Row
-rows_after numbers rows n = rows_to numbers n ++ drop n rows
 
 unfoldable pub page_after : List Row → List ℕ → ℕ → List ℕ
 page_after rows page n = sets page 0 (lines_to rows n)
@@ -116,10 +106,6 @@ module _ (rows : List Row) (page : List ℕ) where
       rw (add-one i)
       (sets_append (lines_to rows i) (row_lines i (get_or rows i no_row)) page 0 (page_length i) (omega (arith, lines_to_length rows i f)))
 
-  pub page_size : (i : ℕ) → length (page_after rows page i) ≡ length page
-  unfolding page_after
-  page_size i = length-sets page 0 (lines_to rows i)
-
   pub page_done : (n : ℕ) → length (lines_to rows n) ≤ length page
       → page_after rows page n ≡ lines_to rows n ++ drop (length (lines_to rows n)) page
   unfolding page_after
@@ -139,53 +125,22 @@ lines_same rows others (suc n) same =
 
 -- ---- filling the rows
 
-module _ (numbers : List ℕ) where
-  rows_to_length : (n : ℕ) → length (rows_to numbers n) ≡ n
-  rows_to_length zero = refl
-  rows_to_length (suc n) = omega (arith, length-append (rows_to numbers n) (row_of numbers n ∷ []), rows_to_length n)
+-- one row of those found is filled
+pub rows_next : (found rows : List Row) {now : List Row} {k : ℕ} {row : Row} → now ≡ take k found ++ drop k rows
+    → row ≡ get_or found k no_row → k < length found → length found ≤ length rows → set now k row ≡ take (k + 1) found ++ drop (k + 1) rows
+rows_next found rows {now} {k} {row} same e l few =
+    rw (add-one k, same, drop-cons rows k no_row (omega arith), take-suc found k no_row l, e)
+    (set_at (take k found) (get_or rows k no_row) (drop (suc k) rows) (get_or found k no_row) k (length-take-le k found (omega arith))
+    ∙ sym (append_snoc (take k found) (get_or found k no_row) (drop (suc k) rows)))
 
-  rows_to_at : (n k : ℕ) → k < n → get_or (rows_to numbers n) k no_row ≡ row_of numbers k
-  rows_to_at zero k l = absurd (omega arith)
-  rows_to_at (suc n) k l = go (ℕ_discrete k n) (λ h. rows_to_at n k h)
-    where
-      go : Dec (k ≡ n) → (k < n → get_or (rows_to numbers n) k no_row ≡ row_of numbers k)
-          → get_or (rows_to numbers n ++ (row_of numbers n ∷ [])) k no_row ≡ row_of numbers k
-      go (yes e) below = rw e (get_or_at (rows_to numbers n) (row_of numbers n) [] no_row n (rows_to_length n))
-      go (no d) below =
-          let within : k < n = omega arith in
-          get_or-append (rows_to numbers n) (row_of numbers n ∷ []) no_row k (omega (arith, rows_to_length n)) ∙ below within
+-- all of them are
+pub rows_done : (found rows after : List Row) (n : ℕ) → n ≡ length found → after ≡ take n found ++ drop n rows
+    → after ≡ found ++ drop (length found) rows
+rows_done found rows after n all e =
+    e ∙ ap (λ (m : ℕ). take m found ++ drop m rows) all
+    ∙ ap (λ (front : List Row). front ++ drop (length found) rows) (take-length found)
 
-  module _ (rows : List Row) where
-    pub rows_start : rows_after numbers rows 0 ≡ rows
-    rows_start = refl
-
-    pub rows_next : (i : ℕ) → i < length rows → set (rows_after numbers rows i) i (row_of numbers i) ≡ rows_after numbers rows (i + 1)
-    rows_next i l =
-        rw (add-one i, drop-cons rows i no_row l)
-        (set_at (rows_to numbers i) (get_or rows i no_row) (drop (suc i) rows) (row_of numbers i) i (rows_to_length i)
-        ∙ sym (append_snoc (rows_to numbers i) (row_of numbers i) (drop (suc i) rows)))
-
-    pub rows_size : (i : ℕ) → i ≤ length rows → length (rows_after numbers rows i) ≡ length rows
-    rows_size i l = omega (arith, length-append (rows_to numbers i) (drop i rows), rows_to_length i, length-drop i rows)
-
-    pub rows_read : (n k : ℕ) → k < n → get_or (rows_after numbers rows n) k no_row ≡ row_of numbers k
-    rows_read n k l =
-        get_or-append (rows_to numbers n) (drop n rows) no_row k (omega (arith, rows_to_length n)) ∙ rows_to_at n k l
-
-  pub rows_done : (found : List Row) → Numbered found (length found) numbers → rows_to numbers (length found) ≡ found
-  rows_done found numbered =
-      ext_get_or no_row (rows_to numbers (length found)) found (rows_to_length (length found))
-      (λ k l.
-      let within : k < length found = omega (arith, rows_to_length (length found)) in
-      rows_to_at (length found) k within ∙ numbered k within)
-
--- ---- the loops leave that
-
-pub filled_after : (numbers : List ℕ) (rows : List Row) (n : ℕ) → n ≤ length rows → filled numbers n rows ≡ rows_after numbers rows n
-filled_after numbers rows zero l = refl
-filled_after numbers rows (suc n) l =
-    ap (λ (after : List Row). set after n (row_of numbers n)) (filled_after numbers rows n (omega arith)) ∙ rows_next numbers rows n l
-    ∙ ap (rows_after numbers rows) (add-one n)
+-- ---- the loop over the page leaves that
 
 pub lined_after : (rows : List Row) (page : List ℕ) (n : ℕ) → AllFitting rows n → lined rows n page ≡ page_after rows page n
 lined_after rows page zero f = sym (page_start rows page)

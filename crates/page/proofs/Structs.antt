@@ -1,24 +1,9 @@
--- The structs of this crate, and the numbers of the rows, as the laws of `walks` take them. No function of the crate needs a walk
--- by hand any more.
---
---   numbers_type     the array of the rows' numbers
---   numbers_value    its machine value
-use mathlib.Core.List.{List}
-use Prim.Native.Nat.{ℕ}
-use mir.Syntax.{w16}
-use mir.Val.{Val}
-use denote.RattleType.{RattleType}
-use denote.Builtin.{u16}
-use denote.Array.{Array, array_vals}
-use denote.Plain.{uint_vals}
-use denote.Steps.{only}
+-- The structs of this crate that the laws of `walks` take. No function of the crate needs a walk by hand any more.
 use Rattle.walks.proofs.Carried.{Carried}
 use Rattle.page.specs.contracts.Row as row_type
 use Rattle.page.proofs.Row.TheLaws as row_laws
 use Rattle.page.specs.contracts.Paged as paged_type
 use Rattle.page.proofs.Paged.TheLaws as paged_laws
-use Rattle.page.specs.contracts.plan.Plan as plan_type
-use Rattle.page.proofs.plan.Plan.TheLaws as plan_laws
 
 abbrev pub row_struct : Carried
 row_struct =
@@ -27,13 +12,3 @@ row_struct =
 abbrev pub paged_struct : Carried
 paged_struct =
     record { type = paged_type.the_type; laws = paged_laws.the_laws; plain = paged_laws.the_plain; copyable = paged_laws.the_copy }
-
-abbrev pub plan_struct : Carried
-plan_struct =
-    record { type = plan_type.the_type; laws = plan_laws.the_laws; plain = plan_laws.the_plain; copyable = plan_laws.the_copy }
-
-abbrev pub numbers_type : RattleType
-numbers_type = Array u16 16384
-
-abbrev pub numbers_value : List ℕ → Val
-numbers_value numbers = only (array_vals (uint_vals w16) numbers)

@@ -3,9 +3,7 @@
 --   no_row                    what stands past the rows
 --   group_row t i             the row of the group whose lowest place is i
 --   group_rows t              the rows of the groups of the table t
---   row_of numbers k          row k of a list of numbers, four a row
---   Numbered rows n numbers   the numbers have the first n of the rows
-use Rattle.std.specs.Prelude.{◌≡◌, List, map, ℕ, ◌+◌, ◌*◌, ◌<◌, length, get_or}
+use Rattle.std.specs.Prelude.{List, map, ℕ, length}
 use Rattle.word.specs.declared.Node.{Node}
 use Rattle.forest.specs.Groups.{size, lowest_places}
 use Rattle.rules.specs.Table.{rank}
@@ -21,16 +19,3 @@ group_row t i =
 
 unfoldable pub group_rows : List Node → List Row
 group_rows t = map (group_row t) (lowest_places (root_in t) (length t))
-
--- The code lends the rows' numbers where it cannot lend rows.
-abbrev pub row_of : List ℕ → ℕ → Row
-row_of numbers k =
-    record {
-      lowest = get_or numbers (4 * k) 0;
-      size = get_or numbers (4 * k + 1) 0;
-      root = get_or numbers (4 * k + 2) 0;
-      rank = get_or numbers (4 * k + 3) 0;
-    }
-
-abbrev pub Numbered : List Row → ℕ → List ℕ → Type 0
-Numbered rows n numbers = (k : ℕ) → k < n → row_of numbers k ≡ get_or rows k no_row

@@ -10,7 +10,7 @@ ghost use Rattle.page.specs.Written.{page_length};
 use crate::Row;
 use text::{put_byte, put_bytes, put_decimal};
 
-// How many digits a number has.
+// How many digits a number has: a turn is a digit, and no index is counted.
 fn digits(n: u32) -> usize
     ensures { result ≡ length (decimal n) }
 {
@@ -32,10 +32,8 @@ fn put_column(page: &mut [u8], at: usize, n: u32) -> usize
         return put_bytes(page, at, &[b' ', b' ', b' ', b' ', b' ', b' ', b' ', digit]);
     }
     let mut next = at;
-    let mut filled = digits(n);
-    while filled < 8 {
+    for _ in digits(n)..8 {
         next = put_byte(page, next, b' ');
-        filled += 1;
     }
     put_decimal(page, next, n)
 }
@@ -45,10 +43,8 @@ fn put_columns(page: &mut [u8], at: usize, numbers: &[u32]) -> usize
     ensures { Wrote (columns (map decimal numbers.now)) at page.old page.new result }
 {
     let mut next = at;
-    let mut i = 0;
-    while i < numbers.len() {
-        next = put_column(page, next, numbers[i]);
-        i += 1;
+    for &n in numbers {
+        next = put_column(page, next, n);
     }
     next
 }

@@ -16,5 +16,5 @@ pub extern "C" fn grouping_page(table: &[Word], rows: &mut [Row], page: &mut [u8
         ≡ paged_of table.now rows.old page.old }
     ensures grouped { result.number ≡ 0 → GroupedHere table.now result rows.new page.new }
 {
-    page::grouping_page(table, rows, page)
+    Paged::from(page::grouping_page(table, rows, page))
 }

@@ -6,64 +6,39 @@
 --   Along       where the loop is, with that
 --
 -- Main laws: refused_end, the end of a refused play; lending_start; along_next and along_end; along_still, of an idle grant.
-use mathlib.Core.Path.{◌≡◌, refl, sym, ap, ◌∙◌, subst, subst₂}
-use mathlib.Core.Logic.{◌≢◌}
+use mathlib.Core.Path.{◌≡◌, refl, sym, ap, ◌∙◌, subst}
 use mathlib.Core.Bool.{true}
 use mathlib.Core.List.{List, [], ◌++◌, map}
-use Prim.Native.Nat.{ℕ, ◌+◌, ◌*◌, ◌≤◌, ◌<◌}
+use Prim.Native.Nat.{ℕ, ◌*◌, ◌≤◌, ◌<◌}
 use native.Mathlib.Omega.{arith}
-use native.Mathlib.Decide.{ℕ_discrete}
 use lib.ListN.{length, take, drop, replicate, take-append-drop, length-map, length-replicate}
-use lib.Seq.{take_at, drop_at, length-take-le}
+use lib.Seq.{take_at, drop_at}
 use lib.Count.{ones}
-use borrow.Author.Tests.{eq-eqb, ne_eqb}
 use Rattle.job.specs.declared.Tally.{Tally}
 use Rattle.job.specs.declared.Played.{Played}
+use Rattle.job.specs.declared.refusal.Refusal.{Refusal}
+use Rattle.job.specs.Played.{refused_with}
+use Rattle.job.specs.Refusal.{number_of}
+use Rattle.job.proofs.Refusals.{refuses}
 use Rattle.word.specs.Word.{encode}
-use Rattle.jobfile.specs.Meaning.{refused, meaning}
-use Rattle.jobfile.specs.Admitted.{Bytes}
+use Rattle.jobfile.specs.Meaning.{meaning}
 use Rattle.reader.specs.declared.Checked.{Checked}
-use Rattle.reader.specs.Reader.{counts_of}
 use Rattle.rules.specs.State.{tally_of}
-use Rattle.rules.specs.Start.{Start}
 use Rattle.rules.proofs.Theorem.{initial_startable}
 use Rattle.start.proofs.Start.{start_standing}
 use Rattle.stepper.specs.Shown.{requests_in, Standing}
 use Rattle.stepper.proofs.Reached.{playing_admitted}
 use Rattle.turns.specs.declared.Progress.{Progress}
-use Rattle.turns.specs.Turns.{Addable, counted_of, state_at, buffers_of, Turned, first_tally, run_of}
+use Rattle.turns.specs.Turns.{Addable, counted_of, state_at, buffers_of, first_tally, run_of}
 use Rattle.turns.proofs.Runs.{grants_few}
 use Rattle.turns.proofs.Counters.{small_addable}
-use Rattle.turns.proofs.Going.{Going, going_start, going_turnable, going_still, going_next, going_end}
-use Rattle.player.specs.declared.Plan.{Plan}
-use Rattle.player.specs.Player.{left, left_at, refused_with, cut_of, origin_in, played_of, Roomy}
-use Rattle.player.specs.Plan.{idle_plan, accepted_plan, laid_of, prepared, prepared_of}
-use Rattle.player.specs.Plan.{TurnableOn, TurnedOn, TurnsOn, closed_of}
+use Rattle.turns.proofs.Going.{Going, going_start, going_still, going_next, going_end}
+use Rattle.player.specs.Player.{left, left_at, cut_of, origin_in, played_of, Roomy}
+use Rattle.player.specs.Parts.{Laid, progress_of, laid_of, TurnedOn, TurnsOn, closed_of}
 use Rattle.player.specs.Demand.{LinearizedHere, LawfulHere, WaitedHere, BoundedHere}
-use Rattle.player.proofs.Refusals.{refusal, accepted_roomy, refused_left, accepted_left}
-use Rattle.player.proofs.Prepared.{nodes_are, rows_are}
+use Rattle.player.proofs.Refusals.{refusal, not_refused, refused_left, accepted_left}
+use Rattle.player.proofs.Laid.{nodes_are, rows_are}
 use Rattle.player.proofs.Demand.{linearized_from, lawful_from, waited_from, bounded_from, origin_initial}
-
--- ---- one turn on the lent buffers
-
-pub turned_on : {file : List ℕ} {counts : Checked} {p p' : Progress} {origin : Start}
-    {linearization linearization' lent : List ℕ} (table report part rows : List ℕ)
-    → TurnableOn file counts p table report linearization
-    → length part ≡ length (take counts.nodes table) → length rows ≡ length (take (4 * counts.requests) report)
-    → Turned file p p' (buffers_of p' part rows linearization') origin lent
-    → TurnedOn file counts p p' (buffers_of p table report linearization)
-    (buffers_of p' (part ++ drop counts.nodes table) (rows ++ drop (4 * counts.requests) report) linearization') origin lent
-turned_on {file} {counts} {p} {p'} {origin} {linearization} {linearization'} {lent} table report part rows t is-part is-rows turned =
-    let n = counts.nodes in
-    let m = 4 * counts.requests in
-    let long-part = is-part ∙ length-take-le n table t.nodes in
-    let long-rows = is-rows ∙ length-take-le m report t.rows in
-    record {
-      turned = subst₂ (λ a b. Turned file p p' (buffers_of p' a b linearization') origin lent)
-          (sym (take_at part (drop n table) n long-part)) (sym (take_at rows (drop m report) m long-rows)) turned;
-      table_rest = drop_at part (drop n table) n long-part;
-      report_rest = drop_at rows (drop m report) m long-rows;
-    }
 
 -- ---- the invariant
 
@@ -128,9 +103,6 @@ module _ (E : Entry) (counts : Checked) where
     more_left : a.progress.number < length (meaning file).job.schedule
     more_left = omega (arith, more, ap (λ k. k.grants) a.lending.going.playing.checked)
 
-    pub along_turnable : TurnableOn file counts a.progress a.table a.report a.linearization
-    along_turnable = record { nodes = a.lending.nodes; rows = a.lending.rows; turnable = going_turnable a.lending.going more_left }
-
     pub along_addable : Addable a.tally
     along_addable = small_addable (omega (arith, more_left, grants_few a.lending.going.playing)) a.lending.going.small
 
@@ -142,9 +114,6 @@ module _ (E : Entry) (counts : Checked) where
       turned_here : TurnedOn file counts a.progress p' (buffers_of a.progress a.table a.report a.linearization)
           (buffers_of p' table' report' linearization') (origin_in file) linearization₀
       turned_here = turned (origin_in file) linearization₀ a.lending.going.standing
-
-      pub along_number : p'.number ≡ a.progress.number + 1
-      along_number = turned_here.turned.number
 
       pub along_still : p'.done.idle ≡ true → a.tally.working ≡ ones p'.mask
       along_still = going_still a.lending.going more_left p' tally' (take n table') (take m report') linearization'
@@ -227,127 +196,76 @@ module _ (E : Entry) (counts : Checked) where
     pub along_end : (result : Played) → result ≡ answer → PlayEnded E a.table a.report a.linearization result
     along_end result is = subst (PlayEnded E a.table a.report a.linearization) (sym is) accepted_end
 
--- ---- what `prepare` left
+-- ---- refused
 
-module _ (E : Entry) (table report linearization : List ℕ) (plan : Plan) (bytes : Bytes E.file)
-    (is : prepared table report linearization plan ≡ prepared_of E.file E.table E.report E.linearization) where
+pub refused_end : (E : Entry) (e : Refusal) → number_of e ≡ number₀ E
+    → PlayEnded E E.table E.report E.linearization (refused_with (number_of e))
+refused_end E e told =
+    record {
+      exact = refused_left E.file E.table E.report E.linearization e told;
+      linearized = λ z. absurd (refuses e z);
+      lawful = λ z. absurd (refuses e z);
+      waited = λ z. absurd (refuses e z);
+      bounded = λ z. absurd (refuses e z);
+    }
+
+-- ---- accepted: what `lay_out` left
+
+module _ (E : Entry) (counts : Checked) (roomy : Roomy E.file counts (length E.table) (length E.report) (length E.linearization))
+    (table report : List ℕ) (progress : Progress)
+    (is : ◌≡◌ {A = Laid} (record { table = table; report = report; progress = progress }) (laid_of E.file E.table E.report)) where
   open E use {file, table as table₀, report as report₀, linearization as linearization₀}
 
-  abbrev number : ℕ
-  number = number₀ E
+  abbrev size : ℕ
+  size = counts.nodes
 
-  -- ---- refused
+  abbrev rows : ℕ
+  rows = 4 * counts.requests
 
-  module _ (d : number ≢ 0) where
-    was_refused : prepared table report linearization plan
-        ≡ prepared table₀ report₀ linearization₀ (idle_plan (counts_of (refused number)))
-    unfolding prepared_of
-    was_refused = is ∙ rw (ne_eqb number 0 d) refl
+  abbrev words : List ℕ
+  words = map encode (origin_in file).table
 
-    number_refused : plan.counts.number ≡ number
-    number_refused = ap (λ x. x.plan.counts.number) was_refused
+  abbrev zeros : List ℕ
+  zeros = replicate (4 * length (requests_in file)) 0
 
-    unchanged : PlayEnded E table report linearization (refused_with plan.counts.number)
-    unchanged =
-        record {
-          exact = (λ i. left (was_refused i).table (was_refused i).report (was_refused i).linearization (refused_with (number_refused i)))
-              ∙ refused_left file table₀ report₀ linearization₀ (refused_with number) number refl refl d;
-          linearized = λ z. absurd (d (sym number_refused ∙ z));
-          lawful = λ z. absurd (d (sym number_refused ∙ z));
-          waited = λ z. absurd (d (sym number_refused ∙ z));
-          bounded = λ z. absurd (d (sym number_refused ∙ z));
-        }
+  table_is : table ≡ words ++ drop size table₀
+  table_is = ap (λ x. x.table) is ∙ ap (λ k. words ++ drop k table₀) (sym (nodes_are roomy.playing))
 
-  -- ---- accepted
+  report_is : report ≡ zeros ++ drop rows report₀
+  report_is = ap (λ x. x.report) is ∙ ap (λ k. zeros ++ drop k report₀) (sym (rows_are roomy.playing))
 
-  module _ (e : number ≡ 0) where
-    was_accepted : prepared table report linearization plan
-        ≡ prepared (laid_of file table₀ report₀).table (laid_of file table₀ report₀).report linearization₀ (accepted_plan file)
-    unfolding prepared_of
-    was_accepted = is ∙ rw (eq-eqb number 0 e) refl
+  words_long : length words ≡ size
+  words_long =
+      length-map (origin_in file).table encode
+      ∙ (initial_startable (omega (arith, (playing_admitted roomy.playing).few_nodes)) (origin_initial file)).nodes
+      ∙ sym (nodes_are roomy.playing)
 
-    counts_are : plan.counts ≡ counts_of (meaning file)
-    counts_are = ap (λ x. x.plan.counts) was_accepted
+  zeros_long : length zeros ≡ rows
+  zeros_long = length-replicate (4 * length (requests_in file)) 0 ∙ sym (rows_are roomy.playing)
 
-    roomy : Roomy file plan.counts (length table₀) (length report₀) (length linearization₀)
-    roomy = accepted_roomy file (length table₀) (length report₀) (length linearization₀) bytes e plan.counts counts_are
+  -- the parts that the job needs are the start of the rules
+  starts : buffers_of progress (take size table) (take rows report) linearization₀
+      ≡ buffers_of (progress_of file) words zeros linearization₀
+  starts =
+      (λ i. buffers_of (is i).progress
+      ((ap (take size) table_is ∙ take_at words (drop size table₀) size words_long) i)
+      ((ap (take rows) report_is ∙ take_at zeros (drop rows report₀) rows zeros_long) i)
+      linearization₀)
 
-    abbrev size : ℕ
-    size = plan.counts.nodes
-
-    abbrev rows : ℕ
-    rows = 4 * plan.counts.requests
-
-    abbrev words : List ℕ
-    words = map encode (origin_in file).table
-
-    table_is : table ≡ words ++ drop size table₀
-    table_is =
-        ap (λ x. x.table) was_accepted
-        ∙ ap (λ k. words ++ drop k table₀) (sym (nodes_are roomy.playing))
-
-    report_is : report ≡ replicate (4 * length (requests_in file)) 0 ++ drop rows report₀
-    report_is =
-        ap (λ x. x.report) was_accepted
-        ∙ ap (λ k. replicate (4 * length (requests_in file)) 0 ++ drop k report₀) (sym (rows_are roomy.playing))
-
-    words_long : length words ≡ size
-    words_long =
-        length-map (origin_in file).table encode
-        ∙ (initial_startable (omega (arith, (playing_admitted roomy.playing).few_nodes)) (origin_initial file)).nodes
-        ∙ sym (nodes_are roomy.playing)
-
-    zeros_long : length {A = ℕ} (replicate (4 * length (requests_in file)) 0) ≡ rows
-    zeros_long = length-replicate (4 * length (requests_in file)) 0 ∙ sym (rows_are roomy.playing)
-
-    -- the parts that the job needs are the start of the rules
-    starts : buffers_of plan.progress (take size table) (take rows report) linearization
-        ≡ buffers_of (accepted_plan file).progress words (replicate (4 * length (requests_in file)) 0) linearization₀
-    starts =
-        (λ i. buffers_of (was_accepted i).plan.progress
-        ((ap (take size) table_is ∙ take_at words (drop size table₀) size words_long) i)
-        ((ap (take rows) report_is ∙ take_at (replicate (4 * length (requests_in file)) 0) (drop rows report₀) rows zeros_long) i)
-        (was_accepted i).linearization)
-
-    module _ (table_long : length table ≡ length table₀) (report_long : length report ≡ length report₀)
-        (linearization_long : length linearization ≡ length linearization₀)
-        (tally : Tally) (is-tally : tally ≡ first_tally plan.progress.mask) where
-      lending_accepted : Lending E plan.counts plan.progress tally table report linearization
-      lending_accepted =
-          record {
-            accepted = e;
-            table_long = table_long;
-            report_long = report_long;
-            linearization_long = linearization_long;
-            nodes = omega (arith, nodes_are roomy.playing, table_long, roomy.nodes);
-            rows = omega (arith, rows_are roomy.playing, report_long, roomy.rows);
-            table_rest = ap (drop size) table_is ∙ drop_at words (drop size table₀) size words_long;
-            report_rest = ap (drop rows) report_is
-                ∙ drop_at (replicate (4 * length (requests_in file)) 0) (drop rows report₀) rows zeros_long;
-            going = going_start roomy.playing plan.progress tally
-                (ap (λ x. x.plan.progress) was_accepted) is-tally
-                (subst (λ b. Standing (origin_in file) (meaning file).job b 1 [] linearization₀) (sym starts)
-                (start_standing (meaning file).job (origin_initial file) linearization₀ roomy.room));
-          }
-
-  -- ---- either way
-
-  refused_by : Dec (number ≡ 0) → plan.counts.number ≢ 0 → number ≢ 0
-  refused_by (yes e) d = absurd (d (ap (λ c. c.number) (counts_are e) ∙ (roomy e).playing.accepted))
-  refused_by (no d) _ = d
-
-  pub refused_number : plan.counts.number ≢ 0 → number ≢ 0
-  refused_number d = refused_by (ℕ_discrete number 0) d
-
-  pub refused_end : plan.counts.number ≢ 0 → (result : Played) → result ≡ refused_with plan.counts.number
-      → PlayEnded E table report linearization result
-  refused_end d result is-result = subst (PlayEnded E table report linearization) (sym is-result) (unchanged (refused_number d))
-
-  accepted_by : Dec (number ≡ 0) → plan.counts.number ≡ 0 → number ≡ 0
-  accepted_by (yes e) _ = e
-  accepted_by (no d) z = absurd (d (sym (number_refused d) ∙ z))
-
-  pub lending_start : plan.counts.number ≡ 0 → length table ≡ length table₀ → length report ≡ length report₀
-      → length linearization ≡ length linearization₀ → (tally : Tally) → tally ≡ first_tally plan.progress.mask
-      → Lending E plan.counts plan.progress tally table report linearization
-  lending_start z = lending_accepted (accepted_by (ℕ_discrete number 0) z)
+  pub lending_start : length table ≡ length table₀ → length report ≡ length report₀
+      → (tally : Tally) → tally ≡ first_tally progress.mask
+      → Lending E counts progress tally table report linearization₀
+  lending_start table_long report_long tally is-tally =
+      record {
+        accepted = not_refused roomy;
+        table_long = table_long;
+        report_long = report_long;
+        linearization_long = refl;
+        nodes = omega (arith, nodes_are roomy.playing, table_long, roomy.nodes);
+        rows = omega (arith, rows_are roomy.playing, report_long, roomy.rows);
+        table_rest = ap (drop size) table_is ∙ drop_at words (drop size table₀) size words_long;
+        report_rest = ap (drop rows) report_is ∙ drop_at zeros (drop rows report₀) rows zeros_long;
+        going = going_start roomy.playing progress tally (ap (λ x. x.progress) is) is-tally
+            (subst (λ b. Standing (origin_in file) (meaning file).job b 1 [] linearization₀) (sym starts)
+            (start_standing (meaning file).job (origin_initial file) linearization₀ roomy.room));
+      }

@@ -125,8 +125,8 @@ module _ (file : List ℕ) (bytes : Bytes file) (accepts : (meaning file).number
         ap (λ x. map decode (take j.nodes x.table)) (cut_played k)
         ∙ table_back (cut k j) (origin_initial file) (cut_admitted j admitted k) (drop j.nodes table)
 
-    rows_after_lem : (k : ℕ) → rows_left k file table report linearization ≡ (state_after (origin_in file) j (take k j.schedule)).report
-    rows_after_lem k =
+    rows_left_after : (k : ℕ) → rows_left k file table report linearization ≡ (state_after (origin_in file) j (take k j.schedule)).report
+    rows_left_after k =
         ap (λ x. rows_of (take (4 * length j.requests) x.report)) (cut_played k)
         ∙ report_back (cut k j) (origin_initial file) (cut_admitted j admitted k) (drop (4 * length j.requests) report)
 
@@ -156,8 +156,8 @@ module _ (file : List ℕ) (bytes : Bytes file) (accepts : (meaning file).number
       cut_ends : Ends j.nodes j.requests (rows_left k file table report linearization)
           (rows_left l file table report linearization) then
       cut_ends =
-          subst₂ (λ r r'. Ends j.nodes j.requests r r' then) (sym (rows_after_lem k))
-          (sym (rows_after_lem l ∙ ap (λ gs. (state_after (origin_in file) j gs).report) (sym all)))
+          subst₂ (λ r r'. Ends j.nodes j.requests r r' then) (sym (rows_left_after k))
+          (sym (rows_left_after l ∙ ap (λ gs. (state_after (origin_in file) j gs).report) (sym all)))
           (run_ends j.requests j.waits most_heads startable first then playable)
 
   pub cuts : Cuts file

@@ -1,37 +1,23 @@
 -- What a play leaves in the lent buffers and answers, for any file and any buffers.
 --
---   refused_with n       the answer of a refusal
 --   accepted_with j S    the answer of a play of the job j that ends in the state S
 --   lent_refusal j t r l the refusal of lent buffers of these lengths, 0 for none
 --   play_refusal         the refusal of a play
---   admission_of         what is known before anything is written
 --   origin_in file       what a play of the file starts from
 --   Left, left ..        the buffers and the answer, and the same by its parts
 --   played_of            what a play leaves
 use Rattle.std.specs.Prelude.{cond, List, ◌++◌, ℕ, ◌*◌, ◌≤◌, eqb, ltb, length, drop}
 use Rattle.job.specs.declared.Played.{Played}
 use Rattle.job.specs.Job.{Job}
+use Rattle.job.specs.Played.{refused_with}
 use Rattle.jobfile.specs.Format.{◌then◌}
-use Rattle.jobfile.specs.Meaning.{refused, meaning}
+use Rattle.jobfile.specs.Meaning.{meaning}
 use Rattle.reader.specs.declared.Checked.{Checked}
-use Rattle.reader.specs.Reader.{counts_of, Playing}
+use Rattle.reader.specs.Reader.{Playing}
 use Rattle.rules.specs.State.{State, tally_of}
 use Rattle.rules.specs.Start.{Start, fresh_start}
 use Rattle.stepper.specs.Shown.{shown}
 use Rattle.turns.specs.Turns.{run_of}
-
--- Each refusal gives its number and zero for every count.
-abbrev pub refused_with : ℕ → Played
-refused_with n =
-    record {
-      number = n;
-      nodes = 0;
-      heads = 0;
-      requests = 0;
-      grants = 0;
-      entries = 0;
-      tally = record { idle = 0; failed = 0; links = 0; working = 0 };
-    }
 
 abbrev pub accepted_with : Job → State → Played
 accepted_with j S =
@@ -52,15 +38,9 @@ lent_refusal j table report linearization =
     (cond (ltb report (4 * length j.requests)) 14
     (cond (ltb linearization (2 * length j.requests)) 14 0))
 
--- The file is checked first, then the lent buffers.
+-- Everything is checked before anything is written: the file first, then the lent buffers.
 unfoldable pub play_refusal : List ℕ → ℕ → ℕ → ℕ → ℕ
 play_refusal file table report linearization = (meaning file).number then lent_refusal (meaning file).job table report linearization
-
--- Everything is checked before anything is written: the counts of an accepted job, or a refusal's number and zeros.
-unfoldable pub admission_of : List ℕ → ℕ → ℕ → ℕ → Checked
-admission_of file table report linearization =
-    let number = play_refusal file table report linearization in
-    cond (eqb number 0) (counts_of (meaning file)) (counts_of (refused number))
 
 pub record Left : Type 0 where
   pub table : List ℕ
@@ -91,8 +71,9 @@ played_of file table report linearization =
     (cut_of (origin_in file) (meaning file).job table report linearization)
     (left table report linearization (refused_with (play_refusal file (length table) (length report) (length linearization))))
 
--- ---- for the inner functions
+-- ---- what is admitted
 
+-- The file is accepted, and the lent buffers have room for its job.
 pub record Roomy (file : List ℕ) (checked : Checked) (table report linearization : ℕ) : Type 0 where
   pub playing : Playing file checked
   pub nodes : (meaning file).job.nodes ≤ table

@@ -14,11 +14,12 @@
 --   restart k            the start of a request of kind k
 --   tidy_up k            the start of the find after the link
 --   no_wait              the number of no request, in a task
+--   one_higher w         the request w, or none, as a task tells it
 --   is_waiting h         the head h waits for a request
 --   waiting_for h e      the head h with e as what it waits for
 --   begin q n            the head as it begins request q, number n
 --   queued h n           the head h with n as its request
-use Rattle.std.specs.Prelude.{Bool, true, false, cond, not, ℕ, ◌+◌, ◌<◌, eqb}
+use Rattle.std.specs.Prelude.{Bool, true, false, cond, not, ℕ, ◌+◌, ◌<◌, eqb, Option, Some, None}
 use Rattle.job.specs.declared.Kind.{Kind}
 use Rattle.job.specs.declared.Kind.TheVariants.{Union, SameSet}
 use Rattle.job.specs.declared.Request.{Request}
@@ -131,6 +132,10 @@ tidy_up k =
 -- request waited for is told one higher.
 abbrev pub no_wait : ℕ
 no_wait = 0
+
+abbrev pub one_higher : Option ℕ → ℕ
+one_higher None = no_wait
+one_higher (Some n) = n + 1
 
 -- A head that waits for a request.
 abbrev pub is_waiting : Head → Bool

@@ -1,93 +1,72 @@
 // A request's finds: what an errand decides, what the request makes of a find's step, and a same-set's last read.
-ghost use Rattle.std.specs.Prelude.{◌≡◌};
+ghost use Rattle.std.specs.Prelude.{◌≡◌, cond};
 ghost use Rattle.process.specs.Process.{tidies, kind_of, serves_x, next_errand, node_at, moved_to};
 ghost use Rattle.process.specs.Advance.{go_on, retry, together, apart, compared, ended, reread};
 
-use crate::{Advanced, Errand, Event, Head, Stage, Step, Task};
+use crate::{Advanced, Errand, Event, Head, QUIET, Stage, Step, Task};
 use job::{Answer, Kind};
 use word::Node;
+
+// The head at its next stage, and whether a swap that did not write has led it there.
+fn at_stage(task: Task, stage: Stage, failed: bool) -> Advanced
+    ensures { result ≡ cond failed (retry task stage) (go_on task stage) }
+{
+    Advanced {
+        head: Head { stage, task },
+        event: Event { failed, ..QUIET },
+    }
+}
 
 // The head at its next stage, with nothing more to record.
 pub fn go_on(task: Task, stage: Stage) -> Advanced
     ensures { result ≡ go_on task stage }
 {
-    Advanced {
-        head: Head { stage, task },
-        event: Event {
-            failed: false,
-            found: false,
-            linked: false,
-            answer: Answer::Unfinished,
-            point: 0,
-        },
-    }
+    at_stage(task, stage, false)
 }
 
 // The head at its next stage after a swap that did not write.
 pub fn retry(task: Task, stage: Stage) -> Advanced
     ensures { result ≡ retry task stage }
 {
-    Advanced {
-        head: Head { stage, task },
-        event: Event {
-            failed: true,
-            found: false,
-            linked: false,
-            answer: Answer::Unfinished,
-            point: 0,
-        },
-    }
+    at_stage(task, stage, true)
 }
 
-// Whether a find serves the first of its request's nodes.
-fn serves_x(errand: Errand) -> bool
-    ensures { result ≡ serves_x errand }
-{
-    match errand {
-        Errand::UnionX => true,
-        Errand::UnionY => false,
-        Errand::SameX => true,
-        Errand::SameY => false,
-        Errand::Tidy => false,
+impl Errand {
+    // Whether a find serves the first of its request's nodes.
+    fn serves_x(self) -> bool
+        ensures { result ≡ serves_x self }
+    {
+        matches!(self, Errand::UnionX | Errand::SameX)
     }
-}
 
-// The kind of the request that sends a find.
-fn kind_of(errand: Errand) -> Kind
-    ensures { result ≡ kind_of errand }
-{
-    match errand {
-        Errand::UnionX => Kind::Union,
-        Errand::UnionY => Kind::Union,
-        Errand::SameX => Kind::SameSet,
-        Errand::SameY => Kind::SameSet,
-        Errand::Tidy => Kind::Union,
+    // The kind of the request that sends a find.
+    fn kind(self) -> Kind
+        ensures { result ≡ kind_of self }
+    {
+        match self {
+            Errand::UnionX | Errand::UnionY | Errand::Tidy => Kind::Union,
+            Errand::SameX | Errand::SameY => Kind::SameSet,
+        }
     }
-}
 
-// The find that follows.
-fn next_errand(errand: Errand) -> Errand
-    ensures { result ≡ next_errand errand }
-{
-    match errand {
-        Errand::UnionX => Errand::UnionY,
-        Errand::UnionY => Errand::UnionX,
-        Errand::SameX => Errand::SameY,
-        Errand::SameY => Errand::SameX,
-        Errand::Tidy => Errand::Tidy,
+    // The find that follows.
+    fn next(self) -> Errand
+        ensures { result ≡ next_errand self }
+    {
+        match self {
+            Errand::UnionX => Errand::UnionY,
+            Errand::UnionY => Errand::UnionX,
+            Errand::SameX => Errand::SameY,
+            Errand::SameY => Errand::SameX,
+            Errand::Tidy => Errand::Tidy,
+        }
     }
-}
 
-// Whether a find is made after the link.
-fn tidies(errand: Errand) -> bool
-    ensures { result ≡ tidies errand }
-{
-    match errand {
-        Errand::UnionX => false,
-        Errand::UnionY => false,
-        Errand::SameX => false,
-        Errand::SameY => false,
-        Errand::Tidy => true,
+    // Whether a find is made after the link.
+    fn tidies(self) -> bool
+        ensures { result ≡ tidies self }
+    {
+        matches!(self, Errand::Tidy)
     }
 }
 
@@ -95,7 +74,7 @@ fn tidies(errand: Errand) -> bool
 pub fn node_at(task: Task, errand: Errand) -> u16
     ensures { result ≡ node_at task errand }
 {
-    if serves_x(errand) {
+    if errand.serves_x() {
         return task.x;
     }
     task.y
@@ -105,7 +84,7 @@ pub fn node_at(task: Task, errand: Errand) -> u16
 pub fn moved_to(task: Task, errand: Errand, node: u16) -> Task
     ensures { result ≡ moved_to task errand node }
 {
-    if serves_x(errand) {
+    if errand.serves_x() {
         return Task { x: node, ..task };
     }
     Task { y: node, ..task }
@@ -142,11 +121,10 @@ fn compared(task: Task, kind: Kind, now: u32) -> Advanced
                 task,
             },
             event: Event {
-                failed: false,
                 found: true,
-                linked: false,
                 answer: together(kind),
                 point: now,
+                ..QUIET
             },
         };
     }
@@ -156,11 +134,8 @@ fn compared(task: Task, kind: Kind, now: u32) -> Advanced
             task,
         },
         event: Event {
-            failed: false,
             found: true,
-            linked: false,
-            answer: Answer::Unfinished,
-            point: 0,
+            ..QUIET
         },
     }
 }
@@ -170,13 +145,13 @@ fn compared(task: Task, kind: Kind, now: u32) -> Advanced
 pub fn ended(task: Task, errand: Errand, now: u32) -> Advanced
     ensures { result ≡ ended task errand now }
 {
-    if serves_x(errand) {
-        return go_on(task, Stage::Find(next_errand(errand), Step::ReadNode));
+    if errand.serves_x() {
+        return go_on(task, Stage::Find(errand.next(), Step::ReadNode));
     }
-    if tidies(errand) {
+    if errand.tidies() {
         return go_on(task, Stage::ReadRankLinked);
     }
-    compared(task, kind_of(errand), now)
+    compared(task, errand.kind(), now)
 }
 
 // x was read again: still a root, the answer is no, at the point where the find from y ended; else the same-set tries again.
@@ -190,11 +165,9 @@ pub fn reread(task: Task, point: u32, seen: Node) -> Advanced
                 task,
             },
             event: Event {
-                failed: false,
-                found: false,
-                linked: false,
                 answer: Answer::No,
                 point,
+                ..QUIET
             },
         };
     }

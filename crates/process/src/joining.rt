@@ -1,11 +1,12 @@
 // The stages of a union after its two finds: both ranks, the link, the rise of the upper root's rank, and the rise of the root
 // that the find after the link has come to (02, A2).
 ghost use Rattle.std.specs.Prelude.{◌≡◌};
+ghost use Rattle.word.specs.Word.{same};
 ghost use Rattle.process.specs.Process.{tidy_up};
 ghost use Rattle.process.specs.Advance.{rank_both, after_link, link, linked, tried, raise, raise_found};
 
 use crate::finding::{go_on, retry};
-use crate::{Advanced, Errand, Event, Head, Stage, Step, Task};
+use crate::{Advanced, Errand, Event, Head, QUIET, Stage, Step, Task};
 use job::Answer;
 use word::Node;
 
@@ -13,11 +14,14 @@ use word::Node;
 pub fn rank_both(task: Task, x_rank: u8, y_rank: u8) -> Advanced
     ensures { result ≡ rank_both task x_rank y_rank }
 {
-    let x = task.x;
-    let y = task.y;
     let equal = x_rank == y_rank;
-    if word::comes_before(y_rank, y, x_rank, x) {
-        return go_on(Task { x: y, y: x, ..task }, Stage::Link(y_rank, equal));
+    if word::comes_before(y_rank, task.y, x_rank, task.x) {
+        let exchanged = Task {
+            x: task.y,
+            y: task.x,
+            ..task
+        };
+        return go_on(exchanged, Stage::Link(y_rank, equal));
     }
     go_on(task, Stage::Link(x_rank, equal))
 }
@@ -26,8 +30,11 @@ pub fn rank_both(task: Task, x_rank: u8, y_rank: u8) -> Advanced
 pub fn link(task: Task, rank: u8, equal: bool, seen: Node, now: u32) -> Advanced
     ensures { result ≡ link task rank equal seen now }
 {
-    let x = task.x;
-    if word::is_same(seen, Node { rank, parent: x }) {
+    let expected = Node {
+        rank,
+        parent: task.x,
+    };
+    if word::is_same(seen, expected) {
         return linked(task, rank, equal, now);
     }
     retry(task, Stage::Find(Errand::UnionX, Step::ReadNode))
@@ -63,11 +70,9 @@ fn linked(task: Task, rank: u8, equal: bool, now: u32) -> Advanced
     Advanced {
         head: after_link(task, rank, equal),
         event: Event {
-            failed: false,
-            found: false,
             linked: true,
-            answer: Answer::Unfinished,
             point: now,
+            ..QUIET
         },
     }
 }
@@ -80,20 +85,28 @@ fn tried(head: Head, answer: Answer, wrote: bool) -> Advanced
         head,
         event: Event {
             failed: !wrote,
-            found: false,
-            linked: false,
             answer,
-            point: 0,
+            ..QUIET
         },
     }
+}
+
+// Whether a swap that was to raise the rank of y found it as it was when its rank was read, a root of that rank.
+fn has_raised(task: Task, rank: u8, seen: Node) -> bool
+    ensures { result ≡ same seen (record { rank = rank; parent = task.y }) }
+{
+    let expected = Node {
+        rank,
+        parent: task.y,
+    };
+    word::is_same(seen, expected)
 }
 
 // The rank swap after the link was tried once: written or not, the union tidies up.
 pub fn raise(task: Task, rank: u8, seen: Node) -> Advanced
     ensures { result ≡ raise task rank seen }
 {
-    let y = task.y;
-    let wrote = word::is_same(seen, Node { rank, parent: y });
+    let wrote = has_raised(task, rank, seen);
     tried(tidy_up(task), Answer::Unfinished, wrote)
 }
 
@@ -101,8 +114,7 @@ pub fn raise(task: Task, rank: u8, seen: Node) -> Advanced
 pub fn raise_found(task: Task, rank: u8, seen: Node) -> Advanced
     ensures { result ≡ raise_found task rank seen }
 {
-    let y = task.y;
-    let wrote = word::is_same(seen, Node { rank, parent: y });
+    let wrote = has_raised(task, rank, seen);
     let head = Head {
         stage: Stage::Resting,
         task,

@@ -4,15 +4,15 @@
 pub mod finding;
 pub mod joining;
 
-ghost use Rattle.std.specs.Prelude.{◌≡◌};
-ghost use Rattle.process.specs.Process.{begin, is_resting, is_waiting, waiting_for, first_errand};
+ghost use Rattle.std.specs.Prelude.{◌≡◌, ◌<◌};
+ghost use Rattle.process.specs.Process.{begin, is_resting, is_waiting, one_higher, waiting_for, first_errand};
 
 use job::{Answer, Kind, Request};
 use word::Node;
 
 // A find by halving, on a node that it is given: the word that it touches next. The numbers are the rank and the parent t
 // of the word first read, and t's parent u.
-#[derive(Clone, Copy)]
+#[derive(Clone, Copy, Debug, PartialEq, Eq)]
 pub enum Step {
     ReadNode,
     ReadParent(u8, u16),
@@ -22,7 +22,7 @@ pub enum Step {
 
 // What a find is made for: a union or a same-set, and the first or the second of its nodes; or a union that has linked, from
 // the node that it linked (02, A2). The finds for the first node come first, so that one comparison tells them.
-#[derive(Clone, Copy)]
+#[derive(Clone, Copy, Debug, PartialEq, Eq)]
 pub enum Errand {
     UnionX,
     SameX,
@@ -32,7 +32,7 @@ pub enum Errand {
 }
 
 // What a head is doing (document 01: a choice of cases inside its record). The cases fill eight bytes.
-#[derive(Clone, Copy)]
+#[derive(Clone, Copy, Debug, PartialEq, Eq)]
 pub enum Stage {
     Resting,
     Find(Errand, Step),
@@ -48,7 +48,7 @@ pub enum Stage {
 // What a head is doing it for: its current x and y, the request that it serves, or its next one while it rests, and the
 // request that this one waits for, told one higher (02, A3). Its eight bytes and the stage's keep the heads in registers
 // during a play.
-#[derive(Clone, Copy)]
+#[derive(Clone, Copy, Debug, PartialEq, Eq)]
 pub struct Task {
     pub x: u16,
     pub y: u16,
@@ -57,14 +57,17 @@ pub struct Task {
 }
 
 // A head's record.
-#[derive(Clone, Copy)]
+#[derive(Clone, Copy, Debug, PartialEq, Eq)]
 pub struct Head {
     pub stage: Stage,
     pub task: Task,
 }
 
+// Two registers hold a head.
+const _: () = prove!(size_of::<Head>() == 16);
+
 // The one word that a head touches at a grant: a read, or a swap from an expected word to a new one.
-#[derive(Clone, Copy)]
+#[derive(Clone, Copy, Debug, PartialEq, Eq)]
 pub enum Access {
     Idle,
     Load(u16),
@@ -72,8 +75,10 @@ pub enum Access {
 }
 
 // What a grant did beyond one more grant used: a swap that did not write, a find from y that ended, a link that was
-// written, the answer where the request finished, and the point of a request that took effect (0 for none).
-#[derive(Clone, Copy)]
+// written, the answer where the request finished, and the point of a request that took effect (0 for none). Flags and a
+// number, and no cases: what may not change speaks of them so (specs/Advance; `entered` of rules/specs/Step, and History).
+// As cases an idle grant takes more than twice as long, too (docs/DECISIONS.md, "Heads by value, and speed").
+#[derive(Clone, Copy, Debug, PartialEq, Eq)]
 pub struct Event {
     pub failed: bool,
     pub found: bool,
@@ -82,16 +87,27 @@ pub struct Event {
     pub point: u32,
 }
 
-#[derive(Clone, Copy)]
+// Most grants end no find, write no link and give no answer.
+const QUIET: Event = Event {
+    failed: false,
+    found: false,
+    linked: false,
+    answer: Answer::Unfinished,
+    point: 0,
+};
+
+// The head after a grant, and what the grant did.
+#[derive(Clone, Copy, Debug, PartialEq, Eq)]
 pub struct Advanced {
     pub head: Head,
     pub event: Event,
 }
 
 // The value of a head's `waits` that names no request.
-pub const NO_WAIT: u16 = 0;
+const NO_WAIT: u16 = 0;
 
-// A request starts, and tries again, with the find from x.
+// A request starts, and tries again, with the find from x. A function of its own beside `together` and `apart`: each is a match
+// of two arms on the kind, with another type of result.
 fn first_errand(kind: Kind) -> Errand
     ensures { result ≡ first_errand kind }
 {
@@ -105,9 +121,8 @@ fn first_errand(kind: Kind) -> Errand
 pub fn begin(request: Request, number: u16) -> Head
     ensures { result ≡ begin request number }
 {
-    let kind = request.kind;
     Head {
-        stage: Stage::Find(first_errand(kind), Step::ReadNode),
+        stage: Stage::Find(first_errand(request.kind), Step::ReadNode),
         task: Task {
             x: request.x,
             y: request.y,
@@ -121,35 +136,37 @@ pub fn begin(request: Request, number: u16) -> Head
 pub fn is_resting(head: Head) -> bool
     ensures { result ≡ is_resting head }
 {
-    let stage = head.stage;
-    match stage {
-        Stage::Resting => true,
-        Stage::Find(_, _) => false,
-        Stage::RereadX(_) => false,
-        Stage::ReadRankX => false,
-        Stage::ReadRankY(_) => false,
-        Stage::Link(_, _) => false,
-        Stage::Raise(_) => false,
-        Stage::ReadRankLinked => false,
-        Stage::RaiseFound(_) => false,
-    }
+    matches!(head.stage, Stage::Resting)
 }
 
 // Whether a head waits for a request.
 pub fn is_waiting(head: Head) -> bool
     ensures { result ≡ is_waiting head }
 {
-    let task = head.task;
-    task.waits != NO_WAIT
+    head.task.waits != NO_WAIT
 }
 
-// The head with what it waits for changed.
-pub fn waiting_for(head: Head, waits: u16) -> Head
-    ensures { result ≡ waiting_for head waits }
+// The number of a request, or none, as a task holds it in its two bytes: an Option there would make a head more than 16.
+pub fn one_higher(waits: Option<u16>) -> u16
+    requires fits { one_higher waits < 65536 }
+    ensures { result ≡ one_higher waits }
 {
-    let task = head.task;
+    match waits {
+        None => NO_WAIT,
+        Some(number) => number + 1,
+    }
+}
+
+// The head with what it waits for changed: any number that its two bytes hold one higher.
+pub fn waiting_for(head: Head, waits: Option<u16>) -> Head
+    requires fits { one_higher waits < 65536 }
+    ensures { result ≡ waiting_for head (one_higher waits) }
+{
     Head {
-        task: Task { waits, ..task },
+        task: Task {
+            waits: one_higher(waits),
+            ..head.task
+        },
         ..head
     }
 }

@@ -129,9 +129,6 @@ Enough n p r k ReadRankLinked m = Unit {0}
 Enough n p r k (RaiseFound rank) m = Unit {0}
 
 module _ (n : ℕ) (p r : ℕ → ℕ) where
-  find_least : (v : ℕ) → 1 ≤ find_need n p r v
-  find_least v = split (eqb (p v) v) (λ e. rw e (omega arith)) (λ e. rw e (omega arith))
-
   find_most : (v : ℕ) → find_need n p r v ≤ 2 * higher n r v + 3
   find_most v = split (eqb (p v) v) (λ e. rw e (omega arith)) (λ e. rw e (omega arith))
 

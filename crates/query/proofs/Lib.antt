@@ -10,5 +10,5 @@ pub mod Steps
 pub mod Enough
 pub mod Faithful
 pub mod Padded
-pub mod Enquiry
+pub mod Enquired
 pub mod Cases

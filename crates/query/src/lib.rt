@@ -1,63 +1,97 @@
 // The counter enquiry of document 01: a same-set alone on a lent table, with a budget of grants.
 #![tactic(auto)]
 
-ghost use Rattle.std.specs.Prelude.{◌≡◌, map, ◌-◌, ◌<◌, ◌≤◌, length, take};
+ghost use Rattle.std.specs.Prelude.{◌≡◌, map, ◌-◌, ◌/◌, ◌<◌, ◌≤◌, length, take};
 ghost use Rattle.std.proofs.lemmas.List.Edits.{sets};
 ghost use Rattle.word.specs.Word.{rank_of, decode, encode, most_rank};
+ghost use Rattle.std.specs.declared.result.Result.TheVariants.{Ok};
 ghost use Rattle.job.specs.Job.{most_nodes};
+ghost use Rattle.job.specs.Refusal.{told};
 ghost use Rattle.process.specs.declared.Access.TheVariants.{Cas};
 ghost use Rattle.rules.specs.Table.{fresh_from, touched};
 ghost use Rattle.table.specs.Admitted.{Admitted};
 ghost use Rattle.query.specs.Query.{refusal, steps, queried};
+ghost use Rattle.query.specs.Told.{queried_told};
 ghost use Rattle.query.specs.Numbers.{looking, moving, Ready, Lower, packed as Numbers·packed, told as Numbers·told, ended};
 ghost use Rattle.query.specs.Faithful.{Faithful};
 
-use job::{Answer, MOST_NODES};
-use table::admission::table_refusal;
+use job::{Answer, MOST_NODES, Refusal};
+use table::admission::check_table;
 use word::{Node, Word};
 
 // The array that an enquiry is made on: as many words as the longest table has.
 type Nodes = [Word; MOST_NODES];
 
-// What an enquiry is told: 0, its answer (3 yes, 4 no, 0 spent) and the grants used; or a refusal's number and zeros.
+// What an enquiry that is not refused answers: yes, no or unfinished, and the grants used.
+#[derive(Clone, Copy, Debug, PartialEq, Eq)]
+pub struct Enquiry {
+    pub answer: Answer,
+    pub used: u32,
+}
+
+// What a host is told: 0, the enquiry's answer (3 yes, 4 no, 0 spent) and the grants used; or a refusal's number and zeros.
 #[repr(C)]
-#[derive(Clone, Copy)]
+#[derive(Clone, Copy, Debug, PartialEq, Eq)]
 pub struct Queried {
     pub number: u32,
     pub answer: u32,
     pub used: u32,
 }
 
-// The number of the refusal, 0 for none.
-#[tactic(auto, unfolding(crate::specs::Query::refusal))]
-fn refusal_of(table: &[Word], x: u32, y: u32) -> u32
-    ensures { result ≡ refusal table.now x y }
-{
-    let nodes = table.len();
-    if nodes <= (x as usize) {
-        return 15;
+impl From<Result<Enquiry, Refusal>> for Queried {
+    ghost from_gives = { λ answer queried. queried ≡ queried_told answer };
+
+    fn from(answer: Result<Enquiry, Refusal>) -> Queried {
+        match answer {
+            Ok(enquiry) => Queried {
+                number: 0,
+                answer: u32::from(enquiry.answer),
+                used: enquiry.used,
+            },
+            Err(refusal) => Queried {
+                number: u32::from(refusal),
+                answer: 0,
+                used: 0,
+            },
+        }
     }
-    if nodes <= (y as usize) {
-        return 15;
-    }
-    table_refusal(table)
 }
 
-// The end of an enquiry as one number: the answer's number and the grants used.
+// Checks the places of an enquiry, and then its table.
+#[tactic(auto, unfolding(crate::specs::Query::refusal))]
+fn check_enquiry(table: &[Word], x: u32, y: u32) -> Result<(), Refusal>
+    ensures { told result ≡ refusal table.now x y }
+{
+    let nodes = table.len();
+    if nodes <= (x as usize) || nodes <= (y as usize) {
+        return Err(Refusal::Enquiry);
+    }
+    check_table(table)
+}
+
+// The end of an enquiry as one number: the answer's number and the grants used. One number comes out of `look` and `move_on`
+// where an `Enquiry` would not do: so their calls of each other compile to jumps, and no enquiry takes more stack than another.
 fn packed(answer: Answer, used: u32) -> u32
     requires { used ≤ 65535 }
     ensures { result ≡ Numbers·packed answer used }
 {
-    job::answer_number(answer) * 65536 + used
+    u32::from(answer) * 65536 + used
 }
 
-// What an enquiry is told of its end.
-fn told(end: u32) -> Queried
-    ensures { result ≡ Numbers·told end }
+// The answer and the grants used, read of that number again.
+fn read_end(end: u32) -> Enquiry
+    requires { end / 65536 < 5 }
+    ensures { queried_told (Ok result) ≡ Numbers·told end }
 {
-    Queried {
-        number: 0,
-        answer: end / 65536,
+    let answer = match end / 65536 {
+        0 => Answer::Unfinished,
+        1 => Answer::Joined,
+        2 => Answer::Together,
+        3 => Answer::Yes,
+        _ => Answer::No,
+    };
+    Enquiry {
+        answer,
         used: end % 65536,
     }
 }
@@ -70,7 +104,7 @@ fn halve(table: &mut Nodes, node: u32, word: Word, above: u32)
         (Cas node (decode word) (record { rank = rank_of word; parent = above }))) }
 {
     if table[node as usize] == word {
-        table[node as usize] = word::encoded(Node {
+        table[node as usize] = Word::from(Node {
             rank: word::rank(word) as u8,
             parent: above as u16,
         });
@@ -78,7 +112,8 @@ fn halve(table: &mut Nodes, node: u32, word: Word, above: u32)
 }
 
 // Looks at a node: one grant, after which the enquiry moves on from it, or its find ends there. The find from x hands on
-// to the find from y; that one compares, and where the two differ, the next grant reads x's word again.
+// to the find from y; that one compares, and where the two differ, the next grant reads x's word again. (`from_y` is
+// document 01's form: the two functions pass plain numbers and a flag.)
 #[cycle(look_move_on)]
 fn look(table: &mut Nodes, node: u32, other: u32, from_y: bool, used: u32, left: u32) -> u32
     requires { Ready table.old node other used left }
@@ -145,22 +180,17 @@ fn copy_in(nodes: &mut Nodes, table: &[Word])
     requires { length table.now ≤ most_nodes }
     ensures { nodes.new ≡ sets nodes.old 0 table.now }
 {
-    let mut i = 0;
-    while i < table.len() {
-        nodes[i] = table[i];
-        i += 1;
-    }
+    nodes[..table.len()].copy_from_slice(table);
 }
 
 // Makes each node of the array, from one on, a root.
+#[tactic(auto, using(crate::proofs::Copies::padding_on, crate::proofs::Copies::padding_done))]
 fn pad(nodes: &mut Nodes, from: usize)
     requires { from ≤ most_nodes }
     ensures { nodes.new ≡ sets nodes.old from (map encode (fresh_from from (most_nodes - from))) }
 {
-    let mut i = from;
-    while i < MOST_NODES {
+    for i in from..MOST_NODES {
         nodes[i] = i as Word;
-        i += 1;
     }
 }
 
@@ -169,11 +199,7 @@ fn copy_out(table: &mut [Word], nodes: &Nodes)
     requires { (length table.old ≤ most_nodes) × (length nodes.now ≡ most_nodes) }
     ensures { table.new ≡ take (length table.old) nodes.now }
 {
-    let mut i = 0;
-    while i < table.len() {
-        table[i] = nodes[i];
-        i += 1;
-    }
+    table.copy_from_slice(&nodes[..table.len()]);
 }
 
 // Makes the enquiry on an array of its own, and gives the words back.
@@ -184,25 +210,18 @@ fn enquire(table: &mut [Word], x: u32, y: u32, budget: u16) -> u32
     let mut nodes = [0; MOST_NODES];
     copy_in(&mut nodes, table);
     pad(&mut nodes, table.len());
-    let end = look(&mut nodes, x, y, false, 0, budget as u32);
+    let end = look(&mut nodes, x, y, false, 0, u32::from(budget));
     copy_out(table, &nodes);
     end
 }
 
 // Makes an enquiry: are x and y in one set, within a budget of grants? Refused, it writes nothing. Whatever the budget,
 // the sets stay, and yes and no are right.
-pub fn query(table: &mut [Word], x: u32, y: u32, budget: u16) -> Queried
-    ensures exact { record { queried = result; table = table.new } ≡ queried table.old x y budget }
-    ensures faithful { result.number ≡ 0
-        → Faithful table.old x y budget (record { queried = result; table = table.new }) }
+pub fn query(table: &mut [Word], x: u32, y: u32, budget: u16) -> Result<Enquiry, Refusal>
+    ensures exact { record { queried = queried_told result; table = table.new } ≡ queried table.old x y budget }
+    ensures faithful { (queried_told result).number ≡ 0
+        → Faithful table.old x y budget (record { queried = queried_told result; table = table.new }) }
 {
-    let number = refusal_of(table, x, y);
-    if number != 0 {
-        return Queried {
-            number,
-            answer: 0,
-            used: 0,
-        };
-    }
-    told(enquire(table, x, y, budget))
+    check_enquiry(table, x, y)?;
+    Ok(read_end(enquire(table, x, y, budget)))
 }

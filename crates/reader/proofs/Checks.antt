@@ -6,7 +6,7 @@
 --   WaitsRead s g q w      the requests are accepted too, and w is what reading the pairs gave
 --   RunsRead s g q w r     the pairs are accepted too, and r is what reading the runs gave
 --   CloseRead s g q w r n  the runs are accepted too, and n is the refusal of the close and the balance
---   rights_told_lem, requests_told, waits_told, runs_told, close_told   that they are, by what the functions promise
+--   rights_told, requests_told, waits_told, runs_told, close_told   that they are, by what the functions promise
 --   length_answers .. close_answers   the answer where that check refuses
 --   counts_answer          the answer where none does
 --   righted, waits_room, runs_room, close_room   where the next section starts is within the file
@@ -31,10 +31,9 @@ use Rattle.jobfile.proofs.Layouts.{right_layout, request_layout, wait_layout, ru
 use Rattle.jobfile.proofs.Backward.{right_section, request_section, wait_section, run_section}
 use Rattle.jobfile.proofs.RoundTrip.{meaning_number, meaning_accepted, meaning_refused}
 use Rattle.jobfile.proofs.Places.{runs_meant}
-use Rattle.reader.specs.declared.sections.Records.{Records}
-use Rattle.reader.specs.declared.sections.RunSection.{RunSection}
 use Rattle.records.specs.Records.{Righted}
-use Rattle.reader.specs.Reader.{counts_of, records_of, right_section_of, request_section_of, wait_section_of, run_section_of}
+use Rattle.reader.specs.Reader.{Records, RunSection, answer_of, records_of, right_section_of, request_section_of, wait_section_of}
+use Rattle.reader.specs.Reader.{run_section_of}
 
 -- What is checked behind the runs,
 abbrev behind_runs : List ℕ → ℕ
@@ -53,12 +52,12 @@ abbrev behind_rights : List ℕ → ℕ
 behind_rights s = requests_refusal (nodes_in s) (heads_in s) (rights_in s) 0 (request_records s) then behind_requests s
 
 -- A refusal of the file is the answer.
-refusal_answers : (s : List ℕ) (n : ℕ) → file_refusal s ≡ n → (n ≡ 0 → ⊥) → counts_of (refused n) ≡ counts_of (meaning s)
+refusal_answers : (s : List ℕ) (n : ℕ) → file_refusal s ≡ n → (n ≡ 0 → ⊥) → answer_of (refused n) ≡ answer_of (meaning s)
 refusal_answers s n e z = rw (meaning_refused s (λ a. z (sym e ∙ a)), e)
 
 module _ (s : List ℕ) (n behind : ℕ) (left : file_refusal s ≡ (n then behind)) where
   -- the first of the checks that are left answers where it refuses,
-  check_answers : (n ≡ 0 → ⊥) → counts_of (refused n) ≡ counts_of (meaning s)
+  check_answers : (n ≡ 0 → ⊥) → answer_of (refused n) ≡ answer_of (meaning s)
   check_answers z = refusal_answers s n (rw (ne_eqb n 0 z) at left) z
 
   -- and leaves those behind it where it does not
@@ -71,7 +70,7 @@ section_room : {A S : Type 0} (k : Layout A S) (none : S) (s : List ℕ) (start 
     → start + k.size * length ts ≤ length s
 section_room k none s start stands within passes = omega (arith, section_fits k none stands passes, length-drop start s)
 
-pub length_answers : (s : List ℕ) → most_bytes < length s → counts_of (refused 1) ≡ counts_of (meaning s)
+pub length_answers : (s : List ℕ) → most_bytes < length s → answer_of (refused 1) ≡ answer_of (meaning s)
 unfolding file_refusal length_refusal
 length_answers s l = refusal_answers s 1 (rw (lt-ltb most_bytes (length s) l)) (λ e. omega arith)
 
@@ -80,7 +79,7 @@ unfolding length_refusal
 length_passes s l = rw (le-ltb most_bytes (length s) l)
 
 pub header_answers : (s : List ℕ) (n : ℕ) → length s ≤ most_bytes → n ≡ header_refusal s → (n ≡ 0 → ⊥)
-    → counts_of (refused n) ≡ counts_of (meaning s)
+    → answer_of (refused n) ≡ answer_of (meaning s)
 unfolding file_refusal
 header_answers s n l e z = refusal_answers s n (simp (length_passes s l, ← e, ne_eqb n 0 z)) z
 
@@ -100,9 +99,9 @@ pub record RightsRead (s : List ℕ) (g : Records) : Type 0 where
   pub header : header_refusal s ≡ 0
   pub read : g ≡ right_section_of (heads_in s) (right_records s) (drop (requests_start s) s)
 
-pub rights_told_lem : {s : List ℕ} {heads : ℕ} {g : Records} → (length s ≤ most_bytes) × (header_refusal s ≡ 0) → heads ≡ heads_in s
+pub rights_told : {s : List ℕ} {heads : ℕ} {g : Records} → (length s ≤ most_bytes) × (header_refusal s ≡ 0) → heads ≡ heads_in s
     → g ≡ right_section_of heads (right_records s) (drop (requests_start s) s) → RightsRead s g
-rights_told_lem p h r = record { short = p.0; header = p.1; read = rw h at r }
+rights_told p h r = record { short = p.0; header = p.1; read = rw h at r }
 
 module _ {s : List ℕ} {g : Records} (h : RightsRead s g) where
   right_count : g.number ≡ 0 → g.count ≡ length (right_records s)
@@ -112,7 +111,7 @@ module _ {s : List ℕ} {g : Records} (h : RightsRead s g) where
   unfolding file_refusal
   rights_left = simp (length_passes s h.short, h.header, records_number _ _ h.read, then_behind)
 
-  pub rights_answer : (g.number ≡ 0 → ⊥) → counts_of (refused g.number) ≡ counts_of (meaning s)
+  pub rights_answer : (g.number ≡ 0 → ⊥) → answer_of (refused g.number) ≡ answer_of (meaning s)
   rights_answer = check_answers s g.number (behind_rights s) rights_left
 
   -- the rights are counted, and the requests start within the file
@@ -143,7 +142,7 @@ module _ {s : List ℕ} {g q : Records} (h : RequestsRead s g q) where
   requests_left =
       rw (records_number _ _ h.read) (check_passes s g.number (behind_rights s) (rights_left h.before) h.rights)
 
-  pub requests_answer : (q.number ≡ 0 → ⊥) → counts_of (refused q.number) ≡ counts_of (meaning s)
+  pub requests_answer : (q.number ≡ 0 → ⊥) → answer_of (refused q.number) ≡ answer_of (meaning s)
   requests_answer = check_answers s q.number (behind_requests s) requests_left
 
   -- where the pairs start, by the counts
@@ -177,7 +176,7 @@ module _ {s : List ℕ} {g q w : Records} (h : WaitsRead s g q w) where
   waits_left =
       rw (records_number _ _ h.read) (check_passes s q.number (behind_requests s) (requests_left h.before) h.requests)
 
-  pub waits_answer : (w.number ≡ 0 → ⊥) → counts_of (refused w.number) ≡ counts_of (meaning s)
+  pub waits_answer : (w.number ≡ 0 → ⊥) → answer_of (refused w.number) ≡ answer_of (meaning s)
   waits_answer = check_answers s w.number (behind_waits s) waits_left
 
   -- where the runs start, by the counts
@@ -219,7 +218,7 @@ module _ {s : List ℕ} {g q w : Records} {r : RunSection} (h : RunsRead s g q w
   runs_left : file_refusal s ≡ (r.number then behind_runs s)
   runs_left = rw run_number (check_passes s w.number (behind_waits s) (waits_left h.before) h.waits)
 
-  pub runs_answer : (r.number ≡ 0 → ⊥) → counts_of (refused r.number) ≡ counts_of (meaning s)
+  pub runs_answer : (r.number ≡ 0 → ⊥) → answer_of (refused r.number) ≡ answer_of (meaning s)
   runs_answer = check_answers s r.number (behind_runs s) runs_left
 
   -- where the close starts, by the counts
@@ -247,21 +246,23 @@ module _ {s : List ℕ} {g q w : Records} {r : RunSection} {n : ℕ} (h : CloseR
   file_number : file_refusal s ≡ n
   file_number = check_passes s r.number (behind_runs s) (runs_left h.before) h.runs ∙ sym h.read
 
-  pub close_answers : (n ≡ 0 → ⊥) → counts_of (refused n) ≡ counts_of (meaning s)
+  pub close_answers : (n ≡ 0 → ⊥) → answer_of (refused n) ≡ answer_of (meaning s)
   close_answers z = refusal_answers s n file_number z
 
   pub counts_answer : Bytes s → n ≡ 0
       → record {
         number = 0;
-        nodes = nodes_in s;
-        heads = heads_in s;
-        rights = g.count;
-        requests = q.count;
-        waits = w.count;
-        grants = r.grants;
-        runs = r.count;
+        counts = record {
+          nodes = nodes_in s;
+          heads = heads_in s;
+          rights = g.count;
+          requests = q.count;
+          waits = w.count;
+          grants = r.grants;
+          runs = r.count;
+        };
       }
-      ≡ counts_of (meaning s)
+      ≡ answer_of (meaning s)
   unfolding job_in
   counts_answer b z =
       let accepts = meaning_accepted s (file_number ∙ z) in
@@ -273,12 +274,14 @@ module _ {s : List ℕ} {g q w : Records} {r : RunSection} {n : ℕ} (h : CloseR
       let requests = request_count asked paired.requests in
       λ i. record {
         number = sym none i;
-        nodes = ap (λ m. m.job.nodes) (sym accepts) i;
-        heads = ap (λ m. m.job.heads) (sym accepts) i;
-        rights = (rights ∙ sym (length-map (right_records s) right_at) ∙ ap (λ m. length m.job.rights) (sym accepts)) i;
-        requests = (requests ∙ sym (length-map (request_records s) request_at) ∙ ap (λ m. length m.job.requests) (sym accepts)) i;
-        waits = (wait_count paired ran.waits ∙ sym (length-map (wait_records s) wait_at)
-            ∙ ap (λ m. length m.job.waits) (sym accepts)) i;
-        grants = (run_grants ran h.runs ∙ ap (λ m. length m.job.schedule) (sym accepts)) i;
-        runs = (run_count ran h.runs ∙ sym (length-map (run_records s) run_at) ∙ ap length (sym (runs_meant s b none))) i;
+        counts = record {
+          nodes = ap (λ m. m.job.nodes) (sym accepts) i;
+          heads = ap (λ m. m.job.heads) (sym accepts) i;
+          rights = (rights ∙ sym (length-map (right_records s) right_at) ∙ ap (λ m. length m.job.rights) (sym accepts)) i;
+          requests = (requests ∙ sym (length-map (request_records s) request_at) ∙ ap (λ m. length m.job.requests) (sym accepts)) i;
+          waits = (wait_count paired ran.waits ∙ sym (length-map (wait_records s) wait_at)
+              ∙ ap (λ m. length m.job.waits) (sym accepts)) i;
+          grants = (run_grants ran h.runs ∙ ap (λ m. length m.job.schedule) (sym accepts)) i;
+          runs = (run_count ran h.runs ∙ sym (length-map (run_records s) run_at) ∙ ap length (sym (runs_meant s b none))) i;
+        };
       }

@@ -5,19 +5,19 @@
 --   runs_between start at                   how many runs there are from the first to a place
 --   RunsTo s h start at before grants       so many of them are read, and these are their grants
 --   X-start, X-next, X-refused, X-end       the invariant holds at first, after a record, and what it gives at each way out
---   records_told, rights_missing, rights_told_lem   and what it gives where the section ends
---   record_whole, record_marked             a whole record is within the file, and has its mark
+--   records_told, rights_missing, rights_whole   and what it gives where the section ends
+--   record_marked                           a whole record has its mark
 --   record_short, wait_short, run_short     what has the mark but is no whole record is cut short, and so refused
-use mathlib.Core.Path.{◌≡◌, refl, sym, ap, ◌∙◌}
+use mathlib.Core.Path.{◌≡◌, sym, ap, ◌∙◌}
 use mathlib.Core.Bool.{true, false, true≢false}
 use mathlib.Core.List.{List, [], ◌∷◌, map}
 use Prim.Native.Nat.{ℕ, ◌+◌, ◌*◌, ◌-◌, ◌/◌, ◌≤◌, ◌<◌}
 use native.Mathlib.Omega.{arith}
-use native.Mathlib.Nat.{add-zero, mul-zero, mul-suc}
+use native.Mathlib.Nat.{mul-suc}
 use native.Mathlib.Numerals.{add-one}
 use lib.Dec.{ltb}
 use lib.ListN.{length, get_or, drop, length-drop, length-append, length-replicate}
-use borrow.Author.Tests.{eq-eqb, ne_eqb, eqb-true, ltb-false}
+use borrow.Author.Tests.{eq-eqb, ne_eqb, eqb-true}
 use Rattle.basics.proofs.Conditions.{split}
 use Rattle.job.specs.declared.Wait.{Wait}
 use Rattle.jobfile.specs.declared.Run.{Run}
@@ -27,9 +27,8 @@ use Rattle.jobfile.specs.Meaning.{records, right_record_refusal, rights_refusal,
 use Rattle.jobfile.specs.Meaning.{requests_start, wait_at, wait_refusal, run_at, run_refusal, full_run, granted}
 use Rattle.jobfile.proofs.Records.{records_here, records_end, Layout, places, refusal}
 use Rattle.jobfile.proofs.Layouts.{right_layout, wait_layout, run_layout}
-use Rattle.reader.specs.declared.sections.Records.{Records}
 use Rattle.records.specs.Records.{is_record}
-use Rattle.reader.specs.Reader.{records_of, right_section_of, run_section_of}
+use Rattle.reader.specs.Reader.{Records, records_of, right_section_of, run_section_of}
 
 module _ {A S : Type 0} (k : Layout A S) (s : List ℕ) (start : ℕ) (none : S) where
   pub record ReadTo (at : ℕ) (before : S) (count : ℕ) : Type 0 where
@@ -37,9 +36,6 @@ module _ {A S : Type 0} (k : Layout A S) (s : List ℕ) (start : ℕ) (none : S)
     pub place : at ≡ start + k.size * count
     pub number : refusal k before (places k (drop at s)) ≡ refusal k none (places k (drop start s))
     pub counted : count + length (places k (drop at s)) ≡ length (places k (drop start s))
-
-  pub read_start : start ≤ length s → ReadTo start none 0
-  read_start l = record { within = l; place = rw (mul-zero, add-zero); number = refl; counted = omega arith }
 
 module _ {A S : Type 0} {k : Layout A S} {s : List ℕ} {start : ℕ} {none : S} {at : ℕ} {before : S} {count : ℕ}
     (h : ReadTo k s start none at before count) where
@@ -109,18 +105,12 @@ module _ (heads : ℕ) {s : List ℕ} {at count : ℕ} (h : ReadTo (right_layout
     unfolding records_of
     rights_missing z = rw (rights_left, ne_eqb n 0 z)
 
-    pub rights_told_lem : n ≡ 0 → record { number = 0; count = count } ≡ rights_told
+    pub rights_whole : n ≡ 0 → record { number = 0; count = count } ≡ rights_told
     unfolding records_of
-    rights_told_lem z = rw (rights_left, z, read_count h m)
+    rights_whole z = rw (rights_left, z, read_count h m)
 
 module _ (size m : ℕ) where
-  -- a whole record is within the file
-  pub record_whole : (s : List ℕ) (at : ℕ) → is_record size m (drop at s) ≡ true → at ≤ length s → at + size ≤ length s
-  record_whole s at is within =
-      split (ltb (length (drop at s)) size) (λ e. absurd (true≢false (sym (rw e at is))))
-      (λ e. omega (arith, ltb-false (length (drop at s)) size e, length-drop at s))
-
-  -- and has its mark
+  -- a whole record has its mark,
   pub record_marked : (t : List ℕ) → is_record size m t ≡ true → word t ≡ m
   record_marked t is = split (ltb (length t) size) (λ e. absurd (true≢false (sym (rw e at is)))) (λ e. eqb-true (word t) m (rw e at is))
 
@@ -156,13 +146,6 @@ module _ (s : List ℕ) (heads start : ℕ) where
     pub granting : grants + length (granted (map run_at (records run_size run_mark (drop at s))))
         ≡ length (granted (map run_at (records run_size run_mark (drop start s))))
 
-  none_between : runs_between start start ≡ 0
-  none_between = omega arith
-
-  pub runs_start_lem : start ≤ length s → RunsTo start full_run 0
-  runs_start_lem l =
-      record { to = rw none_between (read_start (run_layout heads) s start full_run l); few = omega arith; granting = omega arith }
-
 module _ {s : List ℕ} {heads start at : ℕ} {before : Run} {grants : ℕ} (h : RunsTo s heads start at before grants) where
   one_more : runs_between start (at + run_size) ≡ runs_between start at + 1
   one_more = omega (arith, h.to.place)
@@ -192,4 +175,4 @@ module _ {s : List ℕ} {heads start at : ℕ} {before : Run} {grants : ℕ} (h 
       rw (read_passes h.to m, read_count h.to m, grant)
 
 -- What the ways out of `sections::read_rights` are shown by.
-pub ruleset rights_ends = (rights_refused, rights_missing, rights_told_lem)
+pub ruleset rights_ends = (rights_refused, rights_missing, rights_whole)

@@ -7,22 +7,23 @@
 --   request_section_of n h rs ts  the refusal or the count of the requests at the places ts, behind the rights rs
 --   wait_section_of q ts          the refusal or the count of the pairs at the places ts, behind q requests
 --   run_section_of h ts           the refusal, or the count and the grants, of the runs at the places ts
-use Rattle.std.specs.Prelude.{◌≡◌, cond, List, map, ℕ, eqb, length}
+use Rattle.std.specs.Prelude.{◌≡◌, cond, List, map, ℕ, eqb, length, Result}
+use Rattle.std.specs.declared.result.Result.TheVariants.{Ok, Err}
 use Rattle.job.specs.declared.Right.{Right}
 use Rattle.jobfile.specs.Format.{◌then◌, no_pair}
-use Rattle.jobfile.specs.Meaning.{Meaning, meaning, rights_refusal, missing_refusal, requests_refusal, waits_refusal}
+use Rattle.jobfile.specs.Meaning.{Meaning, meaning, refused, rights_refusal, missing_refusal, requests_refusal, waits_refusal}
 use Rattle.jobfile.specs.Meaning.{runs_refusal, run_at, full_run, granted}
 use Rattle.jobfile.specs.Admitted.{Bytes}
 use Rattle.jobfile.specs.Written.{longest_runs}
 use Rattle.reader.specs.declared.Checked.{Checked}
-use Rattle.reader.specs.declared.sections.Records.{Records}
-use Rattle.reader.specs.declared.sections.RunSection.{RunSection}
+use Rattle.job.specs.declared.refusal.Refusal.{Refusal}
+use Rattle.job.specs.Refusal.{number_of}
+use Rattle.reader.specs.declared.sections.Runs.{Runs}
 
 -- The counts: places, heads, rights (02, A5), requests, pairs (02, A3), grants, and the runs.
 abbrev pub counts_of : Meaning → Checked
 counts_of m =
     record {
-      number = m.number;
       nodes = m.job.nodes;
       heads = m.job.heads;
       rights = length m.job.rights;
@@ -32,11 +33,44 @@ counts_of m =
       runs = length (longest_runs m.job.schedule);
     }
 
+-- What a file is told: its meaning's number, and the counts, which a refusal has at zero.
+pub record Answer : Type 0 where
+  pub number : ℕ
+  pub counts : Checked
+
+abbrev pub answer_of : Meaning → Answer
+answer_of m = record { number = m.number; counts = counts_of m }
+
+-- What a check tells.
+abbrev pub check_told : Result Checked Refusal → Answer
+check_told (Ok counts) = record { number = 0; counts = counts }
+check_told (Err refusal) = answer_of (refused (number_of refusal))
+
 -- An accepted file is played from its own bytes: where a record stands is told by the counts.
 pub record Playing (file : List ℕ) (counts : Checked) : Type 0 where
   pub accepted : (meaning file).number ≡ 0
   pub bytes : Bytes file
   pub checked : counts ≡ counts_of (meaning file)
+
+-- What reading a section tells: its refusal's number, 0 for none, and how many records it has,
+pub record Records : Type 0 where
+  pub number : ℕ
+  pub count : ℕ
+
+-- and of the runs the grants that they give.
+pub record RunSection : Type 0 where
+  pub number : ℕ
+  pub count : ℕ
+  pub grants : ℕ
+
+-- A refusal has zero for every count.
+abbrev pub section_told : Result ℕ Refusal → Records
+section_told (Ok count) = record { number = 0; count = count }
+section_told (Err refusal) = record { number = number_of refusal; count = 0 }
+
+abbrev pub run_section_told : Result Runs Refusal → RunSection
+run_section_told (Ok runs) = record { number = 0; count = runs.count; grants = runs.grants }
+run_section_told (Err refusal) = record { number = number_of refusal; count = 0; grants = 0 }
 
 -- The records of a section: its refusal, or how many there are.
 unfoldable pub records_of : ℕ → List (List ℕ) → Records

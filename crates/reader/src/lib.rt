@@ -4,29 +4,29 @@
 
 mod sections;
 
-ghost use Rattle.std.specs.Prelude.{◌≡◌, ◌<◌, ◌≤◌, length, get_or};
+ghost use Rattle.job.specs.Refusal.{told};
+ghost use Rattle.std.specs.Prelude.{IfOk, ◌≡◌, ◌<◌, ◌≤◌, length, get_or};
 ghost use Rattle.job.specs.declared.Request.{Request};
 ghost use Rattle.job.specs.declared.Wait.{Wait};
 ghost use Rattle.job.specs.Job.{right_of};
 ghost use Rattle.jobfile.specs.declared.Run.{Run};
 ghost use Rattle.jobfile.specs.Format.{most_bytes};
-ghost use Rattle.jobfile.specs.Meaning.{header_refusal, refused, meaning};
+ghost use Rattle.jobfile.specs.Meaning.{header_refusal, meaning};
 ghost use Rattle.jobfile.specs.Written.{longest_runs};
-ghost use Rattle.reader.specs.Reader.{counts_of, Playing};
+ghost use Rattle.reader.specs.Reader.{answer_of, check_told, Playing};
 
 use crate::sections::{
-    close_refusal, header_refusal, read_requests, read_rights, read_runs, read_waits,
+    check_close, check_header, read_requests, read_rights, read_runs, read_waits,
 };
 use fields::bytes::word_at;
 use fields::{request_place, run_place, wait_place};
-use job::{Request, Right, Wait};
+use job::{Refusal, Request, Right, Wait};
 use jobfile::{MOST_BYTES, Run};
 use records::{request_here, right_of, run_here, wait_here};
 
-// What a check answers: 0 and the counts of the file's job, or a refusal's number and zero for every count.
-#[derive(Clone, Copy)]
+// The counts of an accepted file's job, and the number of its runs.
+#[derive(Clone, Copy, Debug, PartialEq, Eq)]
 pub struct Checked {
-    pub number: u32,
     pub nodes: u32,
     pub heads: u32,
     pub rights: u32,
@@ -36,118 +36,97 @@ pub struct Checked {
     pub runs: u32,
 }
 
-// The answer of a refusal.
-pub fn refuse(number: u32) -> Checked
-    ensures { result ≡ counts_of (refused number) }
-{
-    Checked {
-        number: number,
-        nodes: 0,
-        heads: 0,
-        rights: 0,
-        requests: 0,
-        waits: 0,
-        grants: 0,
-        runs: 0,
-    }
-}
-
 // Checks a file whose length and header are accepted, record by record to its end.
-fn check_records(file: &[u8]) -> Checked
+fn check_records(file: &[u8]) -> Result<Checked, Refusal>
     requires file_len_bound { length file.now ≤ most_bytes }
     requires header_admitted { header_refusal file.now ≡ 0 }
-    ensures { result ≡ counts_of (meaning file.now) }
+    ensures { check_told result ≡ answer_of (meaning file.now) }
 {
-    let nodes = word_at(file, 2) as u32;
-    let heads = word_at(file, 4) as u32;
-    let rights = read_rights(file, heads);
-    if rights.number != 0 {
-        return refuse(rights.number);
-    }
-    let requests = read_requests(file, nodes, heads, rights.count);
-    if requests.number != 0 {
-        return refuse(requests.number);
-    }
-    let waits_start = request_place(rights.count, requests.count);
-    let waits = read_waits(file, requests.count, waits_start);
-    if waits.number != 0 {
-        return refuse(waits.number);
-    }
-    let runs_start = wait_place(rights.count, requests.count, waits.count);
-    let runs = read_runs(file, heads, runs_start);
-    if runs.number != 0 {
-        return refuse(runs.number);
-    }
-    let close_start = run_place(rights.count, requests.count, waits.count, runs.count);
-    let number = close_refusal(file, close_start);
-    if number != 0 {
-        return refuse(number);
-    }
-    Checked {
-        number: 0,
-        nodes: nodes,
-        heads: heads,
-        rights: rights.count,
-        requests: requests.count,
-        waits: waits.count,
+    let nodes = u32::from(word_at(file, 2));
+    let heads = u32::from(word_at(file, 4));
+    let rights = read_rights(file, heads)?;
+    let requests = read_requests(file, nodes, heads, rights)?;
+    let waits = read_waits(file, requests, request_place(rights, requests))?;
+    let runs = read_runs(file, heads, wait_place(rights, requests, waits))?;
+    check_close(file, run_place(rights, requests, waits, runs.count))?;
+    Ok(Checked {
+        nodes,
+        heads,
+        rights,
+        requests,
+        waits,
         grants: runs.grants,
         runs: runs.count,
-    }
+    })
 }
 
 // Checks a file: any bytes.
 #[tactic(auto, using(crate::proofs::Checks::length_answers, crate::proofs::Checks::header_answers))]
-pub fn check(file: &[u8]) -> Checked
-    ensures { result ≡ counts_of (meaning file.now) }
+fn check_file(file: &[u8]) -> Result<Checked, Refusal>
+    ensures { check_told result ≡ answer_of (meaning file.now) }
 {
     if MOST_BYTES < file.len() {
-        return refuse(1);
+        return Err(Refusal::FileTooLong);
     }
-    let number = header_refusal(file);
-    if number != 0 {
-        return refuse(number);
-    }
+    check_header(file)?;
     check_records(file)
 }
 
-// The right of a head of a file that is played: every right where it has no such records.
-#[tactic(auto, using(crate::proofs::Playing::playing_righted, crate::proofs::Playing::rights_read))]
-pub fn right_at(file: &[u8], counts: Checked, head: u32) -> Right
-    requires { Playing file.now counts }
-    ensures { result ≡ right_of (meaning file.now).job.rights head }
-{
-    right_of(file, counts.rights, head)
+// A file that is accepted, with the counts of its job: its records are read where they stand, which the counts tell.
+#[derive(Clone, Copy)]
+pub struct Accepted<'a> {
+    pub file: &'a [u8],
+    pub counts: Checked,
+    ghost playing: { Playing file.now counts },
 }
 
-// Request q of a file that is played. Where a record stands is told by the counts.
-#[tactic(auto, using(crate::proofs::Playing::request_read))]
-pub fn request_at(file: &[u8], counts: Checked, q: u32) -> Request
-    requires playing { Playing file.now counts }
-    requires q_lt_requests { q < counts.requests }
-    ensures { (none : Request) → result ≡ get_or (meaning file.now).job.requests q none }
-{
-    request_here(file, request_place(counts.rights, q))
-}
+impl<'a> Accepted<'a> {
+    // Checks a file: any bytes.
+    pub fn check(file: &'a [u8]) -> Result<Accepted<'a>, Refusal>
+        ensures told { told result ≡ (meaning file.now).number }
+        ensures same { IfOk result (λ job. job.file.now ≡ file.now) }
+    {
+        let counts = check_file(file)?;
+        Ok(Accepted { file, counts })
+    }
 
-// Pair number `index` of a file that is played.
-#[tactic(auto, using(crate::proofs::Playing::wait_read))]
-pub fn wait_at(file: &[u8], counts: Checked, index: u32) -> Wait
-    requires playing { Playing file.now counts }
-    requires index_lt_waits { index < counts.waits }
-    ensures { (none : Wait) → result ≡ get_or (meaning file.now).job.waits index none }
-{
-    wait_here(file, wait_place(counts.rights, counts.requests, index))
-}
+    // The right of a head: every right where the job has no such records (02, A5).
+    #[tactic(auto, using(crate::proofs::Playing::playing_righted, crate::proofs::Playing::rights_read))]
+    pub fn right(self, head: u32) -> Right
+        ensures { result ≡ right_of (meaning self.entry.file.now).job.rights head }
+    {
+        right_of(self.file, self.counts.rights, head)
+    }
 
-// Run number `index` of a file that is played.
-#[tactic(auto, using(crate::proofs::Playing::run_read))]
-pub fn run_at(file: &[u8], counts: Checked, index: u32) -> Run
-    requires playing { Playing file.now counts }
-    requires index_lt_runs { index < counts.runs }
-    ensures { (none : Run) → result ≡ get_or (longest_runs (meaning file.now).job.schedule) index none }
-{
-    run_here(
-        file,
-        run_place(counts.rights, counts.requests, counts.waits, index),
-    )
+    // Request q.
+    #[tactic(auto, using(crate::proofs::Playing::request_read))]
+    pub fn request(self, q: u32) -> Request
+        requires { q < self.counts.requests }
+        ensures { (none : Request) → result ≡ get_or (meaning self.entry.file.now).job.requests q none }
+    {
+        request_here(self.file, request_place(self.counts.rights, q))
+    }
+
+    // Pair number `index` (02, A3).
+    #[tactic(auto, using(crate::proofs::Playing::wait_read))]
+    pub fn wait(self, index: u32) -> Wait
+        requires { index < self.counts.waits }
+        ensures { (none : Wait) → result ≡ get_or (meaning self.entry.file.now).job.waits index none }
+    {
+        let counts = self.counts;
+        wait_here(self.file, wait_place(counts.rights, counts.requests, index))
+    }
+
+    // Run number `index`.
+    #[tactic(auto, using(crate::proofs::Playing::run_read))]
+    pub fn run(self, index: u32) -> Run
+        requires { index < self.counts.runs }
+        ensures { (none : Run) → result ≡ get_or (longest_runs (meaning self.entry.file.now).job.schedule) index none }
+    {
+        let counts = self.counts;
+        run_here(
+            self.file,
+            run_place(counts.rights, counts.requests, counts.waits, index),
+        )
+    }
 }

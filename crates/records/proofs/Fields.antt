@@ -2,28 +2,23 @@
 --
 --   right_read, fields_read, wait_read, run_read   a record of numbers is the one at that place, if each was read from its bytes
 --   no_rights              a file whose rights are counted to none has none
---   right_stood, right_none   the right of a head in a file whose rights are counted: its record, or every right
+--   right_stood            the right of a head whose record is in a file whose rights are counted
 --   narrow, request_read   numbers read from bytes fit a request's fields, and give the request at that place
---   asked_numbers, asked_kind   the refusal of a request that is whole and counted, by its numbers, and where only its kind is left
---   run_numbers            the refusal of a run that is whole, by its numbers
+--   asked_numbers          the refusal of a request that is whole and counted, by its numbers
 use mathlib.Core.Path.{◌≡◌, ◌∙◌, sym, ap}
-use mathlib.Core.Bool.{cond}
 use mathlib.Core.List.{List}
 use Prim.Native.Nat.{ℕ, ◌+◌, ◌*◌, ◌≤◌, ◌<◌}
 use native.Mathlib.Omega.{arith}
-use lib.Dec.{eqb, leb}
-use lib.ListN.{length, get_or, drop, length-map, get_or-eq_default}
+use lib.ListN.{length, get_or, drop, length-map}
 use lib.Seq.{get_or-drop, drop-drop}
 use borrow.Author.Tests.{le-ltb, lt-leb}
 use Rattle.job.specs.declared.Kind.{Kind}
 use Rattle.job.specs.declared.Right.{Right}
 use Rattle.job.specs.Job.{most_requests, kind_of, every_right, right_of}
 use Rattle.jobfile.specs.declared.Fields.{Fields}
-use Rattle.jobfile.specs.declared.Run.{Run}
-use Rattle.jobfile.specs.Format.{job_size, right_size, request_size, run_size, right_place, word, fields_refusal, kind_refusal}
+use Rattle.jobfile.specs.Format.{job_size, right_size, request_size, right_place, word}
 use Rattle.jobfile.specs.Format.{asked_refusal}
-use Rattle.jobfile.specs.Format.{extends}
-use Rattle.jobfile.specs.Meaning.{right_at, right_records, rights_in, fields_at, request_at, request_refusal, wait_at, run_at, run_refusal}
+use Rattle.jobfile.specs.Meaning.{right_at, right_records, rights_in, fields_at, request_at, request_refusal, wait_at, run_at}
 use Rattle.jobfile.specs.Admitted.{Bytes}
 use Rattle.jobfile.proofs.Records.{bytes_drop, section_at}
 use Rattle.jobfile.proofs.Backward.{right_section}
@@ -85,11 +80,6 @@ module _ {s : List ℕ} {rights : ℕ} (righted : Righted s rights) (head : ℕ)
       e ∙ ap right_at (sym (drop-drop (right_size * head) job_size s))
       ∙ sym (section_at (right_section s) right_at head (every_right head) (omega (arith, righted.counted)))
 
-  pub right_none : rights ≤ head → every_right head ≡ right_of (rights_in s) head
-  right_none l =
-      sym (get_or-eq_default (rights_in s) (every_right head)
-      (omega (arith, righted.counted, length-map (right_records s) right_at)))
-
 -- A file with none has none.
 pub no_rights : {s : List ℕ} {rights : ℕ} → Righted s rights → rights ≡ 0 → length (rights_in s) ≡ 0
 no_rights {s} righted none = length-map (right_records s) right_at ∙ sym righted.counted ∙ none
@@ -100,14 +90,3 @@ pub asked_numbers : (nodes heads : ℕ) (rights : List Right) (number : ℕ) (q 
 unfolding request_refusal
 asked_numbers nodes heads rights number q t e l few =
     rw (le-ltb (length t) request_size l, lt-leb most_requests number few, e)
-
--- and where these fit: whether its head may ask it.
-pub asked_kind : (nodes heads : ℕ) (rights : List Right) (q : Fields) (r : Right) (n : ℕ) → fields_refusal nodes heads q ≡ 0
-    → r ≡ right_of rights q.head → n ≡ kind_refusal r.rights q.kind → n ≡ asked_refusal nodes heads rights q
-asked_kind nodes heads rights q r n fits held kind = rw (fits, ← held) kind
-
--- The refusal of a run that is whole, by its numbers.
-pub run_numbers : (heads : ℕ) (before r : Run) (t : List ℕ) → r ≡ run_at t → run_size ≤ length t
-    → run_refusal heads before t ≡ cond (leb heads r.head) 10 (cond (eqb r.count 0) 10 (cond (extends before r.head) 11 0))
-unfolding run_refusal
-run_numbers heads before r t e l = rw (e, le-ltb (length t) run_size l)

@@ -35,7 +35,7 @@ use Rattle.rules.proofs.History.{row_other}
 use Rattle.rules.proofs.Stages.{Moment, Inside, Knows, Onward, finding_begin, restart_knows, restart_unlinked, knows_later}
 use Rattle.rules.proofs.Outcomes.{Outcome, Present}
 use Rattle.rules.proofs.FindSteps.{find_step, reread_x}
-use Rattle.rules.proofs.UnionSteps.{read_rank_x, read_rank_y, link_x, raise_y, read_rank_linked, raise_found_lem}
+use Rattle.rules.proofs.UnionSteps.{read_rank_x, read_rank_y, link_x, raise_y, read_rank_linked, raise_found_y}
 use Rattle.rules.proofs.Invariant.{labels, moment_of, head_until, Current, Waiting, Phase, Invariant}
 use Rattle.rules.proofs.Invariant.Phase.{over, current, waiting}
 use Rattle.rules.proofs.Others.{timed_other, phase_other, placed_other}
@@ -77,7 +77,7 @@ module _ {n : ℕ} {m : Moment n} {q : Request} (present : Present m q) (k : Tas
   step_outcome (Link r e) busy a = link_x present k r a e
   step_outcome (Raise r) busy a = raise_y present k r a (at m.table k.y)
   step_outcome ReadRankLinked busy a = read_rank_linked present k a
-  step_outcome (RaiseFound r) busy a = raise_found_lem present k r a (at m.table k.y)
+  step_outcome (RaiseFound r) busy a = raise_found_y present k r a (at m.table k.y)
 
 module _ {qs : List Request} {n : ℕ} {B : Labels} {roots₀ : ℕ} {S : State} {past : List Happening}
     (inside : (q : ℕ) → q < length qs → Inside n (request_at qs q)) (inv : Invariant qs n B roots₀ S past) where

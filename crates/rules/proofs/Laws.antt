@@ -56,10 +56,10 @@ unused_row q (a ∷ past) none =
 
 -- ---- heads without a request have no work
 
-heads_left_lem : (qs : List Request) (report : List Row) (heads m : ℕ) → heads ≤ m
+heads_left_same : (qs : List Request) (report : List Row) (heads m : ℕ) → heads ≤ m
     → ((q : ℕ) → q < length qs → (request_at qs q).head < heads)
     → heads_left qs report m ≡ heads_left qs report heads
-heads_left_lem qs report heads m few served =
+heads_left_same qs report heads m few served =
     let all : m ≡ heads + (m - heads) = omega arith in
     ap (heads_left qs report) all
     ∙ count_more (λ h. some (is_unfinished qs report h) (length qs)) heads (m - heads)
@@ -102,7 +102,7 @@ module _ {qs : List Request} {n : ℕ} {B : Labels} {roots₀ : ℕ} {S : State}
         failed = counted.failed;
         links = counted.links;
         truthful = truthful;
-        work = work_left inv ∙ heads_left_lem qs S.report heads (length S.heads) few served;
+        work = work_left inv ∙ heads_left_same qs S.report heads (length S.heads) few served;
         anchored = λ q l. rw (inv.rows q l) (phase_anchored (inv.phases q l));
         finished = finished_before;
         ordered = λ p q l w one begun. ended_before p q l w one begun turn;

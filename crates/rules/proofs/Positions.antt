@@ -110,8 +110,8 @@ module _ {qs : List Request} {n : ℕ} {B : Labels} {roots₀ : ℕ} {S : State}
     no_work : length qs ≤ q → (p : ℕ) → p < length qs → is_unfinished qs S.report h p ≡ false
     no_work beyond p l = unfinished_no p (λ own z. phase_passed (phase_of h p l own) (omega arith) (sym (answer_is p l) ∙ z))
 
-    has_work_lem : h < length S.heads → has_work qs (head_at S h) ≡ some (is_unfinished qs S.report h) (length qs)
-    has_work_lem present =
+    has_work_left : h < length S.heads → has_work qs (head_at S h) ≡ some (is_unfinished qs S.report h) (length qs)
+    has_work_left present =
         split (has_work qs (head_at S h))
         (λ t.
         let within = ltb-true q (length qs) t in
@@ -121,4 +121,4 @@ module _ {qs : List Request} {n : ℕ} {B : Labels} {roots₀ : ℕ} {S : State}
   pub work_left : working qs S.heads ≡ heads_left qs S.report (length S.heads)
   work_left =
       working_count qs S.heads
-      ∙ count_same (λ h. has_work qs (head_at S h)) (λ h. some (is_unfinished qs S.report h) (length qs)) (length S.heads) has_work_lem
+      ∙ count_same (λ h. has_work qs (head_at S h)) (λ h. some (is_unfinished qs S.report h) (length qs)) (length S.heads) has_work_left

@@ -106,8 +106,8 @@ module _ {Spent : Request → List Node → ℕ → Task → Stage → Type 0} {
     a = advanced S head
 
     -- before the grant: the head goes on, or its request begins, which has used none
-    under_way_lem : UnderWay Spent qs S.table past head
-    under_way_lem =
+    under_way_now : UnderWay Spent qs S.table past head
+    under_way_now =
         let now = head_at S h in
         let phase = phase_of inv h now.task.request (rw srv.position srv.within) (rw srv.position srv.own) in
         subst (UnderWay Spent qs S.table past) (sym srv.is)
@@ -120,7 +120,7 @@ module _ {Spent : Request → List Node → ℕ → Task → Stage → Type 0} {
     unfolding access_of advance_of
     stepped =
         law.steps (present_now inside inv q srv.within) head.task head.stage srv.busy srv.knows (row_of q past).used
-        under_way_lem
+        under_way_now
 
     -- ---- finished requests
 

@@ -2,7 +2,7 @@
 --
 --   Gives t' st a   the step a at stage st, which leaves the table t', is one of the outcomes
 --
--- Laws, one a stage: read_rank_x, read_rank_y, link_x, raise_y, read_rank_linked, raise_found_lem.
+-- Laws, one a stage: read_rank_x, read_rank_y, link_x, raise_y, read_rank_linked, raise_found_y.
 use mathlib.Core.Path.{◌≡◌, refl, sym, ap, ◌∙◌}
 use mathlib.Core.Bool.{Bool, true, false}
 use mathlib.Core.List.{List}
@@ -174,8 +174,8 @@ module _ {n : ℕ} {m : Moment n} {q : Request} (present : Present m q) (k : Tas
         (λ at. tidying_knows (linked_later (grant_onward raise_unlinked) present.inside a.linked))
 
     -- or the union is finished
-    pub raise_found_lem : (w : Node) → Gives (touched t (raising k.y r)) (RaiseFound r) (raise_found k r w)
-    raise_found_lem w =
+    pub raise_found_y : (w : Node) → Gives (touched t (raising k.y r)) (RaiseFound r) (raise_found k r w)
+    raise_found_y w =
         tidying (record {
           table = raise_unlinked;
           raised = refl;

@@ -1,13 +1,13 @@
 // The report row of a request, and what one grant does to it; the rules that the whole core is held against are in specs/.
 #![tactic(auto)]
 
-ghost use Rattle.std.specs.Prelude.{◌≡◌, cond, ◌<◌};
+ghost use Rattle.std.specs.Prelude.{◌≡◌, ◌<◌};
 ghost use Rattle.rules.specs.Report.{is_final, charge};
 
 use job::Answer;
 
 // The report's four numbers of a request: answer, first grant, last grant, grants used.
-#[derive(Clone, Copy)]
+#[derive(Clone, Copy, Debug, PartialEq, Eq)]
 pub struct Row {
     pub answer: u32,
     pub first: u32,
@@ -19,20 +19,7 @@ pub struct Row {
 pub fn is_final(answer: Answer) -> bool
     ensures { result ≡ is_final answer }
 {
-    match answer {
-        Answer::Unfinished => false,
-        Answer::Joined => true,
-        Answer::Together => true,
-        Answer::Yes => true,
-        Answer::No => true,
-    }
-}
-
-// One of two numbers.
-fn chosen(test: bool, left: u32, right: u32) -> u32
-    ensures { result ≡ cond test left right }
-{
-    if test { left } else { right }
+    answer != Answer::Unfinished
 }
 
 // The row after one more grant, number now, that gave this answer.
@@ -42,9 +29,9 @@ pub fn charged(row: Row, now: u32, answer: Answer) -> Row
     ensures { result ≡ charge row now answer }
 {
     Row {
-        answer: job::answer_number(answer),
-        first: chosen(row.first == 0, now, row.first),
-        last: chosen(is_final(answer), now, 0),
+        answer: u32::from(answer),
+        first: if row.first == 0 { now } else { row.first },
+        last: if is_final(answer) { now } else { 0 },
         used: row.used + 1,
     }
 }

@@ -2,18 +2,15 @@
 --
 -- Main laws: sheet_in_counted; holding_text, the text of buffers that hold rows and entries; holding_readable, they have what
 -- the text shows.
+use Rattle.std.specs.Prelude.{Option, Some, None}
 use mathlib.Core.Path.{◌≡◌, refl, ap₂, ◌∙◌}
 use mathlib.Core.Bool.{Bool, cond}
 use mathlib.Core.List.{List, [], ◌∷◌, ◌++◌, Memᴰ}
 use Prim.Native.Nat.{ℕ, zero, suc, ◌+◌, ◌*◌, ◌^◌, ◌≤◌, ◌<◌}
 use native.Mathlib.Numerals.{unary_clauses}
 use native.Mathlib.Omega.{arith}
-use lib.Dec.{eqb}
 use lib.ListN.{length, get_or, length-append}
-use borrow.Author.Tests.{ne_eqb}
-use Rattle.basics.proofs.Conditions.{split, cond_both}
-use Rattle.basics.proofs.Counts.{count_le}
-use Rattle.job.specs.Job.{most_requests}
+use Rattle.basics.proofs.Conditions.{split}
 use Rattle.text.specs.Text.{each}
 use Rattle.text.specs.Writing.{last_position}
 use Rattle.text.proofs.Text.{each_short, each_same, each_first}
@@ -24,24 +21,27 @@ use Rattle.linearization.proofs.Numbers.{length_flat}
 use Rattle.rules.specs.declared.Row.{Row}
 use Rattle.sheet.specs.Sheet.{number_of, seen_line, request_lines, entry_lines, sheet_text}
 use Rattle.sheet.specs.Agree.{Numbers}
-use Rattle.sheet.specs.Buffers.{unseen, Numbered, request_line_in, entry_line_in, sheet_in, Readable, Holding}
+use Rattle.sheet.specs.Buffers.{Numbered, Narrow, line_under, request_line_in, entry_line_in, sheet_in, Readable, Holding}
 
 -- ---- its length
 
-module _ (numbers report : List ℕ) (requests : ℕ) (linearization : List ℕ) (entries : ℕ)
-    (small : (k : ℕ) → get_or numbers k 0 < 2 ^ 16)
-    (rows : (k : ℕ) → get_or report k 0 < 2 ^ 32)
-    (points : (k : ℕ) → get_or linearization k 0 < 2 ^ 32) where
+module _ (numbers : List (Option ℕ)) (report : List ℕ) (requests : ℕ) (linearization : List ℕ) (entries : ℕ)
+    (narrow : Narrow numbers report linearization) where
+  under_short : (k : ℕ) (line : ℕ → List ℕ) → ((number : ℕ) → number < 2 ^ 32 → length (line number) ≤ 64)
+      → length (line_under (get_or numbers k None) line) ≤ 64
+  under_short k line short = go (get_or numbers k None) refl
+    where
+      go : (number : Option ℕ) → get_or numbers k None ≡ number → length (line_under number line) ≤ 64
+      go None e = omega arith
+      go (Some number) e = short number (omega (arith, narrow.small k number e))
+
   request_line_short : (q : ℕ) → length (request_line_in numbers report q) ≤ 64
-  request_line_short q =
-      cond_both {A = List ℕ} (λ t. length t ≤ 64) (eqb (get_or numbers q 0) unseen) (omega arith)
-      (request_short report rows (get_or numbers q 0) q (omega (arith, small q)))
+  request_line_short q = under_short q _ (λ number l. request_short report narrow.rows number q l)
 
   entry_line_short : (i : ℕ) → length (entry_line_in numbers linearization i) ≤ 64
   entry_line_short i =
-      let number : ℕ = get_or numbers (get_or linearization (2 * i + 1) 0) 0 in
-      cond_both {A = List ℕ} (λ t. length t ≤ 64) (eqb number unseen) (omega arith)
-      (entry_short (get_or linearization (2 * i) 0) number (points (2 * i)) (omega (arith, small (get_or linearization (2 * i + 1) 0))))
+      under_short (get_or linearization (2 * i + 1) 0) _
+      (λ number l. entry_short (get_or linearization (2 * i) 0) number (narrow.points (2 * i)) l)
 
   pub sheet_in_counted : requests < 2 ^ 32 → entries < 2 ^ 32
       → length (sheet_in numbers report requests linearization entries) ≤ last_position
@@ -55,14 +55,11 @@ module _ (numbers report : List ℕ) (requests : ℕ) (linearization : List ℕ)
 
 -- ---- the text of what they hold
 
-module _ {seen : ℕ → Bool} {n : ℕ} {numbers : List ℕ} (few : n ≤ most_requests) (numbered : Numbered seen n numbers) where
+module _ {seen : ℕ → Bool} {n : ℕ} {numbers : List (Option ℕ)} (numbered : Numbered seen n numbers) where
   -- whatever a request's line is, it is there exactly where the request is seen, under its number on the sheet
   line_seen : (q : ℕ) → q < n → (line : ℕ → List ℕ)
-      → cond (eqb (get_or numbers q 0) unseen) [] (line (get_or numbers q 0)) ≡ cond (seen q) (line (number_of seen q)) []
-  line_seen q inside line =
-      split (seen q)
-      (λ s. rw (numbered.each q inside, s, ne_eqb (number_of seen q) unseen (λ e. omega (arith, e, count_le seen q))))
-      (λ s. rw (numbered.each q inside, s))
+      → line_under (get_or numbers q None) line ≡ cond (seen q) (line (number_of seen q)) []
+  line_seen q inside line = split (seen q) (λ s. rw (numbered.each q inside, s) refl) (λ s. rw (numbered.each q inside, s) refl)
 
   lines_requests : (rows : List Row) (report : List ℕ) → Numbers report rows → length rows ≡ n
       → each (request_line_in numbers report) (length rows) ≡ request_lines seen rows
@@ -93,14 +90,14 @@ entry_inside n (e ∷ es) past inside (suc i) l =
 
 module _ {rows : List Row} {entries : List Entry} {report linearization : List ℕ} {count : ℕ}
     (holding : Holding rows entries report linearization count) where
-  pub holding_text : {seen : ℕ → Bool} {numbers : List ℕ} → length rows ≤ most_requests → Numbered seen (length rows) numbers
+  pub holding_text : {seen : ℕ → Bool} {numbers : List (Option ℕ)} → Numbered seen (length rows) numbers
       → sheet_in numbers report (length rows) linearization count ≡ sheet_text seen rows entries
   unfolding sheet_text
-  holding_text few numbered =
-      ap₂ {C = List ℕ} ◌++◌ (lines_requests few numbered rows report holding.report_rows refl)
-      (rw (holding.counted, holding.listed) (lines_entries few numbered entries holding.past holding.line_up.requests))
+  holding_text numbered =
+      ap₂ {C = List ℕ} ◌++◌ (lines_requests numbered rows report holding.report_rows refl)
+      (rw (holding.counted, holding.listed) (lines_entries numbered entries holding.past holding.line_up.requests))
 
-  pub holding_readable : (numbers : List ℕ) → length rows ≤ length numbers
+  pub holding_readable : (numbers : List (Option ℕ)) → length rows ≤ length numbers
       → Readable numbers report (length rows) linearization count
   holding_readable numbers enough =
       record {

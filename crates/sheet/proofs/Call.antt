@@ -2,7 +2,6 @@
 --
 -- Main laws: written_short and written_whole, a text into a buffer; sheet_refused, sheet_headless and sheet_written, the outcomes.
 use mathlib.Core.Path.{◌≡◌, ◌∙◌}
-use mathlib.Core.Logic.{◌≢◌}
 use mathlib.Core.List.{List}
 use Prim.Native.Nat.{ℕ, ◌≤◌, ◌<◌}
 use native.Mathlib.Omega.{arith}
@@ -12,9 +11,8 @@ use borrow.Author.Tests.{lt-ltb, le-ltb, le-leb, lt-leb, eq-eqb, ne_eqb}
 use Rattle.basics.proofs.Conditions.{split}
 use Rattle.text.specs.Writing.{Wrote}
 use Rattle.text.proofs.Writing.{wrote_whole}
-use Rattle.listing.specs.declared.Listed.{Listed}
 use Rattle.jobfile.specs.Meaning.{meaning}
-use Rattle.sheet.specs.Call.{text_of, sheet_refusal, Sheet, refused, refusal, written_of, sheet_of}
+use Rattle.sheet.specs.Call.{text_of, sheet_refusal, Sheet, refusal, written_of, sheet_of}
 
 -- ---- a text into a buffer
 
@@ -38,23 +36,14 @@ written_accepted text out room = rw (le-ltb (length out) (length text) room)
 -- ---- the outcomes
 
 module _ (file : List ℕ) (head : ℕ) (out : List ℕ) where
-  -- what the call leaves with an answer and the buffer as it was
-  abbrev Left : Listed → Type 0
-  Left answer = ◌≡◌ {A = Sheet} (record { answer = answer; out = out }) (sheet_of file head out)
-
-  told_refused : (number : ℕ) {answer : Listed} → answer ≡ refused number → refusal number out ≡ sheet_of file head out → Left answer
-  told_refused number told is = (λ i. record { answer = told i; out = out }) ∙ is
-
-  pub sheet_refused : {answer : Listed} {number : ℕ} → answer ≡ refused number → number ≡ (meaning file).number → number ≢ 0 → Left answer
+  pub sheet_refused : {number : ℕ} → number ≡ (meaning file).number → (number ≡ 0 → ⊥) → refusal number out ≡ sheet_of file head out
   unfolding sheet_refusal sheet_of
-  sheet_refused told is some =
-      told_refused (meaning file).number (rw is at told) (simp (ne_eqb (meaning file).number 0 (λ none. some (is ∙ none))))
+  sheet_refused is some = rw is (simp (ne_eqb (meaning file).number 0 (λ none. some (is ∙ none))))
 
   module _ (accepted : (meaning file).number ≡ 0) where
-    pub sheet_headless : {answer : Listed} → answer ≡ refused 10 → (meaning file).job.heads ≤ head → Left answer
+    pub sheet_headless : (meaning file).job.heads ≤ head → refusal 10 out ≡ sheet_of file head out
     unfolding sheet_refusal sheet_of
-    sheet_headless told beyond =
-        told_refused 10 told (simp (eq-eqb (meaning file).number 0 accepted, le-leb (meaning file).job.heads head beyond))
+    sheet_headless beyond = simp (eq-eqb (meaning file).number 0 accepted, le-leb (meaning file).job.heads head beyond)
 
     pub sheet_written : head < (meaning file).job.heads → written_of (text_of file head) out ≡ sheet_of file head out
     unfolding sheet_refusal sheet_of written_of

@@ -44,9 +44,9 @@ rights_unread origin j rights = refl
 head_written : (file : List ℕ) (h : ℕ) → HasHead file h → (out : List ℕ) → sheet_of file h out ≡ written_of (text_of file h) out
 head_written file h has out = sym (sheet_written file h out has.accepted has.below)
 
-written_answer_lem : (text out out' : List ℕ) → length out ≡ length out' → (written_of text out).answer ≡ (written_of text out').answer
+answer_of_length : (text out out' : List ℕ) → length out ≡ length out' → (written_of text out).answer ≡ (written_of text out').answer
 unfolding written_of
-written_answer_lem text out out' e = split (ltb (length out') (length text)) (λ short. rw (e, short)) (λ roomy. rw (e, roomy))
+answer_of_length text out out' e = split (ltb (length out') (length text)) (λ short. rw (e, short)) (λ roomy. rw (e, roomy))
 
 texts_agree : (file file' : List ℕ) (h h' : ℕ) → HasHead file h → HasHead file' h'
     → RunsAgree (origin_in file) (meaning file).job h (origin_in file') (meaning file').job h' → text_of file h ≡ text_of file' h'
@@ -61,7 +61,7 @@ calls_agreement file file' h h' has has' agree =
     λ out. head_written file h has out ∙ ap (λ text. written_of text out) (texts_agree file file' h h' has has' agree) in
     record {
       answers = λ out out' e.
-          ap (λ s. s.answer) (sheets out) ∙ written_answer_lem (text_of file' h') out out' e
+          ap (λ s. s.answer) (sheets out) ∙ answer_of_length (text_of file' h') out out' e
           ∙ sym (ap (λ s. s.answer) (head_written file' h' has' out'));
       bytes = λ out. ap (λ s. s.out) (sheets out ∙ sym (head_written file' h' has' out));
     }

@@ -3,7 +3,8 @@
 --   CallPlayed file left   what is known of what the call's play left
 --
 -- Main laws: run_line_up, a run has the report and the line-up that the promises ask for; played_accepted and cut_holding, what
--- the play of an accepted file leaves; call_played; run_readable and run_text_lem, the text of it.
+-- the play of an accepted file leaves; call_played; run_readable and run_text_printed, the text of it.
+use Rattle.std.specs.Prelude.{Option}
 use mathlib.Core.Path.{◌≡◌, refl, sym, ap, ◌∙◌, subst}
 use mathlib.Core.Logic.{◌≢◌}
 use mathlib.Core.Bool.{Bool}
@@ -34,7 +35,6 @@ use Rattle.sheet.specs.Call.{run_in, run_text}
 use Rattle.sheet.specs.Agree.{LineUp, Numbers}
 use Rattle.sheet.specs.Buffers.{Numbered, sheet_in, Readable, HoldingRun}
 use Rattle.sheet.proofs.Sheets.{linearized_line_up, numbers_none, numbers_next}
-use Rattle.sheet.proofs.Accepted.{few_requests}
 use Rattle.sheet.proofs.Buffers.{holding_text, holding_readable}
 
 -- ---- a run
@@ -132,7 +132,7 @@ call_played file bytes left is =
 -- ---- the text of what it leaves
 
 module _ {file : List ℕ} {counts : Checked} (playing : Playing file counts) {report linearization : List ℕ} {entries : ℕ}
-    (holding : HoldingRun file report linearization entries) {seen : ℕ → Bool} {numbers : List ℕ}
+    (holding : HoldingRun file report linearization entries) {seen : ℕ → Bool} {numbers : List (Option ℕ)}
     (numbered : Numbered seen counts.requests numbers) where
   -- the run has a row for each request
   rows_all : counts.requests ≡ length (run_in file).report
@@ -142,7 +142,7 @@ module _ {file : List ℕ} {counts : Checked} (playing : Playing file counts) {r
   pub run_readable : Readable numbers report counts.requests linearization entries
   run_readable = rw rows_all (holding_readable holding numbers (omega (arith, numbered.long, rows_all)))
 
-  pub run_text_lem : sheet_in numbers report counts.requests linearization entries ≡ run_text seen (run_in file)
-  run_text_lem =
+  pub run_text_printed : sheet_in numbers report counts.requests linearization entries ≡ run_text seen (run_in file)
+  run_text_printed =
       let all : Numbered seen (length (run_in file).report) numbers = subst (λ n. Numbered seen n numbers) rows_all numbered in
-      rw rows_all (holding_text holding (omega (arith, few_requests playing, rows_all)) all)
+      rw rows_all (holding_text holding all)

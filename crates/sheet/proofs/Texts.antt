@@ -17,8 +17,7 @@ use Rattle.basics.proofs.Counts.{count_all}
 use Rattle.basics.proofs.Passing.{passing_many}
 use Rattle.text.specs.Text.{each}
 use Rattle.text.proofs.Text.{each_first, each_same}
-use Rattle.listing.specs.declared.Section.TheVariants.{Requests, Entries}
-use Rattle.listing.specs.Listing.{entry_line, row}
+use Rattle.listing.specs.Listing.{Requests, Entries, entry_line, row}
 use Rattle.linearization.specs.Entry.{Entry, flat}
 use Rattle.rules.specs.declared.Row.{Row}
 use Rattle.rules.specs.Report.{row_at}

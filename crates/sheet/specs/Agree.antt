@@ -23,8 +23,7 @@ use Rattle.job.specs.declared.Right.{Right}
 use Rattle.job.specs.Job.{Job, sight_of}
 use Rattle.basics.specs.Count.{count}
 use Rattle.text.specs.Text.{each}
-use Rattle.listing.specs.declared.Section.TheVariants.{Requests, Entries}
-use Rattle.listing.specs.Listing.{row}
+use Rattle.listing.specs.Listing.{Requests, Entries, row}
 use Rattle.linearization.specs.Entry.{Entry, Rising, occurrences, flat}
 use Rattle.rules.specs.declared.Row.{Row}
 use Rattle.rules.specs.Report.{row_at}

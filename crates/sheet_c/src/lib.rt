@@ -1,4 +1,4 @@
-// A head's sheet for programs in C and Rust: it calls `sheet::grouping_sheet` and promises the same.
+// A head's sheet for programs in C and Rust: it calls `sheet::grouping_sheet`, promises the same, and tells its answer by a number.
 #![tactic(auto)]
 
 ghost use Rattle.std.specs.Prelude.{◌≡◌};
@@ -12,5 +12,5 @@ use listing::Listed;
 pub extern "C" fn grouping_sheet(file: &[u8], head: u32, out: &mut [u8]) -> Listed
     ensures { record { answer = result; out = out.new } ≡ sheet_of file.now head out.old }
 {
-    sheet::grouping_sheet(file, head, out)
+    Listed::from(sheet::grouping_sheet(file, head, out))
 }

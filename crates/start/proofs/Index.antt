@@ -1,9 +1,9 @@
 -- The index of the requests' successors, made from the last request on.
 --
---   index_room                  the length of the index
---   Indexed qs firsts index q   firsts has each head's first request from q on, index the successors of the requests from q on
+--   index_room                      the length of the index
+--   IndexedFrom qs firsts index q   firsts has each head's first request from q on, index the successors of the requests from q on
 --
--- Main laws: indexed_none, before the last request; indexed_on, one request more; indexed_all, the whole index.
+-- Main laws: indexed_none, before the last request; indexed_on, one request more.
 use mathlib.Core.Path.{◌≡◌, refl, sym, ap, ◌∙◌}
 use mathlib.Core.List.{List}
 use Prim.Native.Nat.{ℕ, suc, ◌≤◌, ◌<◌}
@@ -18,7 +18,6 @@ use Rattle.job.specs.declared.Request.{Request}
 use Rattle.rules.specs.State.{no_request, request_at, seek}
 use Rattle.rules.proofs.Requests.{seek_absent}
 use Rattle.stepper.specs.Shown.{requests_in}
-use Rattle.stepper.specs.Index.{Indexes}
 use Rattle.reader.proofs.Playing.{playing_count}
 use Rattle.stepper.proofs.Seek.{seek_here, seek_on, seek_none}
 use Rattle.stepper.proofs.Reached.{playing_admitted}
@@ -26,7 +25,7 @@ use Rattle.stepper.proofs.Reached.{playing_admitted}
 abbrev pub index_room : ℕ
 index_room = 514
 
-pub record Indexed (qs : List Request) (firsts index : List ℕ) (q : ℕ) : Type 0 where
+pub record IndexedFrom (qs : List Request) (firsts index : List ℕ) (q : ℕ) : Type 0 where
   pub within : q ≤ length qs
   pub heads : length firsts ≡ most_heads
   pub size : length index ≡ index_room
@@ -34,7 +33,7 @@ pub record Indexed (qs : List Request) (firsts index : List ℕ) (q : ℕ) : Typ
   pub successor : (p : ℕ) → q ≤ p → p < length qs → get_or index p 0 ≡ seek qs (request_at qs p).head (suc p)
 
 pub indexed_none : (qs : List Request) (index : List ℕ) (count : ℕ) → count ≡ length qs → length index ≡ index_room
-    → Indexed qs (replicate most_heads count) index count
+    → IndexedFrom qs (replicate most_heads count) index count
 indexed_none qs index count all room =
     record {
       within = omega (arith, all);
@@ -44,7 +43,7 @@ indexed_none qs index count all room =
       successor = λ p l inside. absurd (omega (arith, all));
     }
 
-module _ {qs : List Request} {firsts index : List ℕ} {q : ℕ} (i : Indexed qs firsts index q) (p head : ℕ) (is : suc p ≡ q)
+module _ {qs : List Request} {firsts index : List ℕ} {q : ℕ} (i : IndexedFrom qs firsts index q) (p head : ℕ) (is : suc p ≡ q)
     (own : (request_at qs p).head ≡ head) (few : head < most_heads) (room : p < index_room) where
   here : p < length qs
   here = omega (arith, is, i.within)
@@ -63,7 +62,7 @@ module _ {qs : List Request} {firsts index : List ℕ} {q : ℕ} (i : Indexed qs
       ∙ ap (λ k. seek qs k (suc p)) (sym own))
   successor_on r l inside (no d) = get_or-set_other index p r (get_or firsts head 0) 0 d ∙ i.successor r (omega (arith, is, d)) inside
 
-  pub indexed_on : Indexed qs (set firsts head p) (set index p (get_or firsts head 0)) p
+  pub indexed_on : IndexedFrom qs (set firsts head p) (set index p (get_or firsts head 0)) p
   indexed_on =
       record {
         within = omega (arith, here);
@@ -73,20 +72,18 @@ module _ {qs : List Request} {firsts index : List ℕ} {q : ℕ} (i : Indexed qs
         successor = λ r l inside. successor_on r l inside (ℕ_discrete r p);
       }
 
-pub indexed_all : {qs : List Request} {firsts index : List ℕ} {q : ℕ} → q ≤ 0 → Indexed qs firsts index q → Indexes qs index
-indexed_all {qs} none i = record { successor = λ p l inside. i.successor p (omega arith) inside }
-
 -- ---- what an accepted file says
 
 module _ {file : List ℕ} {counts : Checked} (playing : Playing file counts) where
   pub few_requests : counts.requests ≤ most_requests
   few_requests = omega (arith, playing_count playing, (playing_admitted playing).few_requests)
 
-  pub few_heads : (q : ℕ) → q < counts.requests → (r : Request)
-      → ((none : Request) → r ≡ get_or (requests_in file) q none) → r.head < most_heads
-  few_heads q l r is =
+  pub few_heads : (q h : ℕ) → q < counts.requests → (r : Request)
+      → ((none : Request) → r ≡ get_or (requests_in file) q none) → h ≡ r.head → h < most_heads
+  few_heads q h l r is own =
       omega (
         arith,
+        own,
         ap (λ k. k.head) (is no_request),
         ((playing_admitted playing).each_request q no_request (omega (arith, playing_count playing))).head,
         (playing_admitted playing).few_heads,

@@ -47,7 +47,3 @@ module _ (flag : ℕ → Bool) (numbers : List ℕ) where
             ∙ sym (ap (λ l. mask_of (map flag l)) (drop-cons numbers h 0 (omega (arith, before.within)))
             ∙ mask_more next (map flag (drop (suc h) numbers)));
       })
-
-  pub gathered_all : (h mask : ℕ) → h ≤ 0 → Gathered flag numbers h mask → mask ≡ mask_of (map flag numbers)
-  gathered_all zero mask none_left all = all.same
-  gathered_all (suc h) mask none_left all = absurd (omega arith)

@@ -4,7 +4,7 @@
 --   first_word i        its word
 --   first_request qs h  the first request of head h
 --
--- Main laws: fresh_word and first_request_lem, each place of the table and of the first requests; first_heads and
+-- Main laws: fresh_word and first_requests_at, each place of the table and of the first requests; first_heads and
 -- first_flags, the heads and their flags; start_rows, the report's zeros are rows; start_standing, the buffers show the
 -- start.
 use mathlib.Core.Path.{◌≡◌, refl, sym, ap, ap₂, ◌∙◌}
@@ -75,8 +75,8 @@ requests_at qs h (suc m) (suc k) l =
     let same : suc h + k ≡ h + suc k = omega arith in
     requests_at qs (suc h) m k (omega arith) ∙ ap (first_request qs) same
 
-pub first_request_lem : (qs : List Request) (m h : ℕ) → h < m → get_or (first_requests qs 0 m) h 0 ≡ first_request qs h
-first_request_lem qs m h l = let same : 0 + h ≡ h = omega arith in requests_at qs 0 m h l ∙ ap (first_request qs) same
+pub first_requests_at : (qs : List Request) (m h : ℕ) → h < m → get_or (first_requests qs 0 m) h 0 ≡ first_request qs h
+first_requests_at qs m h l = let same : 0 + h ≡ h = omega arith in requests_at qs 0 m h l ∙ ap (first_request qs) same
 
 resting_first : (ws : List Wait) (report : List Row) (qs : List Request) (h m : ℕ)
     → map at_rest (map (first_task ws report) (first_requests qs h m)) ≡ map (noted ws report) (heads_from qs h m)

@@ -4,7 +4,6 @@
 ghost use Rattle.std.specs.Prelude.{◌≡◌, map, ◌*◌, ◌≤◌, length, replicate};
 ghost use Rattle.word.specs.Word.{encode, node_limit};
 ghost use Rattle.job.specs.Job.{most_heads};
-ghost use Rattle.reader.specs.Reader.{Playing};
 ghost use Rattle.mask.specs.Mask.{mask_of};
 ghost use Rattle.rules.specs.Table.{fresh};
 ghost use Rattle.rules.specs.State.{resting};
@@ -14,11 +13,11 @@ ghost use Rattle.stepper.specs.Index.{Indexes};
 ghost use Rattle.start.specs.Start.{first_requests, first_task, at_rest, is_request};
 
 use job::MOST_HEADS;
-use process::{Head, NO_WAIT, Stage, Task};
-use reader::Checked;
+use process::{Head, Stage, Task, one_higher, waiting_for};
+use reader::Accepted;
 use stepper::Heads;
 use stepper::requests::next_request;
-use stepper::waits::lowest_wait;
+use stepper::waits::Reported;
 use word::{Node, Word};
 
 // Each node its own parent, rank 0.
@@ -26,13 +25,11 @@ pub fn fresh_table(table: &mut [Word])
     requires { length table.old ≤ node_limit }
     ensures { table.new ≡ map encode (fresh (length table.old)) }
 {
-    let mut i: usize = 0;
-    while i < table.len() {
-        table[i] = word::encoded(Node {
+    for i in 0..table.len() {
+        table[i] = Word::from(Node {
             rank: 0,
             parent: i as u16,
         });
-        i += 1;
     }
 }
 
@@ -40,24 +37,18 @@ pub fn fresh_table(table: &mut [Word])
 pub fn clear_report(report: &mut [u32])
     ensures { report.new ≡ replicate (length report.old) 0 }
 {
-    let mut i: usize = 0;
-    while i < report.len() {
-        report[i] = 0;
-        i += 1;
-    }
+    report.fill(0);
 }
 
-// The first request of each head, or the number of requests where it has none, as no head has that the job does not have.
+// The first request of each head, or the number of requests where it has none, as no head has that the job does not have. A
+// number and no Option: a head's record has the number of requests there, in its two bytes, and so has the index.
 #[tactic(auto, using(crate::proofs::Index::few_requests, crate::proofs::Index::few_heads_in_all, stepper::proofs::Needs::next_small))]
-pub fn first_requests(file: &[u8], counts: Checked) -> [u16; MOST_HEADS]
-    requires { Playing file.now counts }
-    ensures { result ≡ first_requests (requests_in file.now) 0 most_heads }
+pub fn first_requests(job: Accepted) -> [u16; MOST_HEADS]
+    ensures { result ≡ first_requests (requests_in job.entry.file.now) 0 most_heads }
 {
-    let mut firsts = [counts.requests as u16; MOST_HEADS];
-    let mut h: usize = 0;
-    while h < counts.heads as usize {
-        firsts[h] = next_request(file, counts, h as u32, 0) as u16;
-        h += 1;
+    let mut firsts = [job.counts.requests as u16; MOST_HEADS];
+    for h in 0..job.counts.heads {
+        firsts[h as usize] = next_request(job, h, 0).unwrap_or(job.counts.requests) as u16;
     }
     firsts
 }
@@ -68,63 +59,46 @@ pub fn first_requests(file: &[u8], counts: Checked) -> [u16; MOST_HEADS]
 pub const INDEX_ROOM: usize = 514;
 
 // For each request the next one of its head, or the number of requests: an index for the grants, in a lent array. It is made
-// from the last request on, with the first request of each head so far.
+// from the last request on, with the first request of each head so far. As Options the index would take 1,028 bytes more of the
+// stack, and a play more than its bar (docs/TRUST.md).
 #[tactic(auto, using(crate::proofs::Index::few_requests, reader::proofs::Playing::playing_count))]
-pub fn index_requests(file: &[u8], counts: Checked, index: &mut [u16; INDEX_ROOM])
-    requires { Playing file.now counts }
-    ensures { Indexes (requests_in file.now) index.new }
+pub fn index_requests(job: Accepted, index: &mut [u16; INDEX_ROOM])
+    ensures { Indexes (requests_in job.entry.file.now) index.new }
 {
-    let requests = counts.requests;
+    let requests = job.counts.requests;
     let mut firsts = [requests as u16; MOST_HEADS];
-    let mut q = requests;
-    while 0 < q {
-        q -= 1;
-        let request = reader::request_at(file, counts, q);
-        let h = request.head as usize;
+    for q in (0..requests).rev() {
+        let h = usize::from(job.request(q).head);
         index[q as usize] = firsts[h];
         firsts[h] = q as u16;
     }
 }
 
-// The same, in an array of its own that is the result.
-pub fn successors(file: &[u8], counts: Checked) -> [u16; INDEX_ROOM]
-    requires { Playing file.now counts }
-    ensures { Indexes (requests_in file.now) result }
+// A head at rest before a request, which waits for none.
+fn resting(request: u16) -> Head
+    ensures { result ≡ resting request }
 {
-    let mut index = [0u16; INDEX_ROOM];
-    index_requests(file, counts, &mut index);
-    index
-}
-
-// The task of a head at rest before a request, which waits for that one.
-fn resting_task(request: u16, waits: u16) -> Task
-    ensures { result ≡ record { x = 0; y = 0; request = request; waits = waits } }
-{
-    Task {
-        x: 0,
-        y: 0,
-        request,
-        waits,
+    Head {
+        stage: Stage::Resting,
+        task: Task {
+            x: 0,
+            y: 0,
+            request,
+            waits: one_higher(None),
+        },
     }
 }
 
 // The tasks of the heads before their first requests, with what these wait for (02, A3): at the start none is finished.
-pub fn first_tasks(
-    file: &[u8],
-    counts: Checked,
-    report: &[u32],
-    firsts: [u16; MOST_HEADS],
-) -> [Task; MOST_HEADS]
-    requires playing { Playing file.now counts }
-    requires requests_in_bounds { 4 * counts.requests ≤ length report.now }
-    ensures { result ≡ map (first_task (waits_in file.now) (rows_of report.now)) firsts }
+pub fn first_tasks(job: Accepted, report: &[u32], firsts: [u16; MOST_HEADS]) -> [Task; MOST_HEADS]
+    requires { 4 * job.counts.requests ≤ length report.now }
+    ensures { result ≡ map (first_task (waits_in job.entry.file.now) (rows_of report.now)) firsts }
 {
-    let mut tasks = [resting_task(0, NO_WAIT); MOST_HEADS];
-    let mut h: usize = 0;
-    while h < MOST_HEADS {
+    let reported = Reported { job, report };
+    let mut tasks = [resting(0).task; MOST_HEADS];
+    for h in 0..MOST_HEADS {
         let first = firsts[h];
-        tasks[h] = resting_task(first, lowest_wait(file, counts, report, first));
-        h += 1;
+        tasks[h] = waiting_for(resting(first), reported.lowest_wait(first)).task;
     }
     tasks
 }
@@ -134,27 +108,15 @@ pub fn first_tasks(
 pub fn resting_heads(tasks: [Task; MOST_HEADS]) -> Heads
     ensures { result ≡ map at_rest tasks }
 {
-    let first = Head {
-        stage: Stage::Resting,
-        task: resting_task(0, NO_WAIT),
-    };
+    let first = resting(0);
     let mut heads = [first; MOST_HEADS];
-    let mut h: usize = 0;
-    while h < MOST_HEADS {
+    for h in 0..MOST_HEADS {
         heads[h] = Head {
             task: tasks[h],
             ..first
         };
-        h += 1;
     }
     heads
-}
-
-// Every head at rest with no request: those of a refused job.
-pub fn idle_heads() -> Heads
-    ensures { result ≡ replicate most_heads (resting 0) }
-{
-    resting_heads([resting_task(0, NO_WAIT); MOST_HEADS])
 }
 
 // The work mask of the heads: a bit for each that has a first request.
@@ -163,10 +125,8 @@ pub fn first_mask(firsts: [u16; MOST_HEADS], requests: u32) -> u32
     ensures { result ≡ mask_of (map (is_request requests) firsts) }
 {
     let mut mask: u32 = 0;
-    let mut h = MOST_HEADS;
-    while 0 < h {
-        h -= 1;
-        mask = mask::pushed(mask, (firsts[h] as u32) < requests);
+    for h in (0..MOST_HEADS).rev() {
+        mask = mask::pushed(mask, u32::from(firsts[h]) < requests);
     }
     mask
 }

@@ -20,7 +20,7 @@ use Rattle.job.specs.declared.Wait.{Wait}
 use Rattle.word.specs.Word.{decode, encode}
 use Rattle.process.specs.declared.Head.{Head}
 use Rattle.process.specs.declared.Advanced.{Advanced}
-use Rattle.process.specs.Process.{Raisable, is_resting, no_wait, is_waiting, queued}
+use Rattle.process.specs.Process.{Raisable, is_resting, no_wait, is_waiting}
 use Rattle.process.specs.Access.{access_of}
 use Rattle.process.specs.Advance.{advance_of}
 use Rattle.linearization.specs.Partition.{Labels}
@@ -30,7 +30,7 @@ use Rattle.linearization.proofs.Replay.{replayed_rising}
 use Rattle.linearization.proofs.Numbers.{insertable_shown}
 use Rattle.job.specs.Job.{most_heads}
 use Rattle.jobfile.specs.Meaning.{meaning}
-use Rattle.mask.proofs.Laws.{flag_of, left_least}
+use Rattle.mask.proofs.Laws.{flag_of}
 use Rattle.rules.specs.Table.{seen, touched}
 use Rattle.rules.specs.Report.{charge, no_row, row_at, is_final}
 use Rattle.rules.specs.State.{request_at, State, seek, resting, has_work, wait_of}
@@ -96,14 +96,6 @@ pub next_small : {file : List ℕ} {counts : Checked} → Playing file counts �
     → seek (requests_in file) h from < 65536
 next_small {file} playing h from l =
     omega (arith, seek_bound (requests_in file) h from (omega (arith, playing_count playing)), (playing_admitted playing).few_requests)
-
--- the head that has finished its request
-pub settled_final : (qs : List Request) (h : ℕ) (moved : Advanced) (next : ℕ) → is_final moved.event.answer ≡ true
-    → next ≡ seek qs h (moved.head.task.request + 1) → queued moved.head next ≡ settled qs h moved
-settled_final qs h moved next t e =
-    let one : moved.head.task.request + 1 ≡ suc moved.head.task.request = omega arith in
-    ap (queued moved.head) (e ∙ ap (seek qs h) one)
-    ∙ sym (ap (λ b. cond b (queued moved.head (seek qs h (suc moved.head.task.request))) moved.head) t)
 
 -- ---- a served grant
 
@@ -194,10 +186,6 @@ module _ {file : List ℕ} {counts : Checked} {h number : ℕ} {b : Buffers} (pl
           ltb-true (head_at S h).task.request (length qs) work,
           playing_count playing,
         )
-
-    pub mask_least : 2 ^ h ≤ b.mask
-    mask_least =
-        omega (arith, ap (λ c. c.mask) here.shows, left_least (has_work qs) (resting 0) S.heads h (omega (arith, here.heads)) work)
 
     pub entries_small : b.entries < 4294967295
     entries_small =

@@ -4,8 +4,8 @@
 --   Halved             a search that halves has come down to the places from low to high
 --   Scanned            the pairs of request q before place i have been looked at, and hold nothing back
 --
--- Main laws: admitted_rises, admitted_pair and admitted_few, what is known of the pairs of an admitted job; halved_up, halved_down and
--- halved_end, the search; scanned_on, scanned_here, scanned_past and scanned_end, the look at the pairs of one request.
+-- Main laws: admitted_rises and admitted_pair, what is known of the pairs of an admitted job; halved_up and halved_down, the search;
+-- scanned_on, scanned_here and scanned_past, the look at the pairs of one request.
 use mathlib.Core.Path.{◌≡◌, refl, sym, ap, ◌∙◌}
 use mathlib.Core.Logic.{◌≢◌}
 use mathlib.Core.Bool.{true, false}
@@ -15,7 +15,7 @@ use native.Mathlib.Numerals.{add-one}
 use native.Mathlib.Omega.{arith}
 use native.Mathlib.Decide.{ℕ_discrete}
 use lib.Dec.{eqb, ltb}
-use lib.ListN.{length, get_or, drop, drop_of_length-le, length-drop}
+use lib.ListN.{length, get_or, drop, length-drop}
 use lib.Seq.{drop-cons, get_or-drop}
 use borrow.Author.Tests.{eq-eqb, ne_eqb, eqb-true, ltb-true}
 use Rattle.basics.proofs.Conditions.{split, both_left, both_right}
@@ -25,7 +25,6 @@ use Rattle.process.specs.Process.{no_wait}
 use Rattle.jobfile.specs.Format.{rises_to, no_pair}
 use Rattle.jobfile.specs.Admitted.{Pairs, Admitted}
 use Rattle.jobfile.proofs.Pairs.{Rising, rising_all}
-use Rattle.jobfile.proofs.Places.{length_written}
 use Rattle.rules.specs.declared.Row.{Row}
 use Rattle.rules.specs.Report.{unfinished}
 use Rattle.rules.specs.State.{lowest_wait}
@@ -89,9 +88,6 @@ module _ (j : Job) (a : Admitted j) where
   pub admitted_pair : (w : Wait) → Memᴰ w j.waits → Pairs (length j.requests) w
   admitted_pair = rising_pair (length j.requests) no_pair j.waits rising_here
 
-  pub admitted_few : length j.waits < 65536
-  admitted_few = omega (arith, length_written j, a.short)
-
   later_up : (i k : ℕ) → i ≤ k → k < length j.waits → later_at j.waits i ≤ later_at j.waits k
   later_up i zero l h = let same : i ≡ 0 = omega arith in rw same (omega arith)
   later_up i (suc k) l h = go (ℕ_discrete i (suc k)) (λ m. later_up i k m (omega arith))
@@ -109,14 +105,6 @@ pub record Halved (ws : List Wait) (q low high : ℕ) : Type 0 where
   pub within : high ≤ length ws
   pub before : (i : ℕ) → i < low → later_at ws i < q
   pub from : (i : ℕ) → high ≤ i → i < length ws → q ≤ later_at ws i
-
-pub halved_all : (ws : List Wait) (q : ℕ) → Halved ws q 0 (length ws)
-halved_all ws q =
-    record { order = omega arith; within = omega arith; before = λ i l. absurd (omega arith); from = λ i l h. absurd (omega arith) }
-
-pub halved_end : {ws : List Wait} {q low high : ℕ} → Halved ws q low high → high ≤ low → Parted ws q low
-halved_end h l =
-    record { within = omega (arith, h.order, h.within); before = h.before; from = λ i m. h.from i (omega (arith, h.order)) }
 
 module _ (j : Job) (a : Admitted j) {q low high : ℕ} (h : Halved j.waits q low high) (m : ℕ) (above : low ≤ m) (below : m < high) where
   inside : m < length j.waits
@@ -170,9 +158,6 @@ scanned_start {ws} {q} {at} report p =
     }
 
 module _ {ws : List Wait} {report : List Row} {q i : ℕ} (s : Scanned ws report q i) where
-  pub scanned_end : length ws ≤ i → no_wait ≡ lowest_wait ws report q
-  scanned_end l = sym (s.same ∙ ap (λ r. lowest_wait r report q) (drop_of_length-le ws {i = i} l))
-
   module _ (l : i < length ws) where
     next : drop i ws ≡ get_or ws i (pair 0 0) ∷ drop (i + 1) ws
     next = drop-cons ws i (pair 0 0) l ∙ simp add-one

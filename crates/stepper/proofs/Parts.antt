@@ -31,7 +31,7 @@ use Rattle.stepper.specs.Shown.{Buffers, buffers, noted, used_done}
 use Rattle.stepper.specs.Shown.{requests_in, waits_in, Grantable, Grants}
 use Rattle.stepper.specs.Waits.{frees, Renewable}
 use Rattle.stepper.proofs.Reached.{playing_admitted}
-use Rattle.stepper.proofs.Needs.{next_within, records_all, rows_room, mask_least, entries_small, raisable, touchable_here}
+use Rattle.stepper.proofs.Needs.{next_within, records_all, rows_room, entries_small, raisable, touchable_here}
 use Rattle.stepper.proofs.Needs.{request_within, charge_room, charge_used, insertable, moved_within, own_request}
 use Rattle.stepper.proofs.Needs.{serve_renewable, serve_stepped}
 
@@ -56,9 +56,6 @@ module _ {file : List ℕ} {counts : Checked} {h number : ℕ} {b : Buffers} (r 
 
 module _ {file : List ℕ} {counts : Checked} {h number : ℕ} {b : Buffers} {head : Head} (s : Service file counts h number b head) where
   open s use {asked, bit, free, is}
-
-  pub ready_mask : 2 ^ h ≤ b.mask
-  ready_mask = mask_least asked.playing asked.head asked.standing bit free
 
   pub ready_small : b.entries < 4294967295
   ready_small = entries_small asked.playing asked.head asked.standing bit free

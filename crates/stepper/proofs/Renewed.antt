@@ -1,7 +1,6 @@
 -- The heads' records after a request is finished: one after the other they are as the report wants them.
 --
---   Renewed b f before k l  of the list `before`, the places before k have been changed by f, if b; else the list is as before,
---                           and k is past it
+--   Renewed f before k l   of the list `before`, the places before k have been changed by f
 --
 -- Main laws: renewed_start, renewed_on and renewed_end, the loop; renewed_noted, what a record is that is looked at again or not.
 use mathlib.Core.Path.{◌≡◌, refl, sym, ap, ◌∙◌, subst}
@@ -24,43 +23,28 @@ use Rattle.rules.specs.State.{resting}
 use Rattle.stepper.specs.Shown.{noted}
 use Rattle.stepper.specs.Waits.{frees, is_due, Renewable}
 
--- ---- where there is something to look at
+-- ---- one record after the other
 
-pub record Renewed (b : Bool) (f : Head → Head) (before : List Head) (k : ℕ) (l : List Head) : Type 0 where
-  swept : b ≡ true → Taken (resting 0) before (map f before) k l
-  left : b ≡ false → l ≡ before
-  past : b ≡ false → most_heads ≤ k
+pub record Renewed (f : Head → Head) (before : List Head) (k : ℕ) (l : List Head) : Type 0 where
+  swept : Taken (resting 0) before (map f before) k l
 
-pub renewed_start : (b : Bool) (f : Head → Head) (before : List Head) (k : ℕ) → k ≡ cond b 0 most_heads → Renewed b f before k before
-renewed_start b f before k is =
-    record {
-      swept = λ t. subst (λ i. Taken (resting 0) before (map f before) i before) (sym (is ∙ ap (λ c. cond c 0 most_heads) t))
-          taken_none;
-      left = λ n. refl;
-      past = λ n. omega (arith, is, ap {B = ℕ} (λ c. cond c 0 most_heads) n);
-    }
+pub renewed_start : {f : Head → Head} {before : List Head} → Renewed f before 0 before
+renewed_start = record { swept = taken_none }
 
-module _ {b : Bool} {f : Head → Head} {before l : List Head} {k : ℕ} (r : Renewed b f before k l) (size : length before ≡ most_heads) where
-  -- there is something to look at
-  pub renewed_some : k < most_heads → b ≡ true
-  renewed_some h = split b (λ t. t) (λ n. absurd (omega (arith, r.past n)))
-
+module _ {f : Head → Head} {before l : List Head} {k : ℕ} (r : Renewed f before k l) (size : length before ≡ most_heads) where
   -- the record that is looked at is as before
-  pub renewed_here : k < most_heads → get_or l k (resting 0) ≡ get_or before k (resting 0)
-  renewed_here h = split b (λ t. (r.swept t).kept k (omega arith)) (λ n. absurd (omega (arith, r.past n)))
+  pub renewed_here : get_or l k (resting 0) ≡ get_or before k (resting 0)
+  renewed_here = r.swept.kept k (omega arith)
 
-  pub renewed_on : (v : Head) → k < most_heads → v ≡ f (get_or l k (resting 0)) → Renewed b f before (k + 1) (set l k v)
+  pub renewed_on : (v : Head) → k < most_heads → v ≡ f (get_or l k (resting 0)) → Renewed f before (k + 1) (set l k v)
   renewed_on v h is =
       record {
-        swept = λ t. taken_on k l v (omega (arith, size)) (is ∙ ap f ((r.swept t).kept k (omega arith))
-            ∙ sym (get_or_mapped f before k (resting 0) (resting 0) (omega (arith, size)))) (r.swept t);
-        left = λ n. absurd (omega (arith, r.past n));
-        past = λ n. omega (arith, r.past n);
+        swept = taken_on k l v (omega (arith, size)) (is ∙ ap f renewed_here
+            ∙ sym (get_or_mapped f before k (resting 0) (resting 0) (omega (arith, size)))) r.swept;
       }
 
-  pub renewed_end : most_heads ≤ k → l ≡ cond b (map f before) before
-  renewed_end h =
-      split b (λ t. rw t (taken_all k l (sym (length-map before f)) (omega (arith, size)) (r.swept t))) (λ n. rw n (r.left n))
+  pub renewed_end : most_heads ≤ k → l ≡ map f before
+  renewed_end h = taken_all k l (sym (length-map before f)) (omega (arith, size)) r.swept
 
 -- an answer that frees a head finishes a request
 pub frees_final : (waits : ℕ) (answer : Answer) → frees waits answer ≡ true → is_final answer ≡ true

@@ -2,21 +2,17 @@
 --
 --   Sought qs h from q   the search for head h, begun at request `from`, has come to request q and found none yet
 --
--- Main laws: sought_here, sought_on and sought_none, what the next request makes of it; successor_indexed, what an index has.
+-- Main laws: sought_here, sought_on and sought_none, what the next request makes of it.
 use mathlib.Core.Path.{◌≡◌, refl, sym, ap, ◌∙◌}
 use mathlib.Core.Logic.{◌≢◌}
 use mathlib.Core.List.{List}
 use Prim.Native.Nat.{ℕ, suc, ◌+◌, ◌≤◌, ◌<◌}
 use native.Mathlib.Omega.{arith}
-use lib.ListN.{length, get_or, drop_of_length-le}
+use lib.ListN.{length, drop_of_length-le}
 use lib.Seq.{drop-cons}
 use borrow.Author.Tests.{eq-eqb, ne_eqb}
-use Rattle.reader.specs.declared.Checked.{Checked}
-use Rattle.reader.proofs.Playing.{playing_count}
 use Rattle.job.specs.declared.Request.{Request}
 use Rattle.rules.specs.State.{no_request, request_at, seek_in, seek}
-use Rattle.stepper.specs.Shown.{requests_in}
-use Rattle.stepper.specs.Index.{Successive}
 
 module _ (qs : List Request) (h q : ℕ) where
   pub seek_here : q < length qs → (request_at qs q).head ≡ h → seek qs h q ≡ q
@@ -48,12 +44,3 @@ module _ {qs : List Request} {h from q : ℕ} (sought : Sought qs h from q) wher
   sought_none l =
       let all : length qs ≡ q = omega (arith, sought.within) in
       all ∙ sym (seek_none qs h q l) ∙ sought.same
-
--- what an index of the requests has
-pub successor_indexed : {file successors : List ℕ} {counts : Checked} {h q : ℕ} → Successive file successors counts h q
-    → q < length successors
-    → get_or successors q 0 ≡ seek (requests_in file) h (q + 1)
-successor_indexed {file} {h = h} {q = q} s l =
-    let next : suc q ≡ q + 1 = omega arith in
-    s.indexed.successor q l (omega (arith, s.within, playing_count s.playing))
-    ∙ ap (λ k. seek (requests_in file) k (suc q)) s.own ∙ ap (seek (requests_in file) h) next

@@ -22,7 +22,7 @@ use Rattle.process.specs.declared.Advanced.{Advanced}
 use Rattle.process.specs.Process.{Raisable, is_resting, no_wait, waiting_for}
 use Rattle.process.specs.Access.{access_of}
 use Rattle.process.specs.Advance.{advance_of}
-use Rattle.forest.proofs.Sound.{rank_limit_lem}
+use Rattle.forest.proofs.Sound.{rank_at_most}
 use Rattle.linearization.specs.Partition.{Labels}
 use Rattle.linearization.specs.Entry.{flat, inserted}
 use Rattle.mask.specs.Mask.{mask_of}
@@ -67,7 +67,7 @@ pub invariant_worded : {qs : List Request} {n groups : ℕ} {B : Labels} {S : St
     → Worded S.table
 invariant_worded {n = n} inv =
     record {
-      rank = λ i h. omega (arith, rank_limit_lem inv.sound 16 (omega (arith, inv.sound.formed.limit)) i (omega (arith, inv.nodes)));
+      rank = λ i h. omega (arith, rank_at_most inv.sound 16 (omega (arith, inv.sound.formed.limit)) i (omega (arith, inv.nodes)));
       parent = λ i h. omega (arith, inv.sound.formed.limit, inv.sound.formed.inside i (omega (arith, inv.nodes)));
     }
 

@@ -14,7 +14,7 @@ pub fn charge_row(report: &mut [u32], request: u16, number: u32, answer: Answer)
     ensures { report.new ≡ stored report.old (4 * request)
         (charge (row_in report.old (4 * request)) number answer) }
 {
-    let at = 4 * (request as usize);
+    let at = 4 * usize::from(request);
     let row = Row {
         answer: report[at],
         first: report[at + 1],
@@ -28,7 +28,8 @@ pub fn charge_row(report: &mut [u32], request: u16, number: u32, answer: Answer)
     report[at + 3] = next.used;
 }
 
-// The linearization with an entry at its point, where a point is known (0 is none); the number of entries.
+// The linearization with an entry at its point, where a point is known; the number of entries. 0 is none, as in `Event` and in
+// both clauses.
 pub fn enter(linearization: &mut [u32], entries: u32, point: u32, request: u32) -> u32
     requires insertable { point ≢ 0 → Insertable linearization.old entries }
     requires entries_bound { entries < 4294967295 }

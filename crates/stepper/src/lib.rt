@@ -7,16 +7,15 @@ pub mod requests;
 pub mod waits;
 
 ghost use Rattle.std.specs.Prelude.{◌≡◌, true, false, cond, ◌-◌, ◌/◌, ◌%◌, ◌^◌, ◌≤◌, ◌<◌, eqb, ltb};
-ghost use Rattle.stepper.specs.Shown.{buffers, idle_done, used_done, requests_in, Grantable, Grants};
-ghost use Rattle.stepper.specs.Index.{Indexes};
+ghost use Rattle.stepper.specs.Shown.{buffers, idle_done, used_done, Grantable, Grants};
 ghost use Rattle.stepper.specs.Halves.{AlikeOutside};
 
 use crate::buffers::{charge_row, enter};
 use crate::heads::{ready_head, settled_head};
-use crate::waits::{first_due, renewed_head};
+use crate::waits::{Reported, frees};
 use job::MOST_HEADS;
 use process::{Event, Head};
-use reader::Checked;
+pub use requests::Indexed;
 use word::Word;
 
 // What a grant takes and leaves by value: the heads of every play. Those that a job does not have get no request and no grant.
@@ -25,8 +24,9 @@ pub type Heads = [Head; MOST_HEADS];
 // A half of the heads: as many as the machine has vector registers.
 const HALF: usize = 16;
 
-// What a grant adds to the tally: an idle grant, a swap that did not write, a link.
-#[derive(Clone, Copy)]
+// What a grant adds to the tally: an idle grant, a swap that did not write, a link. Flags and no cases: as cases an idle grant
+// takes more than twice as long (docs/DECISIONS.md, "Heads by value, and speed").
+#[derive(Clone, Copy, Debug, PartialEq, Eq)]
 pub struct Done {
     pub idle: bool,
     pub failed: bool,
@@ -34,7 +34,7 @@ pub struct Done {
 }
 
 // What a grant leaves beside the lent buffers: the heads, the number of entries, the work mask, and what it was.
-#[derive(Clone, Copy)]
+#[derive(Clone, Copy, Debug, PartialEq, Eq)]
 pub struct Granted {
     pub heads: Heads,
     pub entries: u32,
@@ -48,7 +48,7 @@ fn work_left(mask: u32, h: u32, next: u16, requests: u32) -> u32
     requires bit_in_mask { 2 ^ h ≤ mask }
     ensures { result ≡ cond (ltb next requests) mask (mask - 2 ^ h) }
 {
-    if (next as u32) < requests {
+    if u32::from(next) < requests {
         return mask;
     }
     mask::cleared(mask, h)
@@ -93,10 +93,8 @@ fn half_moved(before: Heads, after: Heads, first: usize) -> Heads
     ensures { result ≡ after }
 {
     let mut heads = before;
-    let mut k = first;
-    while k < first + HALF {
+    for k in first..first + HALF {
         heads[k] = after[k];
-        k += 1;
     }
     heads
 }
@@ -105,9 +103,7 @@ fn half_moved(before: Heads, after: Heads, first: usize) -> Heads
 // tells that is read anyway. The loop over the records stands here, and so does the choice of a half, because the array keeps
 // to its registers only so (docs/DECISIONS.md, "Heads by value, and speed").
 fn serve(
-    file: &[u8],
-    successors: &[u16],
-    counts: Checked,
+    indexed: Indexed,
     before: Heads,
     h: u32,
     number: u32,
@@ -117,39 +113,39 @@ fn serve(
     entries: u32,
     mask: u32,
 ) -> Granted
-    requires grantable { Grantable file.now counts h number (buffers before table.old report.old linearization.old entries mask) }
-    requires indexes { Indexes (requests_in file.now) successors.now }
+    requires grantable { Grantable indexed.job.file.now indexed.job.counts h number
+        (buffers before table.old report.old linearization.old entries mask) }
     requires bit_set { eqb (mask / 2 ^ h % 2) 1 ≡ true }
-    ensures { Grants file.now h number
+    ensures { Grants indexed.entry.job.file.now h number
         (buffers before table.old report.old linearization.old entries mask)
         (buffers result.heads table.new report.new linearization.new result.entries result.mask) result.done }
 {
+    let job = indexed.job;
     let mut heads = before;
     let at = h as usize;
     let found = heads[at];
     if process::is_waiting(found) {
         return idled(before, entries, mask);
     }
-    let head = ready_head(file, counts, found);
+    let head = ready_head(job, found);
     let moved = table::stepped(table, head, number);
     let event = moved.event;
     let answer = event.answer;
-    let next = settled_head(file, successors, counts, h, moved);
+    let next = settled_head(indexed, h, moved);
     heads[at] = next;
     let task = head.task;
     charge_row(report, task.request, number, answer);
-    let listed = enter(linearization, entries, event.point, task.request as u32);
-    let work = work_left(mask, h, next.task.request, counts.requests);
-    let mut k = first_due(counts, answer);
-    if k == MOST_HEADS {
+    let listed = enter(linearization, entries, event.point, u32::from(task.request));
+    let work = work_left(mask, h, next.task.request, job.counts.requests);
+    if !frees(job.counts, answer) {
         if at < HALF {
             return used(half_moved(before, heads, 0), listed, work, event);
         }
         return used(half_moved(before, heads, HALF), listed, work, event);
     }
-    while k < MOST_HEADS {
-        heads[k] = renewed_head(file, counts, report, heads[k], k as u32, h, task.request);
-        k += 1;
+    let reported = Reported { job, report };
+    for k in 0..MOST_HEADS {
+        heads[k] = reported.renewed_head(heads[k], k as u32, h, task.request);
     }
     used(heads, listed, work, event)
 }
@@ -157,9 +153,7 @@ fn serve(
 // One grant for head h, the grant of that number, on the buffers of an accepted file that show a state of the rules: they
 // then show the state after the rules' step. The mask is tested before the heads are touched, so that an idle grant is cheap.
 pub fn grant(
-    file: &[u8],
-    successors: &[u16],
-    counts: Checked,
+    indexed: Indexed,
     heads: Heads,
     h: u32,
     number: u32,
@@ -169,17 +163,15 @@ pub fn grant(
     entries: u32,
     mask: u32,
 ) -> Granted
-    requires grantable { Grantable file.now counts h number (buffers heads table.old report.old linearization.old entries mask) }
-    requires indexes { Indexes (requests_in file.now) successors.now }
-    ensures { Grants file.now h number
+    requires { Grantable indexed.job.file.now indexed.job.counts h number
+        (buffers heads table.old report.old linearization.old entries mask) }
+    ensures { Grants indexed.entry.job.file.now h number
         (buffers heads table.old report.old linearization.old entries mask)
         (buffers result.heads table.new report.new linearization.new result.entries result.mask) result.done }
 {
     if mask::is_set(mask, h) {
         return serve(
-            file,
-            successors,
-            counts,
+            indexed,
             heads,
             h,
             number,

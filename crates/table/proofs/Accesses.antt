@@ -2,8 +2,8 @@
 --
 --   Sees words access found words'   the access sees the node found in the words, and leaves the words words'
 --
--- Main laws: sees_idle, sees_load, swap_wrote and swap_failed.
-use mathlib.Core.Path.{◌≡◌, refl, sym, ap, ◌∙◌}
+-- Main laws: node_rank, a node that is read has a rank; swap_wrote and swap_failed, what a swap does.
+use mathlib.Core.Path.{◌≡◌, sym, ap, ◌∙◌}
 use mathlib.Core.Bool.{true, false}
 use mathlib.Core.List.{List, map}
 use Prim.Native.Nat.{ℕ, ◌<◌}
@@ -13,8 +13,8 @@ use Rattle.basics.proofs.Lists.{set_mapped}
 use Rattle.word.specs.declared.Node.{Node}
 use Rattle.word.specs.Word.{decode, encode, same, rank_of, rank_limit}
 use Rattle.process.specs.declared.Access.{Access}
-use Rattle.process.specs.declared.Access.TheVariants.{Idle, Load, Cas}
-use Rattle.rules.specs.Table.{no_node, at, seen, touched}
+use Rattle.process.specs.declared.Access.TheVariants.{Cas}
+use Rattle.rules.specs.Table.{at, seen, touched}
 use Rattle.table.specs.Touch.{Worded, Touchable}
 use Rattle.table.proofs.Words.{at_decoded, encode_words}
 
@@ -22,23 +22,15 @@ use Rattle.table.proofs.Words.{at_decoded, encode_words}
 abbrev pub Sees : List ℕ → Access → Node → List ℕ → Type 0
 Sees words access found words' = (found ≡ seen (map decode words) access) × (words' ≡ map encode (touched (map decode words) access))
 
-module _ (words : List ℕ) (worded : Worded (map decode words)) where
-  pub sees_idle : Sees words Idle no_node words
-  sees_idle = (refl, sym (encode_words words worded))
+module _ (words : List ℕ) (worded : Worded (map decode words)) (i : ℕ) (node : i < length (map decode words)) where
+  pub node_inside : i < length words
+  node_inside = omega (arith, node, length-map words decode)
 
-  module _ (i : ℕ) (node : i < length (map decode words)) where
-    pub node_inside : i < length words
-    node_inside = omega (arith, node, length-map words decode)
+  pub node_rank : rank_of (get_or words i 0) < rank_limit
+  node_rank = omega (arith, ap (λ v. v.rank) (at_decoded words i node_inside), worded.rank i node)
 
-    pub node_rank : rank_of (get_or words i 0) < rank_limit
-    node_rank = omega (arith, ap (λ v. v.rank) (at_decoded words i node_inside), worded.rank i node)
-
-    module _ (found : Node) where
-      pub node_found : found ≡ decode (get_or words i 0) → found ≡ at (map decode words) i
-      node_found read = read ∙ sym (at_decoded words i node_inside)
-
-      pub sees_load : found ≡ at (map decode words) i → Sees words (Load i) found words
-      sees_load read = (read, sym (encode_words words worded))
+  node_found : (found : Node) → found ≡ decode (get_or words i 0) → found ≡ at (map decode words) i
+  node_found found read = read ∙ sym (at_decoded words i node_inside)
 
 module _ (words : List ℕ) (i : ℕ) (expected new : Node) (able : Touchable (map decode words) (Cas i expected new))
     (found : Node) (read : found ≡ decode (get_or words i 0)) where

@@ -1,7 +1,6 @@
 -- The tables that are admitted: what the refusals leave, and an admitted table as words and as nodes.
 --
 --   Passed b m z     the test b failed, and the others, m, came to z
---   Looked words i   the words from node i on are looked at, and none of them is faulty
 --   Sane words i     the word of node i may stand in the table
 --
 -- Main laws: table_admitted, a table that is not refused is admitted; words_kept, its words are those of its nodes.
@@ -43,20 +42,10 @@ any_faulty_step words (suc k) l =
     let same : suc k - 1 ≡ k = omega arith in
     rw same refl
 
-pub record Looked (words : List ℕ) (i : ℕ) : Type 0 where
-  pub within : i ≤ length words
-  pub same : any_faulty words i ≡ any_faulty words (length words)
-
-module _ {words : List ℕ} {i : ℕ} (looked : Looked words i) where
-  pub looked_faulty : 0 < i → is_faulty words (i - 1) ≡ true → true ≡ any_faulty words (length words)
-  looked_faulty l e = sym (any_faulty_step words i l ∙ rw e refl) ∙ looked.same
-
-  pub looked_on : 0 < i → is_faulty words (i - 1) ≡ false → Looked words (i - 1)
-  looked_on l e =
-      record { within = omega (arith, looked.within); same = sym (any_faulty_step words i l ∙ rw e refl) ∙ looked.same }
-
-  pub looked_all : 0 ≡ i → false ≡ any_faulty words (length words)
-  looked_all none = ap (any_faulty words) none ∙ looked.same
+-- the word looked at is not faulty, and those before it come to what all do
+pub passed_over : (words : List ℕ) (i : ℕ) (all : Bool) → any_faulty words i ≡ all → 0 < i → is_faulty words (i - 1) ≡ false
+    → any_faulty words (i - 1) ≡ all
+passed_over words i all same l e = sym (any_faulty_step words i l ∙ rw e refl) ∙ same
 
 none_faulty : (words : List ℕ) (k : ℕ) → any_faulty words k ≡ false → (i : ℕ) → i < k → is_faulty words i ≡ false
 none_faulty words zero e i l = absurd (omega arith)

@@ -1,9 +1,8 @@
--- The laws of a table: its words and its nodes, those that are admitted, the walk to a root; one access, where it leads, and
--- why a head's access is inside.
+-- The laws of a table: its words and its nodes, those that are admitted, the walk to a root; one access, and why a head's
+-- access is inside.
 pub mod Words
 pub mod Admitted
 pub mod Groups
 mod Roots
 mod Accesses
-mod Leads
 pub mod Within

@@ -3,7 +3,7 @@
 --   height words i                how far the key of node i is below the bound
 --   Walking words node at above   the walk from node is at a node whose word, just read, names the parent above
 --
--- Main laws: of a walk where its loop starts, goes on and ends.
+-- Main laws: of a walk where its loop goes on and ends.
 use mathlib.Core.Path.{◌≡◌, sym, ap, ◌∙◌, subst}
 use mathlib.Core.Logic.{◌≢◌}
 use mathlib.Core.List.{List, map}
@@ -24,10 +24,6 @@ pub record Walking (words : List ℕ) (node at above : ℕ) : Type 0 where
   pub read : above ≡ parent_of (word_at words at)
   -- where the way leads from here, it leads from the start
   pub way : (end : ℕ) → Leads (parent (map decode words)) at end → Leads (parent (map decode words)) node end
-
-pub walk_starts : (words : List ℕ) (node above : ℕ) → node < length words → above ≡ parent_of (word_at words node)
-    → Walking words node node above
-walk_starts words node above inside read = record { inside = inside; read = read; way = λ end way. way }
 
 module _ {words : List ℕ} {node at above : ℕ} (admitted : Admitted (length words) (map decode words))
     (walking : Walking words node at above) where

@@ -24,7 +24,7 @@ fn load(table: &[Word], node: u16) -> Node
     requires { Touchable (map decode table.now) (Load node) }
     ensures { result ≡ seen (map decode table.now) (Load node) }
 {
-    word::decoded(table[node as usize])
+    word::decoded(table[usize::from(node)])
 }
 
 // A compare-and-swap: it writes only if the word equals the expected one, and tells the node that stood there.
@@ -34,10 +34,10 @@ fn swap(table: &mut [Word], node: u16, expected: Node, new: Node) -> Node
     ensures sees { result ≡ seen (map decode table.old) (Cas node expected new) }
     ensures leaves { table.new ≡ map encode (touched (map decode table.old) (Cas node expected new)) }
 {
-    let at = node as usize;
+    let at = usize::from(node);
     let found = word::decoded(table[at]);
     if word::is_same(found, expected) {
-        table[at] = word::encoded(new);
+        table[at] = Word::from(new);
     }
     found
 }
@@ -100,7 +100,7 @@ fn walk(table: &mut [Word], task: Task, errand: Errand, step: Step, number: u32)
 }
 
 // One grant of a head: the one access of its stage, and where that leads. In a grant no other function reads or writes
-// the table.
+// the table. Its cases, and those of `walk`, are document 01's, in one function each: a grant's speed is theirs.
 #[tactic(auto, using(crate::proofs::Words::round_trip), unfolding(process::specs::Access::access_of, process::specs::Advance::advance_of))]
 pub fn stepped(table: &mut [Word], head: Head, number: u32) -> Advanced
     requires touchable { Touchable (map decode table.old) (access_of head) }
@@ -108,11 +108,10 @@ pub fn stepped(table: &mut [Word], head: Head, number: u32) -> Advanced
     ensures leads { result ≡ advance_of head (seen (map decode table.old) (access_of head)) number }
     ensures leaves { table.new ≡ map encode (touched (map decode table.old) (access_of head)) }
 {
-    let stage = head.stage;
     let task = head.task;
     let x = task.x;
     let y = task.y;
-    match stage {
+    match head.stage {
         Stage::Resting => go_on(task, Stage::Resting),
         Stage::Find(errand, step) => walk(table, task, errand, step, number),
         Stage::RereadX(point) => reread(task, point, load(table, x)),

@@ -26,14 +26,6 @@ sets_counted ys l i h =
 pub wrote_nothing : (at : ℕ) (out : List ℕ) → at ≤ last_position → length out ≤ last_position → Wrote [] at out out at
 wrote_nothing at out h k = record { counted = omega arith; stored = refl; ended = k }
 
--- a byte past the end is counted and dropped
-pub wrote_past : (byte at : ℕ) (out : List ℕ) {next : ℕ}
-    → length out ≤ at
-    → length out ≤ last_position
-    → next ≡ min (at + 1) last_position
-    → Wrote (byte ∷ []) at out out next
-wrote_past byte at out h k e = record { counted = e; stored = sym (set_out out at byte h); ended = k }
-
 -- one text and then another is the two in a row
 pub wrote_append : {xs ys before between after : List ℕ} {at middle next : ℕ}
     → Wrote xs at before between middle
@@ -51,9 +43,6 @@ wrote_append {xs} {ys} {before} {at = at} {middle} u v =
           ∙ sets_append xs ys before at (at + length xs) refl;
       ended = u.ended;
     }
-
-pub wrote_length : {bytes before after : List ℕ} {at next : ℕ} → Wrote bytes at before after next → length after ≡ length before
-wrote_length {bytes} {before} {at = at} w = ap length w.stored ∙ length-sets before at bytes
 
 -- a text at the start of a buffer that it fits into: the text, then what was there
 pub wrote_whole : {bytes before after : List ℕ} {next : ℕ}
@@ -87,6 +76,3 @@ module _ {done : ℕ → List ℕ} {n i at : ℕ} {before after : List ℕ} {nex
         within = omega arith;
         wrote = subst (λ (bytes : List ℕ). Wrote bytes at before later past) (sym e) (wrote_append t.wrote w);
       }
-
-  pub through_end : n ≤ i → Wrote (done n) at before after next
-  through_end l = let z : i ≡ n = omega (arith, t.within) in subst (λ (k : ℕ). Wrote (done k) at before after next) z t.wrote

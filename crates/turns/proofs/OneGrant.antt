@@ -16,7 +16,7 @@ use Rattle.stepper.proofs.Reached.{after_next, playing_admitted}
 use Rattle.turns.specs.declared.Cursor.{Cursor}
 use Rattle.turns.specs.declared.Progress.{Progress}
 use Rattle.turns.specs.Turns.{runs_of, schedule_in, state_at, opened_of, remaining, Openable, buffers_of, Turnable, Turned}
-use Rattle.turns.proofs.Runs.{runs_some, grants_few, at_openable, opened_some, opened_head, opened_rest}
+use Rattle.turns.proofs.Runs.{runs_some, at_openable, opened_some, opened_head, opened_rest}
 
 module _ {file : List ℕ} {counts : Checked} {p : Progress} {table report linearization : List ℕ}
     (t : Turnable file counts p table report linearization) where
@@ -31,9 +31,6 @@ module _ {file : List ℕ} {counts : Checked} {p : Progress} {table report linea
 
   pub turn_openable : Openable (runs_of file) p.cursor
   turn_openable = at_openable (runs_of file) (runs_some t.playing) p.cursor head (drop (suc p.number) schedule) before_grant
-
-  pub turn_number : p.number < 2088195
-  turn_number = omega (arith, t.more, grants_few t.playing)
 
   module _ (c : Cursor) (is : c ≡ opened_of (runs_of file) p.cursor) where
     pub turn_left : 0 < c.left

@@ -1,7 +1,7 @@
 -- The cursor over the runs of a file: it is at the next grant of the schedule.
 --
 --   At rs c h rest   the cursor c is before a grant for head h, with the grants `rest` behind it
-use mathlib.Core.Path.{◌≡◌, refl, sym, ap, ◌∙◌}
+use mathlib.Core.Path.{◌≡◌, sym, ap, ◌∙◌}
 use mathlib.Core.Logic.{◌≢◌}
 use mathlib.Core.List.{List, [], ◌∷◌, ◌++◌}
 use Prim.Native.Nat.{ℕ, zero, suc, ◌+◌, ◌-◌, ◌≤◌, ◌<◌}
@@ -86,12 +86,3 @@ module _ (rs : List Run) (some : (i : ℕ) → i < length rs → 0 < (get_or rs 
 
   pub opened_rest : remaining rs (record { next = o.next; head = o.head; left = o.left - 1 }) ≡ rest
   opened_rest = ap (λ l. drop 1 l) opened_cons
-
--- ---- opening a run
-
-pub opens : (rs : List Run) (c : Cursor) (r : Run) → c.left ≡ 0 → r ≡ get_or rs c.next no_run
-    → record { next = c.next + 1; head = r.head; left = r.count } ≡ opened_of rs c
-opens rs c r z e = ap (λ s. record { next = c.next + 1; head = s.head; left = s.count }) e ∙ sym (rw (eq-eqb c.left 0 z) refl)
-
-pub stays_open : (rs : List Run) (c : Cursor) → c.left ≢ 0 → c ≡ opened_of rs c
-stays_open rs c d = sym (rw (ne_eqb c.left 0 d) refl)

@@ -2,20 +2,17 @@
 #![tactic(auto)]
 
 ghost use Rattle.std.specs.Prelude.{◌≡◌, ◌<◌};
-ghost use Rattle.reader.specs.Reader.{Playing};
 ghost use Rattle.rules.specs.Step.{plus};
-ghost use Rattle.stepper.specs.Shown.{requests_in};
-ghost use Rattle.stepper.specs.Index.{Indexes};
 ghost use Rattle.turns.specs.Turns.{Addable, added_of, counted_of, runs_of, opened_of, taken_of, Openable};
 ghost use Rattle.turns.specs.Turns.{buffers_of, Turnable, Turns, first_progress, first_tally};
 
 use job::Tally;
-use reader::Checked;
-use stepper::{Done, Heads, grant};
+use reader::Accepted;
+use stepper::{Done, Heads, Indexed, grant};
 use word::Word;
 
 // Where a play stands among the runs of the file: the next run, and the head and the grants left of the one under way.
-#[derive(Clone, Copy)]
+#[derive(Clone, Copy, Debug, PartialEq, Eq)]
 pub struct Cursor {
     pub next: u32,
     pub head: u32,
@@ -23,7 +20,7 @@ pub struct Cursor {
 }
 
 // What a play carries from grant to grant beside the lent buffers; `done` is what the last grant was.
-#[derive(Clone, Copy)]
+#[derive(Clone, Copy, Debug, PartialEq, Eq)]
 pub struct Progress {
     pub heads: Heads,
     pub entries: u32,
@@ -38,10 +35,7 @@ fn more(number: u32, flag: bool) -> u32
     requires { number < 4294967295 }
     ensures { result ≡ plus flag number }
 {
-    if flag {
-        return number + 1;
-    }
-    number
+    number + u32::from(flag)
 }
 
 // The tally after a grant that was `done`, and left so many heads with work.
@@ -66,17 +60,16 @@ pub fn counted(tally: Tally, progress: Progress) -> Tally
 }
 
 // The cursor with a grant left: at the next run where the one under way has none.
-fn open_run(file: &[u8], counts: Checked, cursor: Cursor) -> Cursor
-    requires playing { Playing file.now counts }
-    requires openable { Openable (runs_of file.now) cursor }
-    ensures { result ≡ opened_of (runs_of file.now) cursor }
+fn open_run(job: Accepted, cursor: Cursor) -> Cursor
+    requires { Openable (runs_of job.file.now) cursor }
+    ensures { result ≡ opened_of (runs_of job.entry.file.now) cursor }
 {
     if cursor.left == 0 {
-        let run = reader::run_at(file, counts, cursor.next);
+        let run = job.run(cursor.next);
         return Cursor {
             next: cursor.next + 1,
-            head: run.head as u32,
-            left: run.count as u32,
+            head: u32::from(run.head),
+            left: u32::from(run.count),
         };
     }
     cursor
@@ -88,35 +81,30 @@ fn taken(cursor: Cursor) -> Cursor
     ensures { result ≡ taken_of cursor }
 {
     Cursor {
-        next: cursor.next,
-        head: cursor.head,
         left: cursor.left - 1,
+        ..cursor
     }
 }
 
-// One grant: the next of the schedule.
+// One grant: the next of the schedule. The heads get a name each time, since the check of borrows covers no array that goes
+// straight from a field into a call or a literal.
 pub fn turn(
-    file: &[u8],
-    successors: &[u16],
-    counts: Checked,
+    indexed: Indexed,
     progress: Progress,
     table: &mut [Word],
     report: &mut [u32],
     linearization: &mut [u32],
 ) -> Progress
-    requires turnable { Turnable file.now counts progress table.old report.old linearization.old }
-    requires indexes { Indexes (requests_in file.now) successors.now }
-    ensures { Turns file.now progress result
+    requires { Turnable indexed.job.file.now indexed.job.counts progress table.old report.old linearization.old }
+    ensures { Turns indexed.entry.job.file.now progress result
         (buffers_of progress table.old report.old linearization.old)
         (buffers_of result table.new report.new linearization.new) }
 {
-    let cursor = open_run(file, counts, progress.cursor);
+    let cursor = open_run(indexed.job, progress.cursor);
     let number = progress.number + 1;
     let heads = progress.heads;
     let granted = grant(
-        file,
-        successors,
-        counts,
+        indexed,
         heads,
         cursor.head,
         number,
@@ -126,15 +114,14 @@ pub fn turn(
         progress.entries,
         progress.mask,
     );
-    let next = granted.heads;
-    let done = granted.done;
+    let heads = granted.heads;
     Progress {
-        heads: next,
+        heads,
         entries: granted.entries,
         mask: granted.mask,
         number,
         cursor: taken(cursor),
-        done,
+        done: granted.done,
     }
 }
 

@@ -11,13 +11,14 @@ pub type Word = u32;
 pub const MOST_RANK: u32 = 12;
 
 // What a node's word says: its rank, and its parent (itself for a root).
-#[derive(Clone, Copy)]
+#[derive(Clone, Copy, Debug, PartialEq, Eq)]
 pub struct Node {
     pub rank: u8,
     pub parent: u16,
 }
 
 // The rank in a word.
+#[tactic(auto, unfolding(crate::specs::Word::rank_of))]
 pub fn rank(word: Word) -> u32
     ensures { result ≡ rank_of word }
 {
@@ -25,6 +26,7 @@ pub fn rank(word: Word) -> u32
 }
 
 // The parent in a word.
+#[tactic(auto, unfolding(crate::specs::Word::parent_of))]
 pub fn parent(word: Word) -> u32
     ensures { result ≡ parent_of word }
 {
@@ -32,6 +34,7 @@ pub fn parent(word: Word) -> u32
 }
 
 // The node of a word whose rank is within the limit.
+#[tactic(auto, unfolding(crate::specs::Word::rank_of, crate::specs::Word::parent_of))]
 pub fn decoded(word: Word) -> Node
     requires { rank_of word < rank_limit }
     ensures { result ≡ decode word }
@@ -43,37 +46,37 @@ pub fn decoded(word: Word) -> Node
 }
 
 // The word of a node.
-pub fn encoded(node: Node) -> Word
-    ensures { result ≡ encode node }
-{
-    (node.rank as Word) * 65536 + (node.parent as Word)
+impl From<Node> for Word {
+    ghost from_gives = { λ node word. word ≡ encode node };
+
+    #[tactic(auto, unfolding(crate::specs::Word::encode))]
+    fn from(node: Node) -> Word {
+        Word::from(node.rank) * 65536 + Word::from(node.parent)
+    }
 }
 
 // Whether two nodes have the same rank and the same parent: what a compare-and-swap compares.
 pub fn is_same(a: Node, b: Node) -> bool
     ensures { result ≡ same a b }
 {
-    if a.rank == b.rank {
-        a.parent == b.parent
-    } else {
-        false
-    }
+    a == b
 }
 
 // Whether node a of rank a_rank comes before node b of rank b_rank: the order of nodes.
 pub fn stands_before(a_rank: u32, a: u32, b_rank: u32, b: u32) -> bool
     ensures { result ≡ before a_rank a b_rank b }
 {
-    if a_rank == b_rank {
-        a < b
-    } else {
-        a_rank < b_rank
-    }
+    (a_rank, a) < (b_rank, b)
 }
 
 // The same order on a rank and a node as a head has them.
 pub fn comes_before(a_rank: u8, a: u16, b_rank: u8, b: u16) -> bool
     ensures { result ≡ before a_rank a b_rank b }
 {
-    stands_before(a_rank as u32, a as u32, b_rank as u32, b as u32)
+    stands_before(
+        u32::from(a_rank),
+        u32::from(a),
+        u32::from(b_rank),
+        u32::from(b),
+    )
 }

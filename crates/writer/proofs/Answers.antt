@@ -1,7 +1,6 @@
 -- The writer's answer, test by test, and what it says that nothing is refused.
 --
 --   numbers_refusal d   the refusal of the numbers of a draft, before the length of its file
---   rights_refuse, count_refuse, each_refuses, pairs_refuse, grants_refuse   which it is, once what stands before is not refused
 --   length_file         the length of a draft's file
 --   answer_numbers, answer_length, answer_buffer, answer_written   the four ways that a check ends
 --   Ready d room        what is known of a draft that is not refused
@@ -18,7 +17,7 @@ use Rattle.jobfile.proofs.Drafts.{complete_given}
 use Rattle.jobfile.proofs.Places.{length_written}
 use Rattle.writer.specs.Write.{buffer_refusal, write_refusal, refused, answer}
 use Rattle.writer.proofs.Rights.{rights_count, rights_fit}
-use Rattle.writer.proofs.Requests.{fields_count, count_passes, count_refuses, each_fits}
+use Rattle.writer.proofs.Requests.{fields_count, each_fits}
 use Rattle.writer.proofs.Pairs.{pairs_count, pairs_fit}
 
 -- The number of rights, then each of them.
@@ -30,6 +29,7 @@ rights_refusal d =
 abbrev pub requests_refusal : Draft → ℕ
 requests_refusal d = each_refusal d.nodes d.heads (rights_given d.rights) (fields_of d.requests)
 
+-- The rights, then the count of the requests, then each request, then each pair, then each grant.
 abbrev pub numbers_refusal : Draft → ℕ
 numbers_refusal d =
     sizes_refusal d.nodes d.heads
@@ -38,29 +38,6 @@ numbers_refusal d =
     then requests_refusal d
     then pairs_refusal (length (fields_of d.requests)) no_pair (pairs_of d.waits)
     then grants_refusal d.heads d.schedule
-
--- The rights, then the count of the requests, then each request, then each pair, then each grant.
-module _ (d : Draft) (number : ℕ) (sizes : sizes_refusal d.nodes d.heads ≡ 0) where
-  pub rights_refuse : number ≡ rights_refusal d → (number ≡ 0 → ⊥) → number ≡ numbers_refusal d
-  rights_refuse told some = rw (sizes, ← told, ne_eqb number 0 some)
-
-  module _ (rights : rights_refusal d ≡ 0) where
-    pub count_refuse : most_requests < length d.requests / 4 → 9 ≡ numbers_refusal d
-    count_refuse many = rw (sizes, rights, count_refuses d.requests many)
-
-    module _ (few : length d.requests / 4 ≤ most_requests) where
-      pub each_refuses : number ≡ requests_refusal d → (number ≡ 0 → ⊥) → number ≡ numbers_refusal d
-      each_refuses told some = rw (sizes, rights, count_passes d.requests few, ← told, ne_eqb number 0 some)
-
-      module _ (each : requests_refusal d ≡ 0) where
-        pub pairs_refuse : number ≡ pairs_refusal (length d.requests / 4) no_pair (pairs_of d.waits) → (number ≡ 0 → ⊥)
-            → number ≡ numbers_refusal d
-        pairs_refuse told some =
-            rw (sizes, rights, count_passes d.requests few, each, fields_count, ← told, ne_eqb number 0 some)
-
-        pub grants_refuse : pairs_refusal (length d.requests / 4) no_pair (pairs_of d.waits) ≡ 0
-            → number ≡ grants_refusal d.heads d.schedule → number ≡ numbers_refusal d
-        grants_refuse pairs told = rw (sizes, rights, count_passes d.requests few, each, fields_count, pairs) told
 
 pub length_file : (d : Draft)
     → length (written (job_of d))
@@ -168,5 +145,5 @@ ready d room passes =
       enough = ltb-false room (length (written (job_of d))) (passed (ltb room (length (written (job_of d)))) 13 0 a.second).test;
     }
 
--- What the refusals of `checks::checked` are shown by.
+-- What the refusals of `checks::Draft::check` are shown by.
 pub ruleset checked_lemmas = (length_file, few_rights, few_requests, answer_numbers, answer_length)

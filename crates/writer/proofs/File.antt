@@ -71,13 +71,13 @@ file_stored d out headed entitled listed paired scheduled closed asked pairs run
     ∙ ap (λ t. sets out 0 (body j ++ close_bytes t)) before
     ∙ ap (sets out 0) (body_closed j)
 
-answer_number_lem : (d : Draft) (room : ℕ) → (answer d room).number ≡ write_refusal d room
+refusal_told : (d : Draft) (room : ℕ) → (answer d room).number ≡ write_refusal d room
 unfolding answer
-answer_number_lem d room = split (eqb (write_refusal d room) 0) (λ e. rw e (sym (eqb-true (write_refusal d room) 0 e))) (λ e. rw e)
+refusal_told d room = split (eqb (write_refusal d room) 0) (λ e. rw e (sym (eqb-true (write_refusal d room) 0 e))) (λ e. rw e)
 
 module _ (d : Draft) (out : List ℕ) (told : Written) (is : told ≡ answer d (length out)) where
   told_number : told.number ≡ write_refusal d (length out)
-  told_number = ap (λ w. w.number) is ∙ answer_number_lem d (length out)
+  told_number = ap (λ w. w.number) is ∙ refusal_told d (length out)
 
   pub none_refused : told.number ≡ 0 → write_refusal d (length out) ≡ 0
   none_refused none = sym told_number ∙ none
@@ -100,7 +100,7 @@ pub left_means : (d : Draft) (out : List ℕ) → (writes d out).answer.number �
 unfolding writes answer write_refusal
 left_means d out none =
     let file = written (job_of d) in
-    let passes = sym (unfold write_refusal in answer_number_lem d (length out)) ∙ none in
+    let passes = sym (unfold write_refusal in refusal_told d (length out)) ∙ none in
     let draft = (through (draft_refusal d) _ passes).first in
     rw (passes, take_at file (drop (length file) out) (length file) refl) (written_draft d draft)
 

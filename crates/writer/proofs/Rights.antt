@@ -1,42 +1,24 @@
 -- The rights that the writer is given (02, A5): how they stand in a list of numbers, three each.
 --
---   given_rights        rights in a list of numbers
 --   rights_count        how many rights there are
---   right_given, right_absent   the right of a head: its three numbers, or every right
+--   right_in r          the right of a row of three numbers
+--   rights_of_rows      the rights of a list of numbers are those of its rows
+--   right_given, right_absent   the right of a head: that of its row, or every right
+--   next_right, right_end   the refusal of the rows from one on, and behind the last
 --   rights_fit          rights that are not refused fit the largest job
 --   Narrow r            the numbers of the right r fit their bytes
 --   rights_narrow       those of the largest job's rights do
-use Rattle.std.proofs.Common.{◌≡◌, ℕ, zero, suc, ◌+◌, ◌*◌, ◌/◌, ◌<◌, ◌≤◌, List, [], ◌∷◌, length, get_or, drop, sym, refl, ap, ◌∙◌}
-use Rattle.std.proofs.Common.{add-zero, arith, length-drop, get_or-drop, drop-drop, pow_mono}
-use lib.ListN.{get_or-eq_default}
+use Rattle.std.proofs.Common.{◌≡◌, ℕ, suc, ◌+◌, ◌*◌, ◌/◌, ◌<◌, ◌≤◌, List, [], ◌∷◌, map, length, get_or, drop, sym, refl, ap}
+use Rattle.std.proofs.Common.{◌∙◌, drop_of_length-le, arith, pow_mono}
+use Rattle.std.proofs.lemmas.List.{at_drop_more, get_or-map}
+use Rattle.std.specs.Simd.{first_chunks}
+use lib.ListN.{get_or-eq_default, length-map}
 use Rattle.job.specs.declared.Right.{Right}
 use Rattle.job.specs.Job.{most_heads, every_right, right_of}
+use Rattle.jobfile.specs.Format.{◌then◌, first_refusal, right_refusal}
 use Rattle.jobfile.specs.Draft.{rights_given, each_right_refusal}
 use Rattle.jobfile.proofs.Rights.{holds_checked, checked_holds, complete_few}
 use Rattle.jobfile.proofs.Drafts.{complete_given}
-use Rattle.writer.specs.Write.{right_from}
-use Rattle.writer.proofs.Lists.{Given}
-
-rights_three : (t : List ℕ) → 3 ≤ length t → rights_given t ≡ right_from t 0 ∷ rights_given (drop 3 t)
-rights_three [] l = absurd (omega arith)
-rights_three (h ∷ []) l = absurd (omega arith)
-rights_three (h ∷ r ∷ []) l = absurd (omega arith)
-rights_three (h ∷ r ∷ m ∷ t) l = refl
-
-rights_few : (t : List ℕ) → length t < 3 → rights_given t ≡ []
-rights_few [] l = refl
-rights_few (h ∷ []) l = refl
-rights_few (h ∷ r ∷ []) l = refl
-rights_few (h ∷ r ∷ m ∷ t) l = absurd (omega arith)
-
-pub rights_next : (l : List ℕ) (at : ℕ) → at + 3 ≤ length l → rights_given (drop at l) ≡ right_from l at ∷ rights_given (drop (at + 3) l)
-rights_next l at room = rights_three (drop at l) (rw length-drop (omega arith)) ∙ simp (get_or-drop, drop-drop, add-zero)
-
-pub rights_end : (l : List ℕ) (at : ℕ) → length l < at + 3 → rights_given (drop at l) ≡ []
-rights_end l at short = rights_few (drop at l) (rw length-drop (omega arith))
-
-abbrev pub given_rights : Given Right
-given_rights = record { width = 3; all = rights_given; from = right_from; next = rights_next; end = rights_end }
 
 pub rights_count : (l : List ℕ) → length (rights_given l) ≡ length l / 3
 rights_count [] = refl
@@ -44,24 +26,8 @@ rights_count (h ∷ []) = omega arith
 rights_count (h ∷ r ∷ []) = omega arith
 rights_count (h ∷ r ∷ m ∷ l) = omega (arith, rights_count l)
 
--- right i of those from a position on
-right_from_lem : (l : List ℕ) (i at : ℕ) (none : Right) → at + 3 * i + 3 ≤ length l
-    → get_or (rights_given (drop at l)) i none ≡ right_from l (at + 3 * i)
-right_from_lem l zero at none room =
-    let first : at + 3 * 0 ≡ at = omega arith in
-    rw first (ap (λ rs. get_or rs 0 none) (rights_next l at (omega arith)))
-right_from_lem l (suc i) at none room =
-    let along : at + 3 * suc i ≡ at + 3 + 3 * i = omega arith in
-    rw along (ap (λ rs. get_or rs (suc i) none) (rights_next l at (omega arith)) ∙ right_from_lem l i (at + 3) none (omega arith))
-
-module _ (l : List ℕ) (head : ℕ) where
-  pub right_given : 3 * head + 3 ≤ length l → right_from l (3 * head) ≡ right_of (rights_given l) head
-  right_given room =
-      let first : 0 + 3 * head ≡ 3 * head = omega arith in
-      sym (rw first at (right_from_lem l head 0 (every_right head) (omega arith)))
-
-  pub right_absent : length l < 3 * head + 3 → every_right head ≡ right_of (rights_given l) head
-  right_absent short = sym (get_or-eq_default (rights_given l) (every_right head) (omega (arith, rights_count l)))
+pub right_absent : (l : List ℕ) (head : ℕ) → length l < 3 * head + 3 → every_right head ≡ right_of (rights_given l) head
+right_absent l head short = sym (get_or-eq_default (rights_given l) (every_right head) (omega (arith, rights_count l)))
 
 pub record Narrow (r : Right) : Type 0 where
   pub head : r.head < most_heads
@@ -81,5 +47,41 @@ rights_fit heads rs few e =
     let h = holds_checked heads rs e k none l in
     record { head = h.head; some = h.some; few = h.few; sight = omega (arith, h.sight, pow_mono few) })
 
--- What `checks::rights_refusal` is shown by.
+-- the right of a row of three numbers
+abbrev pub right_in : List ℕ → Right
+right_in r = record { head = get_or r 0 0; rights = get_or r 1 0; sight = get_or r 2 0 }
+
+-- The rights of a list of numbers are those of its rows.
+pub rights_of_rows : (l : List ℕ) → map right_in (first_chunks 3 (length l / 3) l) ≡ rights_given l
+rights_of_rows [] = refl
+rights_of_rows (h ∷ []) = refl
+rights_of_rows (h ∷ r ∷ []) = refl
+rights_of_rows (h ∷ r ∷ m ∷ l) =
+    let one : length (h ∷ r ∷ m ∷ l) / 3 ≡ suc (length l / 3) = omega arith in
+    rw one (ap (λ t. record { head = h; rights = r; sight = m } ∷ t) (rights_of_rows l))
+
+-- The right of a head is that of its row.
+pub right_given : (l : List ℕ) (head : ℕ) (row : List ℕ) → head < length l / 3 → row ≡ get_or (first_chunks 3 (length l / 3) l) head row
+    → right_in row ≡ right_of (rights_given l) head
+right_given l head row among is =
+    let rows = first_chunks 3 (length l / 3) l in
+    let all = rights_of_rows l in
+    let within : head < length rows = omega (arith, rights_count l, ap length all, length-map rows right_in) in
+    ap right_in is ∙ sym (get_or-map right_in rows head row (every_right head) within) ∙ ap (λ rs. right_of rs head) all
+
+-- The refusal of the rows from one on: that of its right, or of those behind it.
+pub next_right : (heads number : ℕ) (rows : List (List ℕ)) (i : ℕ) → i < length rows
+    → each_right_refusal heads number (map right_in (drop i rows))
+    ≡ (right_refusal heads number (right_in (get_or rows i []))
+    then each_right_refusal heads (number + 1) (map right_in (drop (i + 1) rows)))
+unfolding first_refusal
+next_right heads number rows i l = at_drop_more (λ rs. each_right_refusal heads number (map right_in rs)) rows i [] l
+
+-- and there is none behind the last.
+pub right_end : (heads number : ℕ) (rows : List (List ℕ)) (i n : ℕ) → each_right_refusal heads number (map right_in (drop i rows)) ≡ n
+    → length rows ≤ i → 0 ≡ n
+unfolding first_refusal
+right_end heads number rows i n is done = rw (drop_of_length-le rows {i = i} done) at is
+
+-- What `checks::check_rights` is shown by.
 pub ruleset rights_told = (complete_few, complete_given, rights_count)

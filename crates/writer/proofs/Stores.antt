@@ -2,33 +2,34 @@
 --
 --   sets_after, stored_on   stores that follow on others are one row of stores
 --   sets_front          what stores from the front leave
---   record_stored       four stores make a record of a mark, two bytes and two words
---   request_written     which is a request's
+--   request_written     a mark, two bytes and two words are a request's record
 --   Storing k out₀ start all left at out   of the records `all` from the byte start on, those before `left` are stored
 --   Front out vs at after   the numbers vs, up to the byte at, stand in front of the buffer out, which is then after
 --   front_on            records that are stored behind them stand in front too
---   RequestsStored out₀ start l i at out   the requests before the position i are stored, up to the byte at
---   ListStored k g Fits out₀ start l i at out   the rights or the pairs before the position i are stored, up to the byte at
+--   rights_in_rows, requests_in_rows, pairs_in_rows   what is not refused fits its record's fields, row by row
 --   RunsStored out₀ start gs i at out      the runs of the grants before the i-th are stored, up to the byte at
-use Rattle.std.proofs.Common.{◌≡◌, ℕ, suc, ◌+◌, ◌*◌, ◌<◌, ◌≤◌, List, [], ◌∷◌, ◌++◌, map, length, get_or, drop, set, sym, ap, ◌∙◌}
-use Rattle.std.proofs.Common.{add-zero, mul-zero, mul-suc, arith, length-append, drop_of_length-le}
+use Rattle.std.proofs.Common.{◌≡◌, ℕ, zero, suc, ◌+◌, ◌*◌, ◌<◌, ◌≤◌, List, [], ◌∷◌, ◌++◌, map, length, get_or, drop, set, sym, ap}
+use Rattle.std.proofs.Common.{◌∙◌, add-zero, mul-zero, mul-suc, arith, length-append, drop_of_length-le}
+use Rattle.std.proofs.lemmas.List.{get_or-map}
 use lib.ListN.{length-map}
 use lib.Seq.{sets, sets-eq, length-sets}
-use Rattle.job.specs.declared.Request.{Request}
+use Rattle.job.specs.declared.Wait.{Wait}
+use Rattle.job.specs.declared.Right.{Right}
 use Rattle.jobfile.specs.declared.Fields.{Fields}
-use Rattle.jobfile.specs.Format.{request_mark, request_size, word_bytes, first_refusal, fields_refusal, asked_refusal, request_of}
-use Rattle.job.specs.Job.{most_nodes, most_heads}
+use Rattle.jobfile.specs.Format.{request_mark, word_bytes, first_refusal, fields_refusal, asked_refusal, request_of}
+use Rattle.jobfile.specs.Format.{no_pair}
+use Rattle.job.specs.Job.{most_nodes, most_heads, most_requests, every_right}
 use Rattle.jobfile.specs.Written.{records_bytes, request_bytes, longest_runs}
-use Rattle.jobfile.specs.Draft.{fields_of, each_refusal}
+use Rattle.jobfile.specs.Draft.{each_right_refusal, each_refusal, pairs_refusal}
+use Rattle.jobfile.specs.Admitted.{Pairs}
 use Rattle.jobfile.proofs.KindNumbers.{kind_written}
-use Rattle.jobfile.proofs.Refusals.{Both, through, fit}
+use Rattle.jobfile.proofs.Refusals.{through, fit}
+use Rattle.jobfile.proofs.Pairs.{rising_each, rising_checked}
 use Rattle.jobfile.proofs.Records.{Layout, length_records}
-use Rattle.jobfile.proofs.Layouts.{request_layout, run_layout}
-use Rattle.writer.specs.Write.{fields_from}
-use Rattle.writer.proofs.Lists.{Given}
-use Rattle.writer.proofs.Rights.{rights_end, rights_narrow}
-use Rattle.writer.proofs.Requests.{fields_next, fields_end}
-use Rattle.writer.proofs.Pairs.{pairs_end}
+use Rattle.jobfile.proofs.Layouts.{run_layout}
+use Rattle.writer.proofs.Rights.{right_in, Narrow, rights_narrow}
+use Rattle.writer.proofs.Requests.{fields_in}
+use Rattle.writer.proofs.Pairs.{pair_in}
 
 pub sets_after : (l vs ws : List ℕ) (i k : ℕ) → k ≡ i + length vs → sets (sets l i vs) k ws ≡ sets l i (vs ++ ws)
 sets_after l [] ws i k e = let z : k ≡ i = omega arith in rw z
@@ -40,15 +41,6 @@ stored_on l before after vs ws i k seam first second = second ∙ ap (λ (t : Li
 
 pub sets_front : (l vs : List ℕ) → length vs ≤ length l → sets l 0 vs ≡ vs ++ drop (length vs) l
 sets_front l vs fits = let z : 0 + length vs ≡ length vs = omega arith in rw z at (sets-eq vs l 0 (omega arith))
-
-pub record_stored : (l a b c d : List ℕ) (at mark first second third fourth : ℕ)
-    → a ≡ sets l at (word_bytes mark) → b ≡ sets a (at + 2) (first ∷ second ∷ [])
-    → c ≡ sets b (at + 4) (word_bytes third) → d ≡ sets c (at + 6) (word_bytes fourth)
-    → d ≡ sets l at (word_bytes mark ++ (first ∷ second ∷ []) ++ word_bytes third ++ word_bytes fourth)
-record_stored l a b c d at mark first second third fourth one two three four =
-    let bytes = stored_on l a b (word_bytes mark) (first ∷ second ∷ []) at (at + 2) (omega arith) one two in
-    let word = stored_on l b c (word_bytes mark ++ first ∷ second ∷ []) (word_bytes third) at (at + 4) (omega arith) bytes three in
-    stored_on l c d (word_bytes mark ++ (first ∷ second ∷ []) ++ word_bytes third) (word_bytes fourth) at (at + 6) (omega arith) word four
 
 -- A request's numbers are those of its record, where its kind is admitted.
 pub request_written : (q : Fields) → fields_refusal most_nodes most_heads q ≡ 0
@@ -107,82 +99,35 @@ front_on k l {out} {vs} {at} {before} front end after is store =
       same = stored_on out before after vs bytes 0 at (omega (arith, front.place)) front.same store;
     }
 
--- The requests that admitted numbers stand for.
-abbrev pub requests_of : List ℕ → List Request
-requests_of l = map request_of (fields_of l)
+-- Rights, requests and pairs that are not refused fit their fields, row by row.
+pub rights_in_rows : (rows : List (List ℕ)) (rs : List Right) → map right_in rows ≡ rs → length rs ≤ most_heads
+    → each_right_refusal most_heads 0 rs ≡ 0 → (n : ℕ) (row : List ℕ) → n < length rows → row ≡ get_or rows n row → Narrow (right_in row)
+rights_in_rows rows rs is few e n row l at =
+    let none = every_right 0 in
+    let same : get_or rs n none ≡ right_in row =
+    sym (ap (λ (t : List Right). get_or t n none) is) ∙ get_or-map right_in rows n row none l ∙ sym (ap right_in at) in
+    let among : n < length rs = omega (arith, ap length is, length-map rows right_in) in
+    rw same at (rights_narrow rs few e n none among)
 
-pub record RequestsStored (out₀ : List ℕ) (start : ℕ) (l : List ℕ) (i at : ℕ) (out : List ℕ) : Type 0 where
-  pub within : i ≤ length l
-  pub storing : Storing (request_layout 0 0 []) out₀ start (requests_of l) (requests_of (drop i l)) at out
-  -- the requests that are left fit the largest job
-  pub fits : each_refusal most_nodes most_heads [] (fields_of (drop i l)) ≡ 0
+pub requests_in_rows : (rows : List (List ℕ)) → each_refusal most_nodes most_heads [] (map fields_in rows) ≡ 0
+    → (n : ℕ) (row : List ℕ) → n < length rows → row ≡ get_or rows n row → fields_refusal most_nodes most_heads (fields_in row) ≡ 0
+unfolding first_refusal
+requests_in_rows [] e n row l at = absurd (omega arith)
+requests_in_rows (first ∷ rows) e zero row l at =
+    let asked = through (asked_refusal most_nodes most_heads [] (fields_in first)) _ e in
+    ap (λ r. fields_refusal most_nodes most_heads (fields_in r)) at
+    ∙ (through (fields_refusal most_nodes most_heads (fields_in first)) _ asked.first).first
+requests_in_rows (first ∷ rows) e (suc n) row l at =
+    requests_in_rows rows (through (asked_refusal most_nodes most_heads [] (fields_in first)) _ e).second n row (omega arith) at
 
-module _ {out₀ : List ℕ} {start : ℕ} {l : List ℕ} {i at : ℕ} {out : List ℕ} (h : RequestsStored out₀ start l i at out) where
-  module _ (q : Fields) (is : q ≡ fields_from l i) (more : i + 4 ≤ length l) where
-    next : fields_of (drop i l) ≡ q ∷ fields_of (drop (i + 4) l)
-    next = rw is (fields_next l i more)
-
-    next_fits : Both (asked_refusal most_nodes most_heads [] q) (each_refusal most_nodes most_heads [] (fields_of (drop (i + 4) l)))
-    unfolding first_refusal
-    next_fits = through (asked_refusal most_nodes most_heads [] q) _ (sym (ap (each_refusal most_nodes most_heads []) next) ∙ h.fits)
-
-    pub request_fits : fields_refusal most_nodes most_heads q ≡ 0
-    request_fits = (through (fields_refusal most_nodes most_heads q) _ next_fits.first).first
-
-    pub request_room_lem : start + request_size * length (fields_of l) ≤ length out₀ → at + request_size ≤ length out
-    request_room_lem room =
-        record_room h.storing (request_of q) (requests_of (drop (i + 4) l)) (ap (map request_of) next) (rw length-map room)
-
-    pub requests_stored_on : (after : List ℕ) → after ≡ sets out at (request_bytes (request_of q))
-        → RequestsStored out₀ start l (i + 4) (at + request_size) after
-    requests_stored_on after store =
-        record {
-          within = more;
-          storing = storing_on h.storing (request_of q) (requests_of (drop (i + 4) l)) (ap (map request_of) next) after store;
-          fits = next_fits.second;
-        }
-
-pub requests_over : (l : List ℕ) (i : ℕ) → length l < i + 4 → requests_of (drop i l) ≡ []
-requests_over l i done = ap (map request_of) (fields_end l i done)
-
--- The records of a list of numbers: those before the position i are stored, up to the byte at, and those left are such that they
--- fit their fields.
-module _ {A S : Type 0} (k : Layout A S) (g : Given A) (Fits : A → Type 0) (out₀ : List ℕ) (start : ℕ) (l : List ℕ) where
-  pub record ListStored (i at : ℕ) (out : List ℕ) : Type 0 where
-    pub within : i ≤ length l
-    pub storing : Storing k out₀ start (g.all l) (g.all (drop i l)) at out
-    pub fits : (n : ℕ) (none : A) → n < length (g.all (drop i l)) → Fits (get_or (g.all (drop i l)) n none)
-
-module _ {A S : Type 0} {k : Layout A S} {g : Given A} {Fits : A → Type 0} {out₀ : List ℕ} {start : ℕ} {l : List ℕ} {i at : ℕ}
-    {out : List ℕ} (h : ListStored k g Fits out₀ start l i at out) (a : A) (is : a ≡ g.from l i) (more : i + g.width ≤ length l) where
-  next_given : g.all (drop i l) ≡ a ∷ g.all (drop (i + g.width) l)
-  next_given = rw is (g.next l i more)
-
-  fits_next : (n : ℕ) (none : A) → n < suc (length (g.all (drop (i + g.width) l)))
-      → Fits (get_or (a ∷ g.all (drop (i + g.width) l)) n none)
-  fits_next = rw next_given at h.fits
-
-  pub given_fits : Fits a
-  given_fits = fits_next 0 a (omega arith)
-
-  pub given_room : start + k.size * length (g.all l) ≤ length out₀ → at + k.size ≤ length out
-  given_room room = record_room h.storing a (g.all (drop (i + g.width) l)) next_given room
-
-  pub given_stored_on : (after : List ℕ) → after ≡ sets out at (k.bytes a)
-      → ListStored k g Fits out₀ start l (i + g.width) (at + k.size) after
-  given_stored_on after store =
-      record {
-        within = more;
-        storing = storing_on h.storing a (g.all (drop (i + g.width) l)) next_given after store;
-        fits = λ n none l. fits_next (suc n) none (omega arith);
-      }
+pub pairs_in_rows : (rows : List (List ℕ)) (ws : List Wait) → map pair_in rows ≡ ws → pairs_refusal most_requests no_pair ws ≡ 0
+    → (n : ℕ) (row : List ℕ) → n < length rows → row ≡ get_or rows n row → Pairs most_requests (pair_in row)
+pairs_in_rows rows ws is e n row l at =
+    let same : get_or ws n no_pair ≡ pair_in row =
+    sym (ap (λ (t : List Wait). get_or t n no_pair) is) ∙ get_or-map pair_in rows n row no_pair l ∙ sym (ap pair_in at) in
+    let among : n < length ws = omega (arith, ap length is, length-map rows pair_in) in
+    rw same at (rising_each most_requests no_pair ws (rising_checked most_requests no_pair ws e) n no_pair among)
 
 pub record RunsStored (out₀ : List ℕ) (start : ℕ) (gs : List ℕ) (i at : ℕ) (out : List ℕ) : Type 0 where
   pub within : i ≤ length gs
   pub storing : Storing (run_layout 0) out₀ start (longest_runs gs) (longest_runs (drop i gs)) at out
-
-pub runs_over : (gs : List ℕ) (i : ℕ) → length gs ≤ i → longest_runs (drop i gs) ≡ []
-runs_over gs i done = ap longest_runs (drop_of_length-le gs {i = i} done)
-
--- What the start and the end of a loop that stores rights, requests or pairs are shown by.
-pub ruleset storing_ends = (stored, stored_end, rights_narrow, rights_end, request_fits, requests_over, pairs_end)

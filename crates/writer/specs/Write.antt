@@ -4,14 +4,20 @@
 --   buffer_refusal s room   the refusal of a buffer of that length for the file s
 --   write_refusal d room    the refusal of a draft and a buffer, 0 for none
 --   refused n           the answer of a refusal
---   answer d room       the writer's answer
+--   answer d room       what a host is told of the writer's answer
+--   written_told r      the same of an answer by name
 --   Left                the answer and the lent buffer
 --   writes d out        what the writer leaves
 --   right_from l at     the three numbers of l from a position on, as a right
 --   fields_from l at    the four numbers of l from a position on, as a request's
 --   pair_from l at      the two numbers of l from a position on, as a pair
+--   Put n bs at l m     m is l with the n bytes bs stored at a place
 --   close_bytes t       the close of a file whose other records are t
-use Rattle.std.specs.Prelude.{ℕ, ◌+◌, ◌-◌, ◌%◌, cond, List, ◌++◌, length, drop, ◌==◌, nat_lt, slice_index}
+use Rattle.std.specs.Prelude.{◌≡◌, ℕ, ◌+◌, ◌-◌, ◌%◌, cond, List, ◌++◌, length, drop, ◌==◌, nat_lt, slice_index, Result}
+use Rattle.std.proofs.lemmas.List.Edits.{sets}
+use Rattle.std.specs.declared.result.Result.TheVariants.{Ok, Err}
+use Rattle.job.specs.declared.refusal.Refusal.{Refusal}
+use Rattle.job.specs.Refusal.{number_of}
 use Rattle.job.specs.declared.Wait.{Wait}
 use Rattle.job.specs.declared.Right.{Right}
 use Rattle.jobfile.specs.declared.Fields.{Fields}
@@ -45,6 +51,11 @@ answer d room =
     (record { number = 0; bytes = length (written (job_of d)) })
     (refused (write_refusal d room))
 
+-- What a host is told of an answer by name.
+abbrev pub written_told : Result ℕ Refusal → Written
+written_told (Ok bytes) = record { number = 0; bytes = bytes }
+written_told (Err refusal) = refused (number_of refusal)
+
 -- What the writer leaves: its answer and the lent buffer.
 pub record Left : Type 0 where
   pub answer : Written
@@ -59,18 +70,23 @@ writes d out =
       out = cond (write_refusal d (length out) == 0) (file ++ drop (length file) out) out;
     }
 
--- What the functions below the entry point speak of: a right, a request's numbers and a pair in place, and the close of a file.
+-- A right, a request's numbers and a pair in place in a list of numbers, and the close of a file: a right in place,
 abbrev pub right_from : List ℕ → ℕ → Right
 right_from l at = record { head = slice_index l at; rights = slice_index l (at + 1); sight = slice_index l (at + 2) }
 
--- A request's numbers in place.
+-- a request's numbers in place,
 abbrev pub fields_from : List ℕ → ℕ → Fields
 fields_from l at = record { head = slice_index l at; kind = slice_index l (at + 1); x = slice_index l (at + 2); y = slice_index l (at + 3) }
 
--- A pair's numbers in place.
+-- a pair's numbers in place.
 abbrev pub pair_from : List ℕ → ℕ → Wait
 pair_from l at = record { later = slice_index l at; earlier = slice_index l (at + 1) }
 
 -- The balance is the difference from zero, in 16 bits, of the words before it.
 abbrev pub close_bytes : List ℕ → List ℕ
 close_bytes t = word_bytes close_mark ++ word_bytes ((65536 - word_sum (t ++ word_bytes close_mark) % 65536) % 65536)
+
+-- Bytes of a record's size, stored at a place.
+pub record Put (size : ℕ) (bytes : List ℕ) (at : ℕ) (before after : List ℕ) : Type 0 where
+  pub sized : length bytes ≡ size
+  pub stored : after ≡ sets before at bytes

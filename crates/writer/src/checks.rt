@@ -2,233 +2,130 @@
 // pairs behind the requests (02, A3), and the length of the file.
 ghost use Rattle.std.specs.Prelude.{◌≡◌, ◌+◌, ◌<◌, ◌≤◌, ◌∷◌, length, drop};
 ghost use Rattle.job.specs.Job.{right_of};
+ghost use Rattle.job.specs.Refusal.{told};
 ghost use Rattle.jobfile.specs.Format.{◌then◌, sizes_refusal, asked_refusal, no_pair};
 ghost use Rattle.jobfile.specs.Written.{longest_runs};
 ghost use Rattle.jobfile.specs.Draft.{rights_given, fields_of, pairs_of, complete_refusal, each_right_refusal, count_refusal, each_refusal};
 ghost use Rattle.jobfile.specs.Draft.{pairs_refusal, grants_refusal};
-ghost use Rattle.writer.specs.Write.{given, right_from, fields_from, pair_from, refused, answer};
+ghost use Rattle.writer.specs.Write.{given, answer, written_told};
 
-use crate::Written;
 use fields::{
-    does_extend, fields_refusal, kind_refusal, pair_refusal, request_place, right_refusal,
-    sizes_refusal,
+    check_fields, check_kind, check_pair, check_right, check_sizes, does_extend, request_place,
 };
-use job::{MOST_REQUESTS, Right, Wait, every_right};
+use job::{MOST_REQUESTS, Refusal, Right, Wait, every_right};
 use jobfile::{CLOSE_SIZE, Fields, MOST_BYTES, RUN_SIZE, Run, WAIT_SIZE};
 
-// The answer of a refusal.
-fn refusal(number: u32) -> Written
-    ensures { result ≡ refused number }
-{
-    Written { number, bytes: 0 }
-}
-
-// A byte as a 32-bit number.
-fn wide(byte: u8) -> u32
-    ensures { result ≡ byte }
-{
-    byte as u32
-}
-
-// The three numbers that stand at a position.
-pub fn right_at(rights: &[u32], at: usize) -> Right
-    requires { at + 3 ≤ length rights.now }
-    ensures { result ≡ right_from rights.now at }
-{
-    Right {
-        head: rights[at],
-        rights: rights[at + 1],
-        sight: rights[at + 2],
-    }
-}
-
 // The right of a head in a list of rights, which is empty or has one a head.
-#[tactic(auto, using(crate::proofs::Rights::right_given, crate::proofs::Rights::right_absent))]
+#[tactic(auto, using(crate::proofs::Rights::right_absent))]
 fn right_of(rights: &[u32], head: u32) -> Right
     ensures { result ≡ right_of (rights_given rights.now) head }
 {
-    let at = 3 * (head as usize);
-    if rights.len() < at + 3 {
-        return every_right(head);
+    match rights.as_chunks::<3>().0.get(head as usize) {
+        Some(&[head, rights, sight]) => Right {
+            head,
+            rights,
+            sight,
+        },
+        None => every_right(head),
     }
-    right_at(rights, at)
 }
 
-// The refusal of so many rights in a job of that many heads, 0 for none.
+// Checks the number of rights in a job of that many heads: none, or one a head.
 #[tactic(auto, unfolding(jobfile::specs::Draft::complete_refusal))]
-fn complete_refusal(heads: u32, count: usize) -> u32
-    ensures { result ≡ complete_refusal heads count }
+fn check_complete(heads: u32, count: usize) -> Result<(), Refusal>
+    ensures { told result ≡ complete_refusal heads count }
 {
-    if count == 0 {
-        return 0;
+    if count == 0 || count == heads as usize {
+        return Ok(());
     }
-    if count == heads as usize {
-        return 0;
-    }
-    19
+    Err(Refusal::Rights)
 }
 
-// The refusal of the first right that has one, 0 for none.
-fn each_right_refusal(heads: u32, rights: &[u32]) -> u32
+// Checks the rights one by one, each with its number.
+#[tactic(auto, using(crate::proofs::Rights::next_right))]
+fn check_each_right(heads: u32, rights: &[u32]) -> Result<(), Refusal>
     requires { length (rights_given rights.now) ≤ heads }
-    ensures { result ≡ each_right_refusal heads 0 (rights_given rights.now) }
+    ensures { told result ≡ each_right_refusal heads 0 (rights_given rights.now) }
 {
-    let mut at = 0;
+    let (rows, _) = rights.as_chunks::<3>();
     let mut number: u32 = 0;
-    while 3 <= rights.len() - at {
-        let refusal = right_refusal(heads, number, right_at(rights, at));
-        if refusal != 0 {
-            return refusal;
-        }
-        at += 3;
+    for &[head, rights, sight] in rows {
+        let right = Right {
+            head,
+            rights,
+            sight,
+        };
+        check_right(heads, number, right)?;
         number += 1;
     }
-    0
+    Ok(())
 }
 
-// The refusal of the list of rights: their number, then each, 0 for none.
+// Checks the list of rights: their number, then each.
 #[tactic(auto, using(crate::proofs::Rights::rights_told))]
-fn rights_refusal(heads: u32, rights: &[u32]) -> u32
-    ensures { result ≡ (complete_refusal heads (length (rights_given rights.now))
+fn check_rights(heads: u32, rights: &[u32]) -> Result<(), Refusal>
+    ensures { told result ≡ (complete_refusal heads (length (rights_given rights.now))
         then each_right_refusal heads 0 (rights_given rights.now)) }
 {
-    let number = complete_refusal(heads, rights.len() / 3);
-    if number != 0 {
-        return number;
-    }
-    each_right_refusal(heads, rights)
+    check_complete(heads, rights.len() / 3)?;
+    check_each_right(heads, rights)
 }
 
-// The four numbers that stand at a position.
-pub fn fields_at(requests: &[u32], at: usize) -> Fields
-    requires { at + 4 ≤ length requests.now }
-    ensures { result ≡ fields_from requests.now at }
-{
-    Fields {
-        head: requests[at],
-        kind: requests[at + 1],
-        x: requests[at + 2],
-        y: requests[at + 3],
-    }
-}
-
-// The refusal of a request's numbers, and of its kind where the heads have these rights, 0 for none.
+// Checks a request's numbers, and its kind where the heads have these rights.
 #[tactic(auto, using(jobfile::proofs::Refusals::asked_free, crate::proofs::Rights::rights_count))]
-fn asked_refusal(nodes: u32, heads: u32, rights: &[u32], fields: Fields) -> u32
-    ensures { result ≡ asked_refusal nodes heads (rights_given rights.now) fields }
+fn check_asked(nodes: u32, heads: u32, rights: &[u32], fields: Fields) -> Result<(), Refusal>
+    ensures { told result ≡ asked_refusal nodes heads (rights_given rights.now) fields }
 {
-    let number = fields_refusal(nodes, heads, fields);
-    if number != 0 {
-        return number;
-    }
+    check_fields(nodes, heads, fields)?;
     // tested here, so that jobs without rights are written as fast as ever
     if rights.len() < 3 {
-        return 0;
+        return Ok(());
     }
     let right = right_of(rights, fields.head);
-    kind_refusal(right.rights, fields.kind)
+    check_kind(right.rights, fields.kind)
 }
 
-// The refusal of the first request that has one, 0 for none.
-fn requests_refusal(nodes: u32, heads: u32, rights: &[u32], requests: &[u32]) -> u32
-    ensures { result ≡ each_refusal nodes heads (rights_given rights.now) (fields_of requests.now) }
+// Checks the requests one by one.
+#[tactic(auto, using(crate::proofs::Requests::next_fields))]
+fn check_requests(nodes: u32, heads: u32, rights: &[u32], requests: &[u32]) -> Result<(), Refusal>
+    ensures { told result ≡ each_refusal nodes heads (rights_given rights.now) (fields_of requests.now) }
 {
-    let mut at = 0;
-    while 4 <= requests.len() - at {
-        let number = asked_refusal(nodes, heads, rights, fields_at(requests, at));
-        if number != 0 {
-            return number;
-        }
-        at += 4;
+    let (rows, _) = requests.as_chunks::<4>();
+    for &[head, kind, x, y] in rows {
+        check_asked(nodes, heads, rights, Fields { head, kind, x, y })?;
     }
-    0
+    Ok(())
 }
 
-// The two numbers that stand at a position.
-pub fn pair_at(waits: &[u32], at: usize) -> Wait
-    requires { at + 2 ≤ length waits.now }
-    ensures { result ≡ pair_from waits.now at }
-{
-    Wait {
-        later: waits[at],
-        earlier: waits[at + 1],
-    }
-}
-
-// The refusal of the first pair that has one in a job of that many requests, 0 for none.
-fn waits_refusal(count: u32, waits: &[u32]) -> u32
-    ensures { result ≡ pairs_refusal count no_pair (pairs_of waits.now) }
+// Checks the pairs one by one in a job of that many requests, each behind the one before it.
+#[tactic(auto, using(crate::proofs::Pairs::next_pair))]
+fn check_waits(count: u32, waits: &[u32]) -> Result<(), Refusal>
+    ensures { told result ≡ pairs_refusal count no_pair (pairs_of waits.now) }
 {
     let mut before = Wait {
         later: 0,
         earlier: 0,
     };
-    let mut at = 0;
-    while 2 <= waits.len() - at {
-        let wait = pair_at(waits, at);
-        let number = pair_refusal(count, before, wait);
-        if number != 0 {
-            return number;
-        }
+    let (rows, _) = waits.as_chunks::<2>();
+    for &[later, earlier] in rows {
+        let wait = Wait { later, earlier };
+        check_pair(count, before, wait)?;
         before = wait;
-        at += 2;
     }
-    0
+    Ok(())
 }
 
-// The refusal of a grant whose head is none of the job's, 0 for none.
-#[tactic(auto, using(crate::proofs::Grants::serving_steps))]
-fn grants_refusal(heads: u32, grants: &[u8]) -> u32
-    ensures { result ≡ grants_refusal heads grants.now }
+// Checks that the head of each grant is one of the job's.
+#[tactic(auto, using(crate::proofs::Grants::no_grant))]
+fn check_grants(heads: u32, grants: &[u8]) -> Result<(), Refusal>
+    ensures { told result ≡ grants_refusal heads grants.now }
 {
-    let mut i = 0;
-    while i < grants.len() {
-        if heads <= wide(grants[i]) {
-            return 10;
+    for &head in grants {
+        if heads <= u32::from(head) {
+            return Err(Refusal::Grant);
         }
-        i += 1;
     }
-    0
-}
-
-// The refusal of the numbers, before the length of their file is asked for, 0 for none.
-#[tactic(auto, using(crate::proofs::Requests::fields_count), unfolding(jobfile::specs::Draft::count_refusal))]
-fn numbers_refusal(
-    nodes: u32,
-    heads: u32,
-    rights: &[u32],
-    requests: &[u32],
-    waits: &[u32],
-    grants: &[u8],
-) -> u32
-    ensures { result ≡ (sizes_refusal nodes heads
-        then (complete_refusal heads (length (rights_given rights.now))
-        then each_right_refusal heads 0 (rights_given rights.now))
-        then count_refusal (length (fields_of requests.now))
-        then each_refusal nodes heads (rights_given rights.now) (fields_of requests.now)
-        then pairs_refusal (length (fields_of requests.now)) no_pair (pairs_of waits.now)
-        then grants_refusal heads grants.now) }
-{
-    let number = sizes_refusal(nodes, heads);
-    if number != 0 {
-        return number;
-    }
-    let number = rights_refusal(heads, rights);
-    if number != 0 {
-        return number;
-    }
-    if MOST_REQUESTS < requests.len() / 4 {
-        return 9;
-    }
-    let number = requests_refusal(nodes, heads, rights, requests);
-    if number != 0 {
-        return number;
-    }
-    let number = waits_refusal((requests.len() / 4) as u32, waits);
-    if number != 0 {
-        return number;
-    }
-    grants_refusal(heads, grants)
+    Ok(())
 }
 
 // The longest run that starts at a grant.
@@ -240,67 +137,90 @@ pub fn run_at(grants: &[u8], at: usize) -> Run
         head: grants[at],
         count: 1,
     };
-    let mut i = at + 1;
-    while i < grants.len() {
-        if !does_extend(run, grants[i]) {
+    let rest = &grants[at + 1..];
+    for &head in rest {
+        if !does_extend(run, head) {
             return run;
         }
         run.count += 1;
-        i += 1;
     }
     run
 }
 
-// How many runs the grants make.
+// How many runs the grants make. A turn is a run, and no index is counted.
 fn run_count(grants: &[u8]) -> usize
     ensures { result ≡ length (longest_runs grants.now) }
 {
     let mut runs = 0;
     let mut i = 0;
     while i < grants.len() {
-        i += run_at(grants, i).count as usize;
+        i += usize::from(run_at(grants, i).count);
         runs += 1;
     }
     runs
 }
 
-// The writer's answer for a buffer of this length. Nothing is written before it stands.
-#[tactic(auto, using(crate::proofs::Answers::checked_lemmas))]
-pub fn checked(
-    nodes: u32,
-    heads: u32,
-    rights: &[u32],
-    requests: &[u32],
-    waits: &[u32],
-    grants: &[u8],
-    room: usize,
-) -> Written
-    ensures { result
-        ≡ answer (given nodes heads rights.now requests.now waits.now grants.now) room }
-{
-    let number = numbers_refusal(nodes, heads, rights, requests, waits, grants);
-    if number != 0 {
-        return refusal(number);
+// What a file is written from, as the writer is given it.
+#[derive(Clone, Copy, Debug, PartialEq, Eq)]
+pub struct Draft<'a> {
+    pub nodes: u32,
+    pub heads: u32,
+    pub rights: &'a [u32],
+    pub requests: &'a [u32],
+    pub waits: &'a [u32],
+    pub grants: &'a [u8],
+}
+
+impl<'a> Draft<'a> {
+    // Checks the numbers, before the length of their file is asked for.
+    #[tactic(auto, using(crate::proofs::Requests::fields_count), unfolding(jobfile::specs::Draft::count_refusal))]
+    fn check_numbers(self) -> Result<(), Refusal>
+        ensures { told result ≡ (sizes_refusal self.entry.nodes self.entry.heads
+            then (complete_refusal self.entry.heads (length (rights_given self.entry.rights.now))
+            then each_right_refusal self.entry.heads 0 (rights_given self.entry.rights.now))
+            then count_refusal (length (fields_of self.entry.requests.now))
+            then each_refusal self.entry.nodes self.entry.heads (rights_given self.entry.rights.now) (fields_of self.entry.requests.now)
+            then pairs_refusal (length (fields_of self.entry.requests.now)) no_pair (pairs_of self.entry.waits.now)
+            then grants_refusal self.entry.heads self.entry.grants.now) }
+    {
+        check_sizes(self.nodes, self.heads)?;
+        check_rights(self.heads, self.rights)?;
+        if MOST_REQUESTS < self.requests.len() / 4 {
+            return Err(Refusal::TooManyRequests);
+        }
+        check_requests(self.nodes, self.heads, self.rights, self.requests)?;
+        check_waits((self.requests.len() / 4) as u32, self.waits)?;
+        check_grants(self.heads, self.grants)
     }
-    // counted before the rest is known: the loop has few registers
-    let runs = run_count(grants);
-    // what the file has beside its pairs and runs; and beside its runs, once the pairs are known to be few
-    let front = request_place((rights.len() / 3) as u32, (requests.len() / 4) as u32);
-    let ends = front + CLOSE_SIZE;
-    let pairs = waits.len() / 2;
-    if (MOST_BYTES - ends) / WAIT_SIZE < pairs {
-        return refusal(1);
-    }
-    let others = ends + WAIT_SIZE * pairs;
-    if (MOST_BYTES - others) / RUN_SIZE < runs {
-        return refusal(1);
-    }
-    let bytes = others + RUN_SIZE * runs;
-    if room < bytes {
-        return refusal(14);
-    }
-    Written {
-        number: 0,
-        bytes: bytes as u32,
+
+    // The writer's answer for a buffer of this length. Nothing is written before it stands.
+    #[tactic(auto, using(crate::proofs::Answers::checked_lemmas))]
+    pub fn check(self, room: usize) -> Result<u32, Refusal>
+        ensures { written_told result
+            ≡ answer (given self.entry.nodes self.entry.heads self.entry.rights.now self.entry.requests.now
+            self.entry.waits.now self.entry.grants.now) room }
+    {
+        self.check_numbers()?;
+        // counted before the rest is known: the loop has few registers
+        let runs = run_count(self.grants);
+        // what the file has beside its pairs and runs; and beside its runs, once the pairs are known to be few
+        let front = request_place(
+            (self.rights.len() / 3) as u32,
+            (self.requests.len() / 4) as u32,
+        );
+        let ends = front + CLOSE_SIZE;
+        let pairs = self.waits.len() / 2;
+        if (MOST_BYTES - ends) / WAIT_SIZE < pairs {
+            return Err(Refusal::FileTooLong);
+        }
+        let others = ends + WAIT_SIZE * pairs;
+        if (MOST_BYTES - others) / RUN_SIZE < runs {
+            return Err(Refusal::FileTooLong);
+        }
+        let bytes = others + RUN_SIZE * runs;
+        if room < bytes {
+            return Err(Refusal::Buffer);
+        }
+        Ok(bytes as u32)
     }
 }

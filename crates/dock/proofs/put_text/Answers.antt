@@ -18,4 +18,4 @@ returns c =
       points = λ k. omega (arith, c.type_inv.linearization k);
     } in
     put_whole a.played a.table.now a.report.now a.linearization.now a.out.now c.requires.printable c.requires.longest_in_bounds fitting
-    _ _ c.list-listed.ensures.answer c.list-listed.ensures.text
+    _ _ _ c.unwrap_or.ensures c.list.ensures.answer c.list.ensures.text

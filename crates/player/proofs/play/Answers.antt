@@ -1,50 +1,48 @@
 -- Refused, nothing is written; else the loop keeps what the start laid out, and what the play promises holds of what it leaves.
-use Rattle.std.proofs.Common.{refl}
-use Rattle.turns.specs.Turns.{first_tally}
-use Rattle.player.proofs.Along.{entry, along, lending_start, refused_end, along_next, along_end}
+use Rattle.std.proofs.Common.{ap, ◌∙◌, ◌+◌, arith}
+use Rattle.std.proofs.lemmas.Result.{err_from_is_err_and}
+use Rattle.player.proofs.Along.{entry, refused_end, along, lending_start, along_next, along_end}
 use Rattle.player.proofs.play.Goals as goal
 
-pub returns-then-counts-ne0 : goal.returns-then-counts-ne0
-returns-then-counts-ne0 c =
+pub returns-in_err-job : goal.returns-in_err-job
+returns-in_err-job c =
     let a = c.args in
-    let made = c.prepare-plan in
-    let end =
-    refused_end (entry a.file.now a.table.now a.report.now a.linearization.now) _ _ _ made.result made.ensures.1 made.ensures.0
-    c.if-counts-ne0.true c.refused.result c.refused.ensures in
-    record {
+    let p = err_from_is_err_and c.from_residual.result c.from_residual.ensures.1 in
+    let end = refused_end (entry a.file.now a.table.now a.report.now a.linearization.now) _ c.in_err-job.ensures.told in
+    rw (p.1, p.2) (record {
       exact = end.exact;
       linearized = end.linearized;
       lawful = end.lawful;
       waited = end.waited;
       bounded = end.bounded;
-    }
+    })
 
-pub index_requests-requires : goal.index_requests-requires
-index_requests-requires c =
+pub loop-granted-init : goal.loop-granted-init
+loop-granted-init c =
     let a = c.args in
-    let made = c.prepare-plan in
-    (lending_start (entry a.file.now a.table.now a.report.now a.linearization.now) _ _ _ made.result made.ensures.1 made.ensures.0
-    c.if-counts-ne0.false made.auto.table made.auto.report made.auto.linearization
-    (first_tally made.result.progress.mask) refl).going.playing
+    let job = c.in_ok-job.job in
+    let laid = c.lay_out-progress in (
+      lending_start (entry job.file.now a.table.now a.report.now a.linearization.now) job.counts c.in_ok-job.ensures.roomy _ _
+          laid.result laid.ensures laid.auto.table laid.auto.report c.first_tally-tally.result c.first_tally-tally.ensures,
+      ap (λ x. x.progress.number) laid.ensures,
+    )
 
-pub loop-progress-init : goal.loop-progress-init
-loop-progress-init c =
-    let a = c.args in
-    let made = c.prepare-plan in
-    lending_start (entry a.file.now a.table.now a.report.now a.linearization.now) _ _ _ made.result made.ensures.1 made.ensures.0
-    c.if-counts-ne0.false made.auto.table made.auto.report made.auto.linearization c.first_tally-tally.result
-    c.first_tally-tally.ensures
-
-pub loop-progress-preserved : goal.loop-progress-preserved
-loop-progress-preserved c =
+pub loop-granted-preserved : goal.loop-granted-preserved
+loop-granted-preserved c =
     let made = c.turn_on-progress in
-    (along_next _ _ (along _ _ c.loop-progress.invariant) c.loop-progress-test.true made.result _ _ _ c.counted-tally.result
-    made.auto.table made.auto.report made.auto.linearization made.ensures c.counted-tally.ensures).lending
+    let here = c.loop-granted.invariant in
+    let next =
+    along_next _ _ (along _ _ here.0) (omega (arith, here.1)) made.result _ _ _ c.counted-tally.result made.auto.table
+    made.auto.report made.auto.linearization made.ensures c.counted-tally.ensures in (
+      next.lending,
+      (made.ensures _ _ here.0.going.standing).turned.number ∙ ap (λ k. k + 1) here.1,
+    )
 
 pub returns : goal.returns
 returns c =
     let end =
-    along_end _ _ (along _ _ c.loop-progress.invariant) c.loop-progress-test.false c.closed.result c.closed.ensures in
+    rw c.in_ok-job.ensures.same at
+    (along_end _ _ (along _ _ c.loop-granted.invariant.0) (omega (arith, c.loop-granted.invariant.1)) _ c.closed.ensures) in
     record {
       exact = end.exact;
       linearized = end.linearized;

@@ -6,7 +6,7 @@ use Rattle.reader.specs.declared.Checked.{Checked}
 use Rattle.rules.specs.Start.{Start}
 use Rattle.turns.specs.declared.Progress.{Progress}
 use Rattle.turns.specs.Turns.{buffers_of, Turned}
-use Rattle.player.specs.Plan.{TurnableOn, TurnedOn}
+use Rattle.player.specs.Parts.{TurnableOn, TurnedOn}
 use Rattle.player.proofs.turn_on.Goals as goal
 
 turned_on : {file : List ℕ} {counts : Checked} {p p' : Progress} {origin : Start}
@@ -30,5 +30,5 @@ turned_on {file} {counts} {p} {p'} {origin} {linearization} {linearization'} {le
 
 pub returns : goal.returns
 returns c =
-    λ origin lent standing. turned_on c.args.table.now c.args.report.now _ _ c.requires.turnable_on c.turn.auto.table
+    λ origin lent standing. turned_on c.args.table.now c.args.report.now _ _ c.requires c.turn.auto.table
     c.turn.auto.report (c.turn.ensures origin lent standing)

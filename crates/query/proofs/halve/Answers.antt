@@ -7,7 +7,7 @@ returns-then-table-node c =
     let a = c.args in
     let asked = c.requires.node_lt_most_nodes in
     swap_wrote a.table.now a.node a.word a.above c.requires.admitted asked.0 asked.1 c.if-table-node.true _
-    (rw c.rank.ensures at c.encoded.ensures)
+    (rw c.rank.ensures at c.from.ensures)
 
 pub returns-else-table-node : goal.returns-else-table-node
 returns-else-table-node c =

@@ -1,11 +1,8 @@
--- The places from the first on up to i are roots.
-use Rattle.std.proofs.Common.{◌-◌}
-use Rattle.job.specs.Job.{most_nodes}
-use Rattle.query.proofs.Copies.{Padding}
+-- The roots that are left give what all of them give.
+use Rattle.std.proofs.Common.{◌≡◌}
+use lib.Seq.{sets}
+use Rattle.query.proofs.Copies.{roots}
 use Rattle.query.proofs.pad.Given as goal
 
 abbrev pub invariant-loop-i : goal.invariant-loop-i
-invariant-loop-i l = Padding l.fn.nodes l.from l.nodes l.i
-
-abbrev pub decreases-loop-i : goal.decreases-loop-i
-decreases-loop-i l = most_nodes - l.i
+invariant-loop-i l = sets l.nodes l.i (roots l.i) ≡ sets l.fn.nodes l.from (roots l.from)

@@ -1,51 +1,42 @@
--- `sheet::grouping_sheet`: the play refuses the file, or the head is none of the job's, or its sheet is written.
-use Rattle.std.proofs.Common.{ap, sym, ◌∙◌, arith}
+-- `grouping_sheet`: the play refuses the file, or the head is none of the job's, or its sheet is written.
+use Rattle.std.proofs.Common.{ap, sym, refl, ◌∙◌, arith}
+use Rattle.std.proofs.lemmas.Result.{err_from_is_err_and}
+use Rattle.job.proofs.Refusals.{refuses}
 use Rattle.stepper.specs.Shown.{requests_in}
 use Rattle.sheet.specs.Sight.{sighted}
-use Rattle.sheet.specs.Call.{run_in, run_text, written_of}
+use Rattle.sheet.specs.Call.{run_in, run_text, text_of, written_of}
 use Rattle.sheet.proofs.Played.{call_played}
 use Rattle.sheet.proofs.Call.{sheet_refused, sheet_headless, sheet_written}
 use Rattle.sheet.proofs.grouping_sheet.Goals as goal
 
-pub returns-then-played-ne0 : goal.returns-then-played-ne0
-returns-then-played-ne0 c =
-    let known = call_played c.args.file.now (λ i. omega (arith, c.type_inv.file i)) _ c.play-played.ensures.exact in
-    sheet_refused _ _ _ c.refuse.ensures known.number c.if-played-ne0.true
+pub returns-in_err-play : goal.returns-in_err-play
+returns-in_err-play c =
+    let p = err_from_is_err_and c.from_residual.result c.from_residual.ensures.1 in
+    let known = call_played c.args.file.now (λ i. omega (arith, c.type_inv.file i)) _ c.in_err-play.ensures.exact in
+    rw (p.1, p.2) (sheet_refused _ _ _ known.number (refuses _))
 
-pub returns-then-played-head : goal.returns-then-played-head
-returns-then-played-head c =
-    let known = call_played c.args.file.now (λ i. omega (arith, c.type_inv.file i)) _ c.play-played.ensures.exact in
-    sheet_headless _ _ _ (sym known.number ∙ c.if-played-ne0.false) c.refuse-then-played-head.ensures
-    (omega (arith, known.heads c.if-played-ne0.false, c.if-played-head.true))
+pub returns-then-play-head : goal.returns-then-play-head
+returns-then-play-head c =
+    let known = call_played c.args.file.now (λ i. omega (arith, c.type_inv.file i)) _ c.in_ok-play.ensures.exact in
+    sheet_headless _ _ _ (sym known.number) (omega (arith, known.heads refl, c.if-play-head.true))
 
-pub sight_of-sight-requires : goal.sight_of-sight-requires
-sight_of-sight-requires c =
-    let known = call_played c.args.file.now (λ i. omega (arith, c.type_inv.file i)) _ c.play-played.ensures.exact in
-    record {
-      accepted = sym known.number ∙ c.if-played-ne0.false;
-      bytes = λ i. omega (arith, c.type_inv.file i);
-      checked = c.check-counts.ensures;
-    }
+pub returns-in_err-job : goal.returns-in_err-job
+returns-in_err-job c =
+    let p = err_from_is_err_and c.from_residual-in_err-job.result c.from_residual-in_err-job.ensures.1 in
+    rw (p.1, p.2) (sheet_refused _ _ _ c.in_err-job.ensures.told (refuses _))
 
-pub sheet_for-requires-clause-playing : goal.sheet_for-requires-clause-playing
-sheet_for-requires-clause-playing c =
-    let known = call_played c.args.file.now (λ i. omega (arith, c.type_inv.file i)) _ c.play-played.ensures.exact in
-    record {
-      accepted = sym known.number ∙ c.if-played-ne0.false;
-      bytes = λ i. omega (arith, c.type_inv.file i);
-      checked = c.check-counts.ensures;
-    }
-
-pub sheet_for-requires-clause-holding_run : goal.sheet_for-requires-clause-holding_run
-sheet_for-requires-clause-holding_run c =
-    let known = call_played c.args.file.now (λ i. omega (arith, c.type_inv.file i)) _ c.play-played.ensures.exact in
-    known.holding c.if-played-ne0.false
+pub sheet_for-requires : goal.sheet_for-requires
+sheet_for-requires c =
+    let known = call_played c.args.file.now (λ i. omega (arith, c.type_inv.file i)) _ c.in_ok-play.ensures.exact in
+    rw c.in_ok-job.ensures.same (known.holding refl)
 
 pub returns : goal.returns
 returns c =
     let file = c.args.file.now in
-    let known = call_played file (λ i. omega (arith, c.type_inv.file i)) _ c.play-played.ensures.exact in
+    let read = c.in_ok-job.job.file.now in
+    let out = c.args.out.now in
+    let known = call_played file (λ i. omega (arith, c.type_inv.file i)) _ c.in_ok-play.ensures.exact in
     c.sheet_for.ensures
-    ∙ ap (λ sight. written_of (run_text (sighted sight (requests_in file)) (run_in file)) c.args.out.now) c.sight_of-sight.ensures
-    ∙ sheet_written _ _ _ (sym known.number ∙ c.if-played-ne0.false)
-    (omega (arith, known.heads c.if-played-ne0.false, c.if-played-head.false))
+    ∙ ap (λ sight. written_of (run_text (sighted sight (requests_in read)) (run_in read)) out) c.sight_of-sight.ensures
+    ∙ ap (λ f. written_of (text_of f c.args.head) out) c.in_ok-job.ensures.same
+    ∙ sheet_written _ _ _ (sym known.number) (omega (arith, known.heads refl, c.if-play-head.false))

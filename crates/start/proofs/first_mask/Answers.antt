@@ -10,5 +10,5 @@ loop-h-init c = gathered_none (is_request c.args.requests) c.args.firsts most_he
 
 pub loop-h-preserved : goal.loop-h-preserved
 loop-h-preserved c =
-    rw c.pushed-mask.ensures
+    rw (c.pushed-mask.ensures, c.from.ensures)
     (gathered_on (is_request c.args.requests) c.args.firsts c.loop-h.h c.loop-h.mask (omega arith) c.loop-h.invariant)

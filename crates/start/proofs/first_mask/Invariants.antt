@@ -5,6 +5,3 @@ use Rattle.start.proofs.first_mask.Given as goal
 
 abbrev pub invariant-loop-h : goal.invariant-loop-h
 invariant-loop-h l = Gathered (is_request l.requests) l.firsts l.h l.mask
-
-abbrev pub decreases-loop-h : goal.decreases-loop-h
-decreases-loop-h l = l.h

@@ -10,6 +10,6 @@ use Rattle.start.proofs.first_tasks.Goals as goal
 
 pub returns : goal.returns
 returns c =
-    let task = first_task (waits_in c.args.file.now) (rows_of c.args.report.now) in
+    let task = first_task (waits_in c.args.job.file.now) (rows_of c.args.report.now) in
     let size : length c.args.firsts ≡ most_heads = search rules in
     taken_all c.loop-h.h c.loop-h.tasks (sym (length-map c.args.firsts task ∙ size)) (omega arith) c.loop-h.invariant

@@ -7,7 +7,7 @@ use Rattle.start.proofs.fresh_table.Goals as goal
 pub loop-i-preserved : goal.loop-i-preserved
 loop-i-preserved c =
     taken_on c.loop-i.i c.loop-i.table _ (omega arith)
-    (c.encoded.ensures ∙ sym (fresh_word (length c.args.table.now) c.loop-i.i (omega arith))) c.loop-i.invariant
+    (c.from.ensures ∙ sym (fresh_word (length c.args.table.now) c.loop-i.i (omega arith))) c.loop-i.invariant
 
 pub returns : goal.returns
 returns c =

@@ -6,5 +6,5 @@ use Rattle.stepper.proofs.grant.Goals as goal
 pub returns : goal.returns
 returns c =
     λ origin gs lent standing.
-    let p = c.requires.grantable in
+    let p = c.requires in
     idle_stepped p.playing p.head standing c.idled.result c.idled.ensures (sym c.if-is_set.ensures)

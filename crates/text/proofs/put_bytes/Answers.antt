@@ -4,5 +4,5 @@ use Rattle.basics.proofs.Lists.{take_next}
 use Rattle.text.proofs.Writing.{through_next}
 use Rattle.text.proofs.put_bytes.Goals as goal
 
-pub loop-i-preserved : goal.loop-i-preserved
-loop-i-preserved c = through_next c.loop-i.invariant (omega arith) (take_next _ _ (omega arith)) c.put_byte-next.ensures
+pub loop-byte-preserved : goal.loop-byte-preserved
+loop-byte-preserved c = through_next c.loop-byte.invariant (omega arith) (take_next _ _ (omega arith)) c.put_byte-next.ensures

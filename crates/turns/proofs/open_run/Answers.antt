@@ -4,4 +4,4 @@ use Rattle.turns.proofs.Runs.{runs_few}
 use Rattle.turns.proofs.open_run.Goals as goal
 
 pub overflow_add-result : goal.overflow_add-result
-overflow_add-result c = omega (arith, c.requires.openable.there c.if-cursor-eq0.true, runs_few c.requires.playing)
+overflow_add-result c = omega (arith, c.requires.there c.if-cursor-eq0.true, runs_few c.args.job.playing)

@@ -7,8 +7,8 @@ use Rattle.page.proofs.lines.put_column.Goals as goal
 pub returns-then-n-lt10 : goal.returns-then-n-lt10
 returns-then-n-lt10 c = rw (decimal_digit c.args.n (omega arith)) c.put_bytes.ensures
 
-pub loop-filled-preserved : goal.loop-filled-preserved
-loop-filled-preserved c = padding_next c.loop-filled.invariant (omega arith) c.put_byte-next.ensures
+pub loop-preserved : goal.loop-preserved
+loop-preserved c = padding_next c.loop.invariant (omega arith) c.put_byte-next.ensures
 
 pub returns : goal.returns
-returns c = padding_done c.loop-filled.invariant (omega arith) c.digits-filled.ensures c.put_decimal.ensures
+returns c = padding_done c.loop.invariant (omega arith) c.digits-counter.ensures c.put_decimal.ensures

@@ -7,10 +7,10 @@ use Rattle.stepper.proofs.waits.first_pair.Goals as goal
 
 pub loop-low-preserved-then-wait-q : goal.loop-low-preserved-then-wait-q
 loop-low-preserved-then-wait-q c =
-    halved_up _ (playing_admitted c.requires) c.loop-low.invariant _ (omega arith) (omega arith)
-    (omega (arith, ap (λ w. w.later) (c.wait_at-wait.ensures (pair 0 0))))
+    halved_up _ (playing_admitted c.args.job.playing) c.loop-low.invariant _ (omega arith) (omega arith)
+    (omega (arith, ap (λ w. w.later) (c.wait.ensures (pair 0 0))))
 
 pub loop-low-preserved : goal.loop-low-preserved
 loop-low-preserved c =
-    halved_down _ (playing_admitted c.requires) c.loop-low.invariant _ (omega arith) (omega arith)
-    (omega (arith, ap (λ w. w.later) (c.wait_at-wait.ensures (pair 0 0))))
+    halved_down _ (playing_admitted c.args.job.playing) c.loop-low.invariant _ (omega arith) (omega arith)
+    (omega (arith, ap (λ w. w.later) (c.wait.ensures (pair 0 0))))

@@ -5,7 +5,7 @@ use Rattle.stepper.proofs.Pairs.{Halved}
 use Rattle.stepper.proofs.waits.first_pair.Given as goal
 
 abbrev pub invariant-loop-low : goal.invariant-loop-low
-invariant-loop-low l = Halved (waits_in l.file) l.q l.low l.high
+invariant-loop-low l = Halved (waits_in l.job.file.now) l.q l.low l.high
 
 abbrev pub decreases-loop-low : goal.decreases-loop-low
 decreases-loop-low l = l.high - l.low

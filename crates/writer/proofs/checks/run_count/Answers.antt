@@ -9,4 +9,4 @@ overflow_add-runs c =
 
 pub loop-i-preserved : goal.loop-i-preserved
 loop-i-preserved c =
-    counted_on _ _ _ c.loop-i.invariant _ c.run_at.ensures
+    rw c.from-i.ensures (counted_on _ _ _ c.loop-i.invariant _ c.run_at.ensures)

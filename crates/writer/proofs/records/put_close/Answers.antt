@@ -5,5 +5,5 @@ use Rattle.writer.proofs.records.put_close.Goals as goal
 
 pub returns : goal.returns
 returns c =
-    close_stored c.args.out.now _ _ c.args.at c.sum_words-sum.result c.wrapping_sub_u16.result (omega arith) (omega arith)
-    c.put_word.ensures c.sum_words-sum.ensures c.wrapping_sub_u16.ensures.value c.put_word-2.ensures
+    close_stored c.args.out.now _ _ c.args.at c.sum_words-sum.result c.wrapping_neg.result (omega arith) (omega arith)
+    c.put_word.ensures c.sum_words-sum.ensures c.wrapping_neg.ensures c.put_word-2.ensures

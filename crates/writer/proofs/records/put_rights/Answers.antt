@@ -1,16 +1,20 @@
--- `records::put_rights`: a right that is stored, which fits its fields, and the end of the rights.
-use Rattle.std.proofs.Common.{arith}
-use Rattle.writer.proofs.Stores.{given_fits, given_stored_on}
+-- `records::put_rights`: the rows hold the rights, and each right fits its fields.
+use Rattle.std.proofs.Common.{rules, refl}
+use Rattle.jobfile.specs.Written.{right_bytes}
+use Rattle.writer.proofs.Rights.{right_in, rights_of_rows}
+use Rattle.writer.proofs.Rows.{rows_written}
+use Rattle.writer.proofs.Stores.{rights_in_rows}
 use Rattle.writer.proofs.records.put_rights.Goals as goal
 
-pub put_right-requires-clause-head_lt_most_heads : goal.put_right-requires-clause-head_lt_most_heads
-put_right-requires-clause-head_lt_most_heads c =
-    (given_fits c.loop-i.invariant _ c.right_at.ensures (omega arith)).head
+pub put_rows-requires-clause-calls : goal.put_rows-requires-clause-calls
+put_rows-requires-clause-calls c = λ i row out at among is room.
+    let all = rw (← c.as_chunks.ensures.front) at (rights_of_rows c.args.rights.now) in
+    let fits = rights_in_rows _ _ all c.requires.rights_len_bound c.requires.rights_admitted i row among is in
+    (room, (fits.head, fits.rights))
 
-pub put_right-requires-clause-rights_fit : goal.put_right-requires-clause-rights_fit
-put_right-requires-clause-rights_fit c =
-    (given_fits c.loop-i.invariant _ c.right_at.ensures (omega arith)).rights
-
-pub loop-i-preserved : goal.loop-i-preserved
-loop-i-preserved c =
-    given_stored_on c.loop-i.invariant _ c.right_at.ensures (omega arith) _ c.put_right.ensures
+pub returns-clause-written : goal.returns-clause-written
+returns-clause-written c =
+    let all = rw (← c.as_chunks.ensures.front) at (rights_of_rows c.args.rights.now) in
+    rows_written right_bytes right_in _ _ _ _ _ all
+    (c.put_rows.ensures.written (λ row. right_bytes (right_in row))
+    (λ i row before at after among is stored. record { sized = refl; stored = search rules }))

@@ -1,25 +1,19 @@
--- `records::put_waits`: a pair that is stored, which fits its fields, and the end of the pairs.
-use Rattle.std.proofs.Common.{refl, arith}
-use Rattle.job.specs.Job.{most_requests}
-use Rattle.jobfile.specs.Format.{no_pair}
-use Rattle.jobfile.specs.Draft.{pairs_of}
-use Rattle.jobfile.proofs.Pairs.{rising_each, rising_checked}
-use Rattle.writer.proofs.Stores.{given_fits, given_stored_on}
+-- `records::put_waits`: the rows hold the pairs, and each pair fits its fields.
+use Rattle.std.proofs.Common.{rules, refl}
+use Rattle.jobfile.specs.Written.{wait_bytes}
+use Rattle.writer.proofs.Pairs.{pair_in, pairs_of_rows}
+use Rattle.writer.proofs.Rows.{rows_written}
+use Rattle.writer.proofs.Stores.{pairs_in_rows}
 use Rattle.writer.proofs.records.put_waits.Goals as goal
 
-pub loop-i-init : goal.loop-i-init
-loop-i-init c =
-    let ws = pairs_of c.args.waits.now in
-    record {
-      within = omega arith;
-      storing = record { size = refl; place = refl; same = refl };
-      fits = rising_each most_requests no_pair ws (rising_checked most_requests no_pair ws c.requires.waits_admitted);
-    }
+pub put_rows-requires-clause-calls : goal.put_rows-requires-clause-calls
+put_rows-requires-clause-calls c = λ i row out at among is room.
+    let all = rw (← c.as_chunks.ensures.front) at (pairs_of_rows c.args.waits.now) in
+    (room, pairs_in_rows _ _ all c.requires.waits_admitted i row among is)
 
-pub put_wait-requires-clause-pairs : goal.put_wait-requires-clause-pairs
-put_wait-requires-clause-pairs c =
-    given_fits c.loop-i.invariant _ c.pair_at.ensures (omega arith)
-
-pub loop-i-preserved : goal.loop-i-preserved
-loop-i-preserved c =
-    given_stored_on c.loop-i.invariant _ c.pair_at.ensures (omega arith) _ c.put_wait.ensures
+pub returns-clause-written : goal.returns-clause-written
+returns-clause-written c =
+    let all = rw (← c.as_chunks.ensures.front) at (pairs_of_rows c.args.waits.now) in
+    rows_written wait_bytes pair_in _ _ _ _ _ all
+    (c.put_rows.ensures.written (λ row. wait_bytes (pair_in row))
+    (λ i row before at after among is stored. record { sized = refl; stored = search rules }))

@@ -1,2 +1,0 @@
--- The law of the loop that fills the table.
-pub mod Links

@@ -1,9 +1,0 @@
--- `text::decimal` goes through the digits.
-use Rattle.std.proofs.Common.{length, ◌-◌, ◌≤◌}
-use Rattle.edges.proofs.text.decimal.Given as goal
-
-abbrev pub invariant-loop-i : goal.invariant-loop-i
-invariant-loop-i l = l.i ≤ length l.word
-
-abbrev pub decreases-loop-i : goal.decreases-loop-i
-decreases-loop-i l = length l.word - l.i

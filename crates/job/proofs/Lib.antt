@@ -1,0 +1,2 @@
+-- Laws of what the job crate defines.
+pub mod Refusals

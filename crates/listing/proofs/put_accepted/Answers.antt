@@ -1,7 +1,0 @@
--- `put_accepted`: the job's line, the sections, the tally's line.
-use Rattle.text.proofs.Writing.{wrote_append}
-use Rattle.listing.proofs.put_accepted.Goals as goal
-
-pub returns : goal.returns
-returns c =
-    wrote_append c.put_job-job.ensures (wrote_append c.put_sections-sections.ensures c.put_tally.ensures)

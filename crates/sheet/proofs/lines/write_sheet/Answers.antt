@@ -1,9 +1,0 @@
--- `lines::write_sheet`: there is no room, or the text is written.
-use Rattle.sheet.proofs.Call.{written_short, written_whole}
-use Rattle.sheet.proofs.lines.write_sheet.Goals as goal
-
-pub returns-then-out-bytes : goal.returns-then-out-bytes
-returns-then-out-bytes c = written_short _ _ c.sheet_length-bytes.ensures c.if-out-bytes.true
-
-pub returns : goal.returns
-returns c = written_whole _ _ c.sheet_length-bytes.ensures c.if-out-bytes.false c.put_sheet.ensures
