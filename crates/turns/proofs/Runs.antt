@@ -15,7 +15,7 @@ use Rattle.jobfile.specs.declared.Run.{Run}
 use Rattle.jobfile.specs.Format.{most_grants}
 use Rattle.jobfile.specs.Meaning.{meaning, granted}
 use Rattle.jobfile.proofs.Runs.{Follows, longest_follow}
-use Rattle.jobfile.proofs.Places.{granted_next, granted_end, file_length, file_short, few_grants}
+use Rattle.jobfile.proofs.Places.{granted_next, granted_end, few_grants}
 use Rattle.stepper.proofs.Reached.{playing_admitted}
 use Rattle.turns.specs.declared.Cursor.{Cursor}
 use Rattle.turns.specs.Turns.{runs_of, no_run, opened_of, remaining, Openable}
@@ -32,9 +32,6 @@ module _ {file : List ℕ} {counts : Checked} (playing : Playing file counts) wh
   pub runs_some : (i : ℕ) → i < length (runs_of file) → 0 < (get_or (runs_of file) i no_run).count
   runs_some = follows_some (meaning file).job.heads (record { head = 0; count = most_grants }) (runs_of file)
       (longest_follow (meaning file).job.heads 0 (meaning file).job.schedule (playing_admitted playing).each_grant)
-
-  pub runs_few : length (runs_of file) ≤ 8192
-  runs_few = omega (arith, file_length file playing.bytes playing.accepted, file_short file playing.bytes playing.accepted)
 
   pub grants_few : length (meaning file).job.schedule ≤ 2088195
   grants_few = few_grants (meaning file).job (playing_admitted playing)
