@@ -16,8 +16,8 @@
  * Threads. The functions keep nothing between calls, allocate nothing and have no global state: calls on separate
  * buffers may run at the same time.
  *
- * Stack. Each call needs at most GROUPING_STACK_.. bytes below the caller's frame, the C library's memmove and memset
- * included. A program that finds these two only when they are first called (gcc's default; -z now or -static find them
+ * Stack. Each call needs at most GROUPING_STACK_.. bytes below the caller's frame, the C library's memcpy, memmove and
+ * memset included. A program that finds these only when they are first called (gcc's default; -z now or -static find them
  * at the start) needs about 4 KB more in that first call, for the loader.
  *
  * Link target/libgrouping.a, which tools/library makes for x86-64-v2 (SSE4.2, POPCNT). The header is C11 or C++11, and

@@ -42,8 +42,8 @@ pub const MAY_ENQUIRE: u32 = 2;
 /// The rights of a head that may ask for both.
 pub const MAY_BOTH: u32 = 3;
 
-/// The stack that each call needs at most below its caller's frame, in bytes, the C library's memmove
-/// and memset included. (A program that finds these two only when they are first called needs about
+/// The stack that each call needs at most below its caller's frame, in bytes, the C library's memcpy,
+/// memmove and memset included. (A program that finds these only when they are first called needs about
 /// 4 KB more for the loader then; Rust programs find them when they start.)
 pub mod stack {
     /// [`play`](crate::play)

@@ -90,26 +90,20 @@ impl Pair {
     }
 }
 
-// That many pairs that rise, from 1 0 on.
-fn rising(count: u32) -> Result<List<Pair, PAIRS>, Full> {
-    let mut pair = Pair {
-        later: 1,
-        earlier: 0,
-    };
-    let mut pairs = List::new(pair);
-    for _ in 0..count {
-        pairs.push(pair)?;
-        pair = pair.next();
-    }
-    Ok(pairs)
-}
+// The first of the pairs that rise. They are made one by one: a list of them would be cleared at each word, whatever it is.
+const FIRST_PAIR: Pair = Pair {
+    later: 1,
+    earlier: 0,
+};
 
-// Adds the records of some pairs.
-fn add_pair_records<const N: usize>(file: &mut List<u8, N>, pairs: &[Pair]) -> Result<(), Full> {
-    for pair in pairs {
+// Adds the records of that many pairs that rise.
+fn add_pair_records<const N: usize>(file: &mut List<u8, N>, count: u32) -> Result<(), Full> {
+    let mut pair = FIRST_PAIR;
+    for _ in 0..count {
         file.extend_from_slice(b"AF")?;
         file.extend_from_slice(&pair.later.to_le_bytes())?;
         file.extend_from_slice(&pair.earlier.to_le_bytes())?;
+        pair = pair.next();
     }
     Ok(())
 }
@@ -122,12 +116,12 @@ fn add_word_bytes<const N: usize>(bytes: &mut List<u8, N>, word: &str) -> Result
         "Q" => add_copies(bytes, b"RQ\x00\x01\x00\x00\x01\x00", count)?,
         "V" => add_right_records(bytes, count)?,
         "W" => add_copies(bytes, b"AF\x01\x00\x00\x00", count)?,
-        "P" => add_pair_records(bytes, rising(count)?.as_slice())?,
+        "P" => add_pair_records(bytes, count)?,
         "R" => add_copies(bytes, b"GR\x00\xFF", count)?,
         "S" => add_copies(bytes, b"GR\x00\x01GR\x01\x01", count)?,
         "T" => add_copies(bytes, b"\x00\x01", count)?,
         "=" => add_close(bytes)?,
-        byte => add_copies(bytes, &[u8::from_str_radix(byte, 16)?], count)?,
+        byte => bytes.push_copies(u8::from_str_radix(byte, 16)?, count as usize)?,
     }
     Ok(())
 }
@@ -148,10 +142,12 @@ fn add_rights<const N: usize>(numbers: &mut List<u32, N>, count: u32) -> Result<
     Ok(())
 }
 
-// Adds the numbers of some pairs.
-fn add_pairs<const N: usize>(numbers: &mut List<u32, N>, pairs: &[Pair]) -> Result<(), Full> {
-    for pair in pairs {
+// Adds the numbers of that many pairs that rise.
+fn add_pairs<const N: usize>(numbers: &mut List<u32, N>, count: u32) -> Result<(), Full> {
+    let mut pair = FIRST_PAIR;
+    for _ in 0..count {
         numbers.extend_from_slice(&[u32::from(pair.later), u32::from(pair.earlier)])?;
+        pair = pair.next();
     }
     Ok(())
 }
@@ -162,7 +158,7 @@ fn add_word_numbers<const N: usize>(numbers: &mut List<u32, N>, word: &str) -> R
     match word {
         "Q" => add_copies(numbers, &[0, 1, 0, 1], count)?,
         "V" => add_rights(numbers, count)?,
-        "P" => add_pairs(numbers, rising(count)?.as_slice())?,
+        "P" => add_pairs(numbers, count)?,
         number => add_copies(numbers, &[number.parse()?], count)?,
     }
     Ok(())

@@ -1,5 +1,5 @@
 // A list of fixed room, without a heap: an array, of whose items the first ones count.
-ghost use Rattle.std.specs.Prelude.{◌≡◌, ◌≤◌, List, [], ◌∷◌, ◌++◌, length, take, OnOk, OnErr};
+ghost use Rattle.std.specs.Prelude.{◌≡◌, ◌≤◌, List, [], ◌∷◌, ◌++◌, length, take, replicate, OnOk, OnErr};
 
 use std::marker::Model;
 
@@ -71,5 +71,22 @@ impl<T: Copy, const N: usize> List<T, N> {
         ensures { take (length self.now) result.now ≡ self.now }
     {
         &self.items
+    }
+}
+
+impl<const N: usize> List<u8, N> {
+    // Adds a byte that many times, where there is room for them all.
+    pub fn push_copies(&mut self, byte: u8, count: usize) -> Result<(), Full>
+        ensures ok { OnOk result (self.new ≡ self.old ++ replicate count byte) }
+        ensures err { OnErr result (self.new ≡ self.old) }
+    {
+        if N - self.length < count {
+            return Err(Full);
+        }
+        let end = self.length + count;
+        let room = &mut self.items[..];
+        room[self.length..end].fill(byte);
+        self.length = end;
+        Ok(())
     }
 }

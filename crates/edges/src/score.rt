@@ -4,7 +4,7 @@ use std::io::{Print, Stdout};
 
 // Where the lines go, the cases played so far, and how many of them came out wrong. A line that can't be written is left out:
 // the lines are held against those that are expected.
-#[derive(Drop)]
+#[derive(Clone, Copy)]
 pub struct Score {
     out: Stdout,
     cases: u32,

@@ -127,9 +127,9 @@ pub fn does_rise(before: Wait, wait: Wait) -> bool
 pub fn check_pair(count: u32, before: Wait, wait: Wait) -> Result<(), Refusal>
     ensures { told result ≡ pair_refusal count before wait }
 {
-    if count <= wait.later
+    if wait.later <= wait.earlier
+        || count <= wait.later
         || count <= wait.earlier
-        || wait.later <= wait.earlier
         || !does_rise(before, wait)
     {
         return Err(Refusal::Wait);

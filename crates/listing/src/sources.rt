@@ -110,8 +110,8 @@ impl<'a> Sources<'a> {
 
     // Writes the text.
     #[tactic(auto, unfolding(crate::specs::Listing::listing))]
-    pub fn put(self, out: &mut [u8]) -> usize
-        ensures { Wrote (listing self.entry.played self.entry.table.now self.entry.report.now self.entry.linearization.now) 0
+    pub fn put(&self, out: &mut [u8]) -> usize
+        ensures { Wrote (listing self.now.played self.now.table.now self.now.report.now self.now.linearization.now) 0
             out.old out.new result }
     {
         if self.played.number != 0 {

@@ -104,7 +104,7 @@ pub struct Advanced {
 }
 
 // The value of a head's `waits` that names no request.
-const NO_WAIT: u16 = 0;
+pub const NO_WAIT: u16 = 0;
 
 // A request starts, and tries again, with the find from x. A function of its own beside `together` and `apart`: each is a match
 // of two arms on the kind, with another type of result.
@@ -157,16 +157,12 @@ pub fn one_higher(waits: Option<u16>) -> u16
     }
 }
 
-// The head with what it waits for changed: any number that its two bytes hold one higher.
-pub fn waiting_for(head: Head, waits: Option<u16>) -> Head
-    requires fits { one_higher waits < 65536 }
-    ensures { result ≡ waiting_for head (one_higher waits) }
+// The head with what it waits for changed, as its task holds it.
+pub fn waiting_for(head: Head, waits: u16) -> Head
+    ensures { result ≡ waiting_for head waits }
 {
     Head {
-        task: Task {
-            waits: one_higher(waits),
-            ..head.task
-        },
+        task: Task { waits, ..head.task },
         ..head
     }
 }

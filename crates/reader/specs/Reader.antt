@@ -1,6 +1,6 @@
 -- What the reader answers: the counts of a meaning, and those of a section of the file. A refusal has zero for every count.
 --
---   counts_of m                   the number of a meaning and the counts of its job
+--   counts_of m                   the counts of the job of a meaning
 --   Playing file c                an accepted file, with its counts: what is asked where its records are read
 --   records_of n ts               the refusal n, or how many records stand at the places ts
 --   right_section_of h ts t       the refusal or the count of the rights at the places ts, in front of t

@@ -7,7 +7,7 @@
 ghost use Rattle.std.specs.Prelude.{◌≡◌, ◌+◌, ◌≤◌, length, drop};
 ghost use Rattle.job.specs.Job.{right_of};
 ghost use Rattle.job.specs.Refusal.{told};
-ghost use Rattle.jobfile.specs.Format.{right_size, request_size, wait_size, run_size, most_bytes};
+ghost use Rattle.jobfile.specs.Format.{word, right_size, request_size, wait_size, run_size, most_bytes};
 ghost use Rattle.jobfile.specs.Meaning.{right_at, fields_at, request_at, wait_at, run_at, right_record_refusal, rights_in};
 ghost use Rattle.jobfile.specs.Meaning.{request_refusal, wait_refusal, run_refusal};
 ghost use Rattle.records.specs.Records.{Righted, is_record};
@@ -17,13 +17,24 @@ use fields::{check_fields, check_kind, check_pair, check_right, does_extend, rig
 use job::{Kind, MOST_REQUESTS, Refusal, Request, Right, Wait, every_right};
 use jobfile::{Fields, REQUEST_SIZE, RIGHT_SIZE, RUN_SIZE, Run, WAIT_SIZE};
 
+// The word at the start of a record of that size: with two bytes and more, it is whole, and nothing is tested for it.
+fn mark_at(file: &[u8], at: usize, size: usize) -> u16
+    requires { at + size ≤ length file.now }
+    ensures { result ≡ word (drop at file.now) }
+{
+    if size < 2 {
+        return word_at(file, at);
+    }
+    whole_word(file, at)
+}
+
 // Whether a whole record of that size and mark stands at a place: a loop over such records then needs one test of the length
 // for each.
 pub fn is_record(file: &[u8], at: usize, size: usize, mark: u16) -> bool
     requires { at ≤ length file.now }
     ensures { result ≡ is_record size mark (drop at file.now) }
 {
-    size <= file.len() - at && word_at(file, at) == mark
+    size <= file.len() - at && mark_at(file, at, size) == mark
 }
 
 // The right at a place (02, A5), whose record is whole.

@@ -38,7 +38,8 @@ fn sheet_for(
     ensures { record { answer = listed_told result; out = out.new }
         ≡ written_of (run_text (sighted sight (requests_in job.entry.file.now)) (run_in job.entry.file.now)) out.old }
 {
-    let numbers = numbered(job, sight);
+    let mut numbers = [None; MOST_REQUESTS];
+    numbered(job, sight, &mut numbers);
     let parts = SheetParts {
         numbers: &numbers,
         report,

@@ -6,11 +6,12 @@ ghost use Rattle.sheet.specs.Buffers.{Numbered};
 use job::MOST_REQUESTS;
 use reader::Accepted;
 
-// The numbering of a file's requests, of which those are seen whose head's bit is set in `sight`.
-pub fn numbered(job: Accepted, sight: u32) -> [Option<u16>; MOST_REQUESTS]
-    ensures { Numbered (sighted sight (requests_in job.entry.file.now)) job.entry.counts.requests result }
+// The numbering of a file's requests, of which those are seen whose head's bit is set in `sight`, in a lent array: the compiler
+// copies one that is given back, by a call of memcpy.
+pub fn numbered(job: Accepted, sight: u32, numbers: &mut [Option<u16>; MOST_REQUESTS])
+    ensures { Numbered (sighted sight (requests_in job.entry.file.now)) job.entry.counts.requests numbers.new }
 {
-    let mut numbers = [None; MOST_REQUESTS];
+    *numbers = [None; MOST_REQUESTS];
     let mut seen: u16 = 0;
     for q in 0..job.counts.requests {
         let request = job.request(q);
@@ -20,5 +21,4 @@ pub fn numbered(job: Accepted, sight: u32) -> [Option<u16>; MOST_REQUESTS]
         numbers[q as usize] = Some(seen);
         seen += 1;
     }
-    numbers
 }

@@ -98,7 +98,8 @@ pub fn first_tasks(job: Accepted, report: &[u32], firsts: [u16; MOST_HEADS]) -> 
     let mut tasks = [resting(0).task; MOST_HEADS];
     for h in 0..MOST_HEADS {
         let first = firsts[h];
-        tasks[h] = waiting_for(resting(first), reported.lowest_wait(first)).task;
+        let waits = one_higher(reported.lowest_wait(first));
+        tasks[h] = waiting_for(resting(first), waits).task;
     }
     tasks
 }

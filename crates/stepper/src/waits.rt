@@ -85,7 +85,7 @@ impl<'a> Reported<'a> {
             (noted (waits_in self.entry.job.file.now) (rows_of self.entry.report.now) head) head }
     {
         if is_due(k, h, head, done) {
-            return process::waiting_for(head, self.wait_of(head));
+            return process::waiting_for(head, process::one_higher(self.wait_of(head)));
         }
         head
     }

@@ -5,12 +5,12 @@ use Rattle.sheet.proofs.Played.{run_readable, run_text_printed}
 use Rattle.sheet.proofs.sheet_for.Goals as goal
 
 pub invariant_of-parts-clause-readable : goal.invariant_of-parts-clause-readable
-invariant_of-parts-clause-readable c = run_readable c.args.job.playing c.requires c.numbered-numbers.ensures
+invariant_of-parts-clause-readable c = run_readable c.args.job.playing c.requires c.numbered.ensures
 
 pub invariant_of-parts-clause-narrow : goal.invariant_of-parts-clause-narrow
 invariant_of-parts-clause-narrow c =
     record {
-      small = c.numbered-numbers.ensures.small;
+      small = c.numbered.ensures.small;
       rows = λ k. omega (arith, c.type_inv.report k);
       points = λ k. omega (arith, c.type_inv.linearization k);
     }
@@ -18,4 +18,4 @@ invariant_of-parts-clause-narrow c =
 pub returns : goal.returns
 returns c =
     c.write.ensures
-    ∙ ap (λ text. written_of text c.args.out.now) (run_text_printed c.args.job.playing c.requires c.numbered-numbers.ensures)
+    ∙ ap (λ text. written_of text c.args.out.now) (run_text_printed c.args.job.playing c.requires c.numbered.ensures)
