@@ -1,5 +1,5 @@
 // A list of fixed room, without a heap: an array, of whose items the first ones count.
-ghost use Rattle.std.specs.Prelude.{◌≡◌, ◌≤◌, List, [], ◌∷◌, ◌++◌, length, take, replicate, OnOk, OnErr};
+ghost use Rattle.std.specs.Prelude.{◌≡◌, ◌+◌, ◌<◌, ◌≤◌, List, [], ◌∷◌, ◌++◌, length, take, replicate, OnOk, OnErr};
 
 use std::marker::Model;
 
@@ -78,6 +78,7 @@ impl<const N: usize> List<u8, N> {
     // Adds a byte that many times, where there is room for them all.
     pub fn push_copies(&mut self, byte: u8, count: usize) -> Result<(), Full>
         ensures ok { OnOk result (self.new ≡ self.old ++ replicate count byte) }
+        ensures full { OnErr result (N < length self.old + count) }
         ensures err { OnErr result (self.new ≡ self.old) }
     {
         if N - self.length < count {

@@ -1,4 +1,5 @@
--- The structs of a play on a lent tally, and of what a host is told of it, as the laws of `walks` take them. No function of the crate needs a walk by hand any more.
+-- The structs of a play on a lent tally, and of what a host is told of it, as the laws of `walks` take them. No function of the
+-- crate needs a walk by hand any more.
 use Rattle.walks.proofs.Carried.{Carried}
 use Rattle.job.specs.contracts.Tally as tally_type
 use Rattle.job.proofs.Tally.TheLaws as tally_laws

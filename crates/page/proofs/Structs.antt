@@ -1,5 +1,5 @@
--- The structs of this crate, and an array of its, that the laws of `walks` take. No function of the crate needs a walk by hand
--- any more.
+-- The structs of this crate that the laws of `walks` take, and the array of the groups' sizes. No function of the crate needs a
+-- walk by hand any more.
 --
 --   numbers_type     the array of the groups' sizes
 --   numbers_value    its machine value
